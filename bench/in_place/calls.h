@@ -1,4 +1,4 @@
-// The calls as the bench makes them: the exported ones, and those of crates/timing_in_place and crates/timing.
+// The calls as the bench makes them: the exported ones, and those of crates/bench_in_place and crates/bench_by_value.
 #ifndef CALLS_H
 #define CALLS_H
 #include "../../bindings/c/lemidrosy.h"

@@ -4,8 +4,8 @@ use mathlib.Core.Path.{_≡_, refl}
 use mathlib.Core.Bool.{true}
 use Prim.Native.Nat.{ℕ, _≤_}
 use borrow.Author.Tests.{le-leb, eq-eqb}
-use Rattle.console_steps.specs.Replied.{longestLine}
-use Rattle.console_steps.specs.Lent.{hasRoom}
+use Rattle.machine_console.specs.Replied.{longestLine}
+use Rattle.machine_console.specs.Lent.{hasRoom}
 
 pub has-room : (memory words input out : ℕ) → 4 ≤ memory → words ≡ 6464 → 8 ≤ input → longestLine ≤ out → hasRoom memory words input out ≡ true
 unfolding hasRoom

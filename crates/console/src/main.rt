@@ -7,22 +7,22 @@ ghost use mathlib.Core.Path.{_≡_};
 ghost use mathlib.Core.Bool.{true};
 ghost use lib.ListN.{length};
 ghost use Rattle.machines.specs.Machines.{Ended};
-ghost use Rattle.console_machine.specs.Consoling.{consoling};
-ghost use Rattle.console_steps.specs.Lent.{hasRoom, stateOf};
+ghost use Rattle.machine_console.specs.Consoling.{consoling};
+ghost use Rattle.machine_console.specs.Lent.{hasRoom, stateOf};
 
 // Each request is obeyed, and what came of it handed back, until the machine stops.
 fn drive(memory: &mut [u64], words: &mut [u16], input: &mut [u8], out: &mut [u8]) -> Request
     requires { ⌜ hasRoom (length (now memory)) (length (now words)) (length (now input)) (length (now out)) ≡ true ⌝ }
     ensures { λ r. ⌜ Ended consoling (stateOf (now (memory .exit)) (now (words .exit)) (now (input .exit)) (now (out .exit))) ⌝ }
 {
-    let mut request = console_steps::begin(memory, words, input, out);
+    let mut request = machine_console::begin(memory, words, input, out);
     let mut source = machines::standard_input();
     while machines::goes_on(request) {
         let obeyed = machines::obey(request, source, input, out);
         let answer = obeyed.answer;
         let next = obeyed.source;
         source = next;
-        request = console_steps::step(memory, words, input, out, answer);
+        request = machine_console::step(memory, words, input, out, answer);
     }
     request
 }
@@ -30,7 +30,7 @@ fn drive(memory: &mut [u64], words: &mut [u16], input: &mut [u8], out: &mut [u8]
 fn main() {
     let mut memory = [0u64; 4];
     let mut words = [0u16; WORDS];
-    let mut input = [0u8; console_steps::CALL_SIZE];
-    let mut out = [0u8; console_steps::LONGEST_LINE];
+    let mut input = [0u8; machine_console::CALL_SIZE];
+    let mut out = [0u8; machine_console::LONGEST_LINE];
     drive(&mut memory, &mut words, &mut input, &mut out);
 }

@@ -20,10 +20,10 @@ pub struct After {
 pub(crate) fn start_with(n: usize, block_counts: [u32; PROCESSES]) -> After
     ensures { λ r. ⌜ (r .run ≡ startOutcome n «block_counts» .run) × (r .refused ≡ startReport (startOutcome n «block_counts» .answer) .refused) ⌝ }
 {
-    let outcome = calls::start::start(n, block_counts);
+    let outcome = library_calls::start::start(n, block_counts);
     let run = outcome.run;
     let answer = outcome.answer;
-    let summary = summaries::of_start(answer);
+    let summary = listing::summaries::of_start(answer);
     let refused = summary.refused;
     After { run, refused }
 }
@@ -48,10 +48,10 @@ pub(crate) fn checkpoint(before: After, i: usize, length: usize) -> After
     ensures { λ r. ⌜ (r .run ≡ checkpointOutcome (before .run) i (take length (replicate mostDeletions 0)) .run) × (r .refused ≡ checkpointReport (checkpointOutcome (before .run) i (take length (replicate mostDeletions 0)) .answer) .refused) ⌝ }
 {
     let mut deleted = [0u16; DELETIONS];
-    let outcome = calls::checkpoint::checkpoint(before.run, i, &mut deleted[..length]);
+    let outcome = library_calls::checkpoint::checkpoint(before.run, i, &mut deleted[..length]);
     let run = outcome.run;
     let answer = outcome.answer;
-    let summary = summaries::of_checkpoint(answer);
+    let summary = listing::summaries::of_checkpoint(answer);
     let refused = summary.refused;
     After { run, refused }
 }
@@ -59,10 +59,10 @@ pub(crate) fn checkpoint(before: After, i: usize, length: usize) -> After
 pub(crate) fn send(before: After, i: usize, j: usize) -> After
     ensures { λ r. ⌜ (r .run ≡ sendOutcome (before .run) i j .run) × (r .refused ≡ sendReport (sendOutcome (before .run) i j .answer) .refused) ⌝ }
 {
-    let outcome = calls::send::send(before.run, i, j);
+    let outcome = library_calls::send::send(before.run, i, j);
     let run = outcome.run;
     let answer = outcome.answer;
-    let summary = summaries::of_send(answer);
+    let summary = listing::summaries::of_send(answer);
     let refused = summary.refused;
     After { run, refused }
 }
@@ -72,10 +72,10 @@ pub(crate) fn deliver(before: After, m: u32, length: usize) -> After
     ensures { λ r. ⌜ (r .run ≡ deliverOutcome (before .run) m (take length (replicate mostDeletions 0)) .run) × (r .refused ≡ deliverReport (deliverOutcome (before .run) m (take length (replicate mostDeletions 0)) .answer) .refused) ⌝ }
 {
     let mut deleted = [0u16; DELETIONS];
-    let outcome = calls::deliver::deliver(before.run, m, &mut deleted[..length]);
+    let outcome = library_calls::deliver::deliver(before.run, m, &mut deleted[..length]);
     let run = outcome.run;
     let answer = outcome.answer;
-    let summary = summaries::of_deliver(answer);
+    let summary = listing::summaries::of_deliver(answer);
     let refused = summary.refused;
     After { run, refused }
 }
@@ -87,7 +87,7 @@ pub(crate) fn recover(before: After, failed: u16, length: usize, members: usize)
 {
     let mut deleted = [0u16; DELETIONS];
     let mut line = [0u16; PROCESSES];
-    let outcome = calls::recover::recover(
+    let outcome = library_calls::recover::recover(
         before.run,
         failed,
         &mut deleted[..length],
@@ -95,7 +95,7 @@ pub(crate) fn recover(before: After, failed: u16, length: usize, members: usize)
     );
     let run = outcome.run;
     let answer = outcome.answer;
-    let summary = summaries::of_recover(answer);
+    let summary = listing::summaries::of_recover(answer);
     let refused = summary.refused;
     After { run, refused }
 }

@@ -38,7 +38,7 @@ fn vector(all: Vectors, p: usize, n: usize)
     requires { ⌜ p < mostProcesses ⌝ }
     requires { ⌜ n ≤ mostProcesses ⌝ }
 {
-    let rows = rows::squares::vector_rows(all);
+    let rows = words::rows::squares::vector_rows(all);
     say::heading(b"vector", p as u64);
     entries(rows[p], n);
 }
@@ -64,7 +64,7 @@ fn pins(all: Pins, p: usize, n: usize)
     requires { ⌜ p < mostProcesses ⌝ }
     requires { ⌜ n ≤ mostProcesses ⌝ }
 {
-    let rows = rows::squares::pin_rows(all);
+    let rows = words::rows::squares::pin_rows(all);
     say::heading(b"pins", p as u64);
     pin_row(rows[p], n);
 }
@@ -102,7 +102,7 @@ fn kept(all: Kept, p: usize, kept_count: usize)
     requires { ⌜ p < mostProcesses ⌝ }
     requires { ⌜ «kept_count» ≤ mostProcesses ⌝ }
 {
-    let rows = rows::squares::kept_rows(all);
+    let rows = words::rows::squares::kept_rows(all);
     say::heading(b"kept", p as u64);
     stored(rows[p], kept_count, Column::Index);
     say::heading(b"causes", p as u64);
@@ -156,7 +156,7 @@ fn indexes(words: &[u8], failed: u16, line: &[u16; PROCESSES], n: usize)
 fn line(s: Run, failed: u16) -> bool {
     let n = within(PROCESSES, s.count);
     let mut line = [0u16; PROCESSES];
-    let outcome = calls::line::line(s, failed, &mut line);
+    let outcome = library_calls::line::line(s, failed, &mut line);
     let answer = outcome.answer;
     match answer {
         LineAnswer::Refused(_) => false,
@@ -196,10 +196,10 @@ pub(crate) fn disks(after: After) {
 // A delivery with the number of its answer and the set of the entries that rose, and the state after it.
 pub(crate) fn deliver(before: After, m: u32) -> After {
     let mut deleted = [0u16; DELETIONS];
-    let outcome = calls::deliver::deliver(before.run, m, &mut deleted);
+    let outcome = library_calls::deliver::deliver(before.run, m, &mut deleted);
     let run = outcome.run;
     let answer = outcome.answer;
-    let summary = summaries::of_deliver(answer);
+    let summary = listing::summaries::of_deliver(answer);
     let refused = summary.refused;
     say::fact(b"deliver", m as u64, refused as u64);
     say::fact(b"risen", m as u64, outcome.rose as u64);
@@ -241,12 +241,12 @@ pub(crate) fn recover(before: After, failed: u16) -> After {
     let n = within(PROCESSES, s.count);
     let mut deleted = [0u16; DELETIONS];
     let mut line = [0u16; PROCESSES];
-    let outcome = calls::recover::recover(s, failed, &mut deleted, &mut line);
+    let outcome = library_calls::recover::recover(s, failed, &mut deleted, &mut line);
     let run = outcome.run;
     let answer = outcome.answer;
     indexes(b"written", failed, &line, n);
     recovery(failed, answer, &deleted);
-    let summary = summaries::of_recover(answer);
+    let summary = listing::summaries::of_recover(answer);
     let refused = summary.refused;
     After { run, refused }
 }

@@ -53,9 +53,9 @@ fn line(n: usize, length: usize)
 {
     let start = act::start(n);
     let mut line = [0u16; PROCESSES];
-    let outcome = calls::line::line(start.run, 1, &mut line[..length]);
+    let outcome = library_calls::line::line(start.run, 1, &mut line[..length]);
     let answer = outcome.answer;
-    let summary = summaries::of_line(answer);
+    let summary = listing::summaries::of_line(answer);
     with_list(b"line", n, length, summary.refused);
 }
 

@@ -103,9 +103,9 @@ fn show(s: After, number: u64, list: NamedList) {
     elements(list);
     let named = list.named;
     let mut line = [0u16; PROCESSES];
-    let outcome = calls::through::earliest_among(s.run, named, list.length, &mut line);
+    let outcome = library_calls::through::earliest_among(s.run, named, list.length, &mut line);
     let answer = outcome.answer;
-    let summary = summaries::of_line(answer);
+    let summary = listing::summaries::of_line(answer);
     let refused = summary.refused;
     say::heading(b"earliest", number);
     say::value(refused as u64);
@@ -172,14 +172,14 @@ fn earliest_line(n: usize, length: usize)
     let list = one(0, 0);
     let named = list.named;
     let mut line = [0u16; PROCESSES];
-    let outcome = calls::through::earliest_among(
+    let outcome = library_calls::through::earliest_among(
         start.run,
         named,
         list.length,
         &mut line[..length],
     );
     let answer = outcome.answer;
-    let summary = summaries::of_line(answer);
+    let summary = listing::summaries::of_line(answer);
     limits::with_list(b"earliestline", n, length, summary.refused);
 }
 

@@ -29,8 +29,8 @@ use Rattle.words.specs.Layout.{word, wide4, countOf, blocksAt, partAt, interval
 use Rattle.words.specs.Parts.{processIn}
 use Rattle.words.proofs.View.{count-is, written-is, deleted-is}
 use Rattle.words.proofs.ViewSound.{sound-words, sound-process-is, sound-own-is}
-use Rattle.process_words.specs.Moves.{diskIn, Moves}
-use Rattle.process_words.proofs.Stepping.{block-count, own-entry}
+use Rattle.words_process.specs.Moves.{diskIn, Moves}
+use Rattle.words_process.proofs.Stepping.{block-count, own-entry}
 use Rattle.in_place.specs.Left.{Leaves}
 use Rattle.in_place.specs.Storing.{storingAdmission}
 use Rattle.in_place.proofs.Leaving.{same-words}

@@ -26,13 +26,13 @@ use Rattle.words.proofs.View.{count-is, last-is, fits-size}
 use Rattle.words.proofs.ViewChange.{with-messages, process-fits, disk-fits, message-words-same, messages-same}
 use Rattle.words.proofs.ViewClean.{clean-messages}
 use Rattle.words.proofs.ViewSound.{SoundWords, sound-words, sound-process-is}
-use Rattle.message_words.specs.Places.{placeOf, takenOut}
-use Rattle.message_words.proofs.Selected.{messageAt, is-one}
-use Rattle.message_words.proofs.Taken.{taken-length, taken-count, taken-rest, taken-fits, taken-others, taken-many}
-use Rattle.message_words.proofs.Zeros.{clean-taken}
-use Rattle.process_words.specs.Moves.{diskIn, Moves}
-use Rattle.process_words.specs.Steps.{received}
-use Rattle.process_words.proofs.Stepping.{block-count}
+use Rattle.words.specs.messages.Places.{placeOf, takenOut}
+use Rattle.words.proofs.messages.Selected.{messageAt, is-one}
+use Rattle.words.proofs.messages.Taken.{taken-length, taken-count, taken-rest, taken-fits, taken-others, taken-many}
+use Rattle.words.proofs.messages.Zeros.{clean-taken}
+use Rattle.words_process.specs.Moves.{diskIn, Moves}
+use Rattle.words_process.specs.Steps.{received}
+use Rattle.words_process.proofs.Stepping.{block-count}
 use Rattle.words.specs.Parts.{processIn}
 use Rattle.in_place.specs.Left.{Leaves}
 use Rattle.in_place.specs.Storing.{storingAdmission}

@@ -12,8 +12,8 @@ use lib.Seq.{sets}
 use Rattle.laws.specs.Below.{not-out}
 use Rattle.laws.specs.Choice.{pick, by-bool}
 use Rattle.laws.specs.Lists.{table}
-use Rattle.line_words.specs.Line.{limitsIn, hasMembers, pastsIn, indexesIn, OwnSome, KeptCountMost, AllUsed, AllFound}
-use Rattle.line_words.proofs.LineRule.{pasts-length, all-found, past-at, found-one, line-is}
+use Rattle.words_line.specs.Line.{limitsIn, hasMembers, pastsIn, indexesIn, OwnSome, KeptCountMost, AllUsed, AllFound}
+use Rattle.words_line.proofs.LineRule.{pasts-length, all-found, past-at, found-one, line-is}
 use Rattle.model.specs.declared.Interval.{Interval}
 use Rattle.model.specs.declared.CheckpointIndex.{CheckpointIndex}
 use Rattle.model.specs.declared.Refusal.{Refusal}

@@ -31,12 +31,12 @@ use Rattle.words.proofs.View.{last-is}
 use Rattle.words.proofs.ViewChange.{with-messages}
 use Rattle.words.proofs.ViewClean.{clean-messages}
 use Rattle.words.proofs.ViewSound.{SoundWords, sound-words}
-use Rattle.message_words.specs.declared.Found.the-variants.{Nothing, At}
-use Rattle.message_words.specs.Places.{placeBelow, placeOf, foundAt, takenOut}
-use Rattle.message_words.proofs.Selected.{messageAt, found-below, place-under, place-number, is-one}
-use Rattle.message_words.proofs.Zeros.{clean-taken}
+use Rattle.words.specs.declared.messages.Found.the-variants.{Nothing, At}
+use Rattle.words.specs.messages.Places.{placeBelow, placeOf, foundAt, takenOut}
+use Rattle.words.proofs.messages.Selected.{messageAt, found-below, place-under, place-number, is-one}
+use Rattle.words.proofs.messages.Zeros.{clean-taken}
 use Rattle.in_place.specs.Left.{Leaves}
-use Rattle.message_words.proofs.Taken.{taken-length, taken-count, taken-rest, taken-fits, taken-others, taken-many}
+use Rattle.words.proofs.messages.Taken.{taken-length, taken-count, taken-rest, taken-fits, taken-others, taken-many}
 
 -- Where nothing was found, and where something was.
 pub nothing : (k : ℕ) → Nothing ≡ foundAt k → k ≡ 0

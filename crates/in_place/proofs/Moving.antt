@@ -9,7 +9,7 @@ use Rattle.model.specs.Words.{Process, withProcess, withDisk}
 use Rattle.words.specs.Layout.{countOf, fits, runOf}
 use Rattle.words.proofs.ViewChange.{with-process, with-disk, process-fits}
 use Rattle.words.proofs.ViewClean.{clean-process, clean-disk}
-use Rattle.process_words.specs.Moves.{Moves}
+use Rattle.words_process.specs.Moves.{Moves}
 use Rattle.in_place.specs.Left.{Leaves}
 
 module _ (w v : List ℕ) (i : ℕ) (P : Process) (d : Disk) (fit : fits w ≡ true) (lt : i < countOf w) (few : countOf w ≤ 16) (m : Moves w i P d v) where

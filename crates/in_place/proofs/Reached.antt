@@ -27,9 +27,9 @@ use Rattle.whole_runs.specs.Earliest.{earliestLine, someAbsent, unfit, notKept,
 use Rattle.words.specs.Layout.{countOf, runOf}
 use Rattle.words.proofs.View.{count-is}
 use Rattle.words.proofs.ViewSound.{sound-fits, sound-few}
-use Rattle.line_words.specs.declared.through.Starts.{Starts}
-use Rattle.line_words.specs.Through.{pairCount, processOf, indexOf, namedIn, twiceIn, startsIn, beforeSome, greatestIn, Present, Searched, InWords}
-use Rattle.line_words.proofs.Reaching.{pairs-fit, absent-is, unfit-is, all-present, all-searched, kept-is, all-in-words, ordered-is, line-is}
+use Rattle.words_line.specs.declared.through.Starts.{Starts}
+use Rattle.words_line.specs.Through.{pairCount, processOf, indexOf, namedIn, twiceIn, startsIn, beforeSome, greatestIn, Present, Searched, InWords}
+use Rattle.words_line.proofs.Reaching.{pairs-fit, absent-is, unfit-is, all-present, all-searched, kept-is, all-in-words, ordered-is, line-is}
 
 module _ (w : List ℕ) (h : sound (runOf w) ≡ true) (l line : List ℕ) where
   abbrev s : Run

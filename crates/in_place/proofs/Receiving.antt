@@ -28,24 +28,24 @@ use Rattle.model.specs.Sound.{sound}
 use Rattle.model.specs.Refusals.{firstOf, deliverRefusal}
 use Rattle.model.proofs.Risen.{risen-is-exact}
 use Rattle.whole_runs.specs.Outcomes.{pairs, deliverAnswer, deliverOutcome}
-use Rattle.receipts.specs.Receipt.{vectorFirst}
+use Rattle.words_process.specs.receipts.Receipt.{vectorFirst}
 use Rattle.admissions.specs.declared.Admission.{Admission}
 use Rattle.admissions.specs.declared.Admission.the-variants as admission
 use Rattle.admissions.specs.Admissions.{refusalOf}
-use Rattle.receipts.specs.Sized.{Sized}
-use Rattle.receipts.proofs.Billing.{billed-none}
-use Rattle.receipts.proofs.Parts.{part-back}
-use Rattle.receipts.proofs.Still.{none-newer, taken-still, settled-still, gone-still}
+use Rattle.words_process.specs.receipts.Sized.{Sized}
+use Rattle.words_process.proofs.receipts.Billing.{billed-none}
+use Rattle.words_process.proofs.receipts.Parts.{part-back}
+use Rattle.words_process.proofs.receipts.Still.{none-newer, taken-still, settled-still, gone-still}
 use Rattle.words.specs.Layout.{word, countOf, endOf, blocksAt, partAt, pinsAt, receiverAt, intervalOf, vectorIn, markIn, messageIn, runOf}
 use Rattle.words.specs.Parts.{processIn}
 use Rattle.words.proofs.Same.{vector-length, pins-length}
 use Rattle.words.proofs.View.{count-is}
 use Rattle.words.proofs.ViewSizes.{vectors-size, pins-size, sent-size, kept-size, kept-count-size, messages-size, vector-row-size, pin-row-size, kept-row-size, stored-size, carried-size}
 use Rattle.words.proofs.ViewSound.{sound-words, sound-process-is}
-use Rattle.message_words.specs.Places.{placeOf, takenOut}
-use Rattle.message_words.proofs.Selected.{messageAt}
-use Rattle.process_words.specs.Moves.{diskIn, Moves}
-use Rattle.process_words.specs.Steps.{received}
+use Rattle.words.specs.messages.Places.{placeOf, takenOut}
+use Rattle.words.proofs.messages.Selected.{messageAt}
+use Rattle.words_process.specs.Moves.{diskIn, Moves}
+use Rattle.words_process.specs.Steps.{received}
 use Rattle.in_place.specs.Left.{Leaves}
 use Rattle.in_place.specs.Storing.{storingAdmission}
 use Rattle.in_place.proofs.Checkpointing.{index-is, accepted-own}

@@ -34,10 +34,10 @@ use Rattle.words.proofs.View.{process-is, count-is, underway-is, last-is}
 use Rattle.words.proofs.ViewChange.{with-process, with-messages, messages-fit, messages-same, end-same}
 use Rattle.words.proofs.ViewClean.{clean-messages, clean-process, clean-kept-same, clean-messages-same}
 use Rattle.words.proofs.ViewSound.{SoundWords, sound-words}
-use Rattle.message_words.specs.Places.{withRoom, closedUp, putLast}
-use Rattle.message_words.proofs.Closed.{closed-length, closed-rest, closed-messages, closed-many}
-use Rattle.message_words.proofs.Added.{added-length, added-end, added-count, added-rest, added-messages, added-fits}
-use Rattle.message_words.proofs.Zeros.{clean-closed, clean-added}
+use Rattle.words.specs.messages.Places.{withRoom, closedUp, putLast}
+use Rattle.words.proofs.messages.Closed.{closed-length, closed-rest, closed-messages, closed-many}
+use Rattle.words.proofs.messages.Added.{added-length, added-end, added-count, added-rest, added-messages, added-fits}
+use Rattle.words.proofs.messages.Zeros.{clean-closed, clean-added}
 use Rattle.in_place.specs.Left.{Leaves}
 use Rattle.in_place.specs.Sending.{sentIn, sentWords}
 

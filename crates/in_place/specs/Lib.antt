@@ -2,4 +2,5 @@ pub mod Called
 pub mod Left
 pub mod Sending
 pub mod Starting
+pub mod Staying
 pub mod Storing

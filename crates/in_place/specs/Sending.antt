@@ -5,7 +5,7 @@ use Prim.Native.Nat.{ℕ, _+_}
 use Rattle.model.specs.declared.Message.{Message}
 use Rattle.words.specs.Layout.{word, wide2, markAt, partAt, vectorIn}
 use Rattle.words.specs.Puts.{puts, one, puts2}
-use Rattle.message_words.specs.Places.{withRoom, putLast}
+use Rattle.words.specs.messages.Places.{withRoom, putLast}
 
 unfoldable pub sentIn : List ℕ → ℕ → ℕ → Message
 sentIn w i j = record { number = wide2 w 2 + 1; sender = i; receiver = j; vector = vectorIn w (partAt i) }

@@ -21,7 +21,7 @@ pub(crate) fn storing_admission(w: &[u16], i: usize) -> Admission
     requires { ⌜ (sound (runOf (now w)) ≡ true) × (i < countOf (now w)) ⌝ }
     ensures { λ r. ⌜ r ≡ storingAdmission (runOf (now (w .entry))) i ⌝ }
 {
-    let own = process_words::steps::own_of(w, i);
+    let own = words_process::steps::own_of(w, i);
     let full = admissions::is_last_interval(own);
     if full {
         return Admission::Refused(Refusal::IntervalsUsed);
@@ -55,9 +55,9 @@ pub fn checkpoint_on(w: &mut [u16], i: usize, deleted: &mut [u16]) -> Checkpoint
     match admission {
         Admission::Refused(why) => CheckpointAnswer::Refused(why),
         Admission::Accepted => {
-            let own = process_words::steps::own_of(w, i);
-            let gone = process_words::steps::checkpoint(w, i, deleted);
-            CheckpointAnswer::Stored(rows::vector::live_index(own), gone)
+            let own = words_process::steps::own_of(w, i);
+            let gone = words_process::steps::checkpoint(w, i, deleted);
+            CheckpointAnswer::Stored(words::rows::vector::live_index(own), gone)
         }
     }
 }
@@ -72,7 +72,7 @@ pub fn checkpoint(w: &mut [u16], i: usize, deleted: &mut [u16]) -> CheckpointAns
     ensures { λ r. ⌜ Leaves (now (w .entry)) (now (w .exit)) ⌝ }
     ensures { λ r. ⌜ StatePromise (runOf (now (w .entry))) (made.checkpoint i (now (deleted .entry))) (runOf (now (w .exit))) ⌝ }
 {
-    let sound = sound_words::is_sound(w);
+    let sound = words_sound::is_sound(w);
     if !sound {
         return CheckpointAnswer::Refused(Refusal::UnsoundState);
     }

@@ -1,5 +1,5 @@
 // Deliver message m to its receiver, which takes in the vector that it carries, and stores a checkpoint first where that is forced.
-use message_words::Found;
+use words::messages::Found;
 use model::DeliverAnswer;
 use model::Interval;
 use model::PROCESSES;
@@ -20,7 +20,7 @@ ghost use Rattle.whole_runs.specs.Outcomes.{deliverOutcome};
 ghost use Rattle.whole_runs.specs.Calls as made;
 ghost use Rattle.whole_runs.specs.WholeRuns.{StatePromise};
 ghost use Rattle.words.specs.Layout.{countOf, markIn, messageIn, runOf, stateSize};
-ghost use Rattle.message_words.specs.Places.{placeOf};
+ghost use Rattle.words.specs.messages.Places.{placeOf};
 ghost use Rattle.in_place.specs.Left.{Leaves};
 ghost use Rattle.in_place.specs.Storing.{storingAdmission};
 
@@ -43,7 +43,7 @@ fn answer_of(forced: bool, own: Interval, count: usize) -> DeliverAnswer
     ensures { λ r. ⌜ r ≡ pick forced (DeliverAnswer.Forced (liveIndex own) count) (DeliverAnswer.Received count) ⌝ }
 {
     if forced {
-        let index = rows::vector::live_index(own);
+        let index = words::rows::vector::live_index(own);
         DeliverAnswer::Forced(index, count)
     } else {
         DeliverAnswer::Received(count)
@@ -87,9 +87,9 @@ fn take_from(
     ensures { λ r. ⌜ ((why : Refusal) → r .answer ≡ DeliverAnswer.Refused why → now (w .exit) ≡ now (w .entry)) ⌝ }
     ensures { λ r. ⌜ Leaves (now (w .entry)) (now (w .exit)) ⌝ }
 {
-    let own = process_words::steps::own_of(w, i);
-    let received = process_words::steps::receive(w, i, forced, carried, deleted);
-    message_words::take_out(w, k);
+    let own = words_process::steps::own_of(w, i);
+    let received = words_process::steps::receive(w, i, forced, carried, deleted);
+    words::messages::take_out(w, k);
     let answer = answer_of(forced, own, received.gone);
     let rose = received.rose;
     Delivered { answer, rose }
@@ -108,9 +108,9 @@ fn deliver_from(w: &mut [u16], k: usize, deleted: &mut [u16]) -> Delivered
     let i = w[places::RECEIVERS + k] as usize;
     let vector = words::vector_at(w, places::PARTS + places::PART * i);
     let carried = words::vector_at(w, places::CARRIED + places::ROW * k);
-    let newer = rows::vector::is_newer(vector, carried);
+    let newer = words::rows::vector::is_newer(vector, carried);
     if !newer {
-        message_words::take_out(w, k);
+        words::messages::take_out(w, k);
         let answer = DeliverAnswer::Received(0);
         return Delivered { answer, rose: 0 };
     }
@@ -137,7 +137,7 @@ pub fn deliver_on(w: &mut [u16], m: u32, deleted: &mut [u16]) -> Delivered
     if short {
         return refuse(Refusal::ListTooShort);
     }
-    let found = message_words::place_of(w, m);
+    let found = words::messages::place_of(w, m);
     match found {
         Found::Nothing => refuse(Refusal::NotUnderWay),
         Found::At(k) => deliver_from(w, k, deleted),
@@ -155,7 +155,7 @@ pub fn deliver(w: &mut [u16], m: u32, deleted: &mut [u16]) -> Delivered
     ensures { λ r. ⌜ Leaves (now (w .entry)) (now (w .exit)) ⌝ }
     ensures { λ r. ⌜ StatePromise (runOf (now (w .entry))) (made.deliver m (now (deleted .entry))) (runOf (now (w .exit))) ⌝ }
 {
-    let sound = sound_words::is_sound(w);
+    let sound = words_sound::is_sound(w);
     if !sound {
         return refuse(Refusal::UnsoundState);
     }

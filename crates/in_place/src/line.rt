@@ -40,14 +40,14 @@ fn line_within(w: &[u16], n: usize, failed: u32, line: &mut [u16]) -> LineAnswer
     ensures { λ r. ⌜ r ≡ pick (noMember (runOf (now (w .entry))) failed) (Refused UnsoundState) Written ⌝ }
     ensures { λ r. ⌜ now (line .exit) ≡ pick (noMember (runOf (now (w .entry))) failed) (now (line .entry)) (sets (now (line .entry)) 0 (lineOf (runOf (now (w .entry))) failed)) ⌝ }
 {
-    let limits = line_words::line::limits_of(w, n, failed);
+    let limits = words_line::line::limits_of(w, n, failed);
     let mut table = [0u16; PROCESSES];
     let pasts: &mut [u16] = &mut table;
-    let all = line_words::line::find_members(w, n, limits, pasts);
+    let all = words_line::line::find_members(w, n, limits, pasts);
     if !all {
         return LineAnswer::Refused(Refusal::UnsoundState);
     }
-    let indexes = line_words::line::indexes_of(w, n, pasts);
+    let indexes = words_line::line::indexes_of(w, n, pasts);
     write_line(line, indexes, n);
     LineAnswer::Written
 }
@@ -81,7 +81,7 @@ pub fn line(w: &[u16], failed: u32, line: &mut [u16]) -> LineAnswer
     ensures { λ r. ⌜ LinePromise (runOf (now (w .entry))) failed ⌝ }
     ensures { λ r. ⌜ EmptyLinePromise (runOf (now (w .entry))) failed (now (line .entry)) r (now (line .exit)) ⌝ }
 {
-    let sound = sound_words::is_sound(w);
+    let sound = words_sound::is_sound(w);
     if !sound {
         return LineAnswer::Refused(Refusal::UnsoundState);
     }

@@ -1,5 +1,5 @@
 // Lose: the message is no longer under way; nothing else changes.
-use message_words::Found;
+use words::messages::Found;
 use model::LoseAnswer;
 use model::Refusal;
 ghost use mathlib.Core.Path.{_≡_};
@@ -21,11 +21,11 @@ pub fn lose_on(w: &mut [u16], m: u32) -> LoseAnswer
     ensures { λ r. ⌜ ((why : Refusal) → r ≡ Refused why → now (w .exit) ≡ now (w .entry)) ⌝ }
     ensures { λ r. ⌜ Leaves (now (w .entry)) (now (w .exit)) ⌝ }
 {
-    let found = message_words::place_of(w, m);
+    let found = words::messages::place_of(w, m);
     match found {
         Found::Nothing => LoseAnswer::Refused(Refusal::NotUnderWay),
         Found::At(k) => {
-            message_words::take_out(w, k);
+            words::messages::take_out(w, k);
             LoseAnswer::Lost
         }
     }
@@ -40,7 +40,7 @@ pub fn lose(w: &mut [u16], m: u32) -> LoseAnswer
     ensures { λ r. ⌜ Leaves (now (w .entry)) (now (w .exit)) ⌝ }
     ensures { λ r. ⌜ StatePromise (runOf (now (w .entry))) (made.lose m) (runOf (now (w .exit))) ⌝ }
 {
-    let sound = sound_words::is_sound(w);
+    let sound = words_sound::is_sound(w);
     if !sound {
         return LoseAnswer::Refused(Refusal::UnsoundState);
     }

@@ -26,7 +26,7 @@ fn put_sent(w: &mut [u16], i: usize, j: usize) -> u32
     requires { ⌜ (sound (runOf (now w)) ≡ true) × (i < countOf (now w)) × (j < countOf (now w)) × (word (now w) 1 < mostUnderWay) × (wide2 (now w) 2 < mostMessages) ⌝ }
     ensures { λ r. ⌜ (now (w .exit) ≡ sentWords (now (w .entry)) i j) × (r ≡ wide2 (now (w .entry)) 2 + 1) ⌝ }
 {
-    message_words::make_room(w);
+    words::messages::make_room(w);
     let number = words::wide2(w, places::LAST) + 1;
     let vector = words::vector_at(w, places::PARTS + places::PART * i);
     let message = Message {
@@ -35,7 +35,7 @@ fn put_sent(w: &mut [u16], i: usize, j: usize) -> u32
         receiver: j,
         vector,
     };
-    message_words::put_last(w, message);
+    words::messages::put_last(w, message);
     words::put2(w, places::LAST, number);
     w[places::MARKS + i] = SET;
     number
@@ -71,7 +71,7 @@ pub fn send(w: &mut [u16], i: usize, j: usize) -> SendAnswer
     ensures { λ r. ⌜ Leaves (now (w .entry)) (now (w .exit)) ⌝ }
     ensures { λ r. ⌜ StatePromise (runOf (now (w .entry))) (made.send i j) (runOf (now (w .exit))) ⌝ }
 {
-    let sound = sound_words::is_sound(w);
+    let sound = words_sound::is_sound(w);
     if !sound {
         return SendAnswer::Refused(Refusal::UnsoundState);
     }

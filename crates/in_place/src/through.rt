@@ -11,7 +11,7 @@ ghost use Rattle.model.specs.Sound.{sound};
 ghost use Rattle.whole_runs.specs.Earliest.{someAbsent, unfit, earliestOutcome};
 ghost use Rattle.whole_runs.specs.WholeRuns.{EarliestPromise};
 ghost use Rattle.words.specs.Layout.{countOf, runOf};
-ghost use Rattle.line_words.specs.Through.{pairCount, namedIn};
+ghost use Rattle.words_line.specs.Through.{pairCount, namedIn};
 
 // A list of m pairs that is fit: numbers 19 and 20, then the line.
 fn line_through(w: &[u16], named: &[u32], m: usize, n: usize, line: &mut [u16]) -> LineAnswer
@@ -20,17 +20,17 @@ fn line_through(w: &[u16], named: &[u32], m: usize, n: usize, line: &mut [u16]) 
     ensures { λ r. ⌜ r ≡ earliestOutcome (runOf (now (w .entry))) (namedIn (now (named .entry))) (now (line .entry)) .answer ⌝ }
     ensures { λ r. ⌜ now (line .exit) ≡ earliestOutcome (runOf (now (w .entry))) (namedIn (now (named .entry))) (now (line .entry)) .line ⌝ }
 {
-    let found = line_words::through::find_starts(w, named, m);
+    let found = words_line::through::find_starts(w, named, m);
     let all = found.all;
     if !all {
         return LineAnswer::Refused(Refusal::NotKept);
     }
     let starts = found.starts;
-    let ordered = line_words::through::is_ordered(w, named, starts, m);
+    let ordered = words_line::through::is_ordered(w, named, starts, m);
     if ordered {
         return LineAnswer::Refused(Refusal::CausallyOrdered);
     }
-    line_words::through::write_greatest(w, starts, m, n, line);
+    words_line::through::write_greatest(w, starts, m, n, line);
     LineAnswer::Written
 }
 
@@ -42,16 +42,16 @@ pub fn earliest_on(w: &[u16], named: &[u32], line: &mut [u16]) -> LineAnswer
     ensures { λ r. ⌜ now (line .exit) ≡ earliestOutcome (runOf (now (w .entry))) (namedIn (now (named .entry))) (now (line .entry)) .line ⌝ }
 {
     let n = w[places::COUNT] as usize;
-    let m = line_words::through::pair_count(named.len());
+    let m = words_line::through::pair_count(named.len());
     let short = admissions::is_line_short(line.len(), n);
     if short {
         return LineAnswer::Refused(Refusal::ListTooShort);
     }
-    let absent = line_words::through::names_absent(named, m, n);
+    let absent = words_line::through::names_absent(named, m, n);
     if absent {
         return LineAnswer::Refused(Refusal::NoSuchProcess);
     }
-    let unfit = line_words::through::is_unfit(named, m, n);
+    let unfit = words_line::through::is_unfit(named, m, n);
     if unfit {
         return LineAnswer::Refused(Refusal::UnfitNamedList);
     }
@@ -67,7 +67,7 @@ pub fn earliest(w: &[u16], named: &[u32], line: &mut [u16]) -> LineAnswer
     ensures { λ r. ⌜ now (line .exit) ≡ earliestOutcome (runOf (now (w .entry))) (namedIn (now (named .entry))) (now (line .entry)) .line ⌝ }
     ensures { λ r. ⌜ EarliestPromise (runOf (now (w .entry))) (namedIn (now (named .entry))) (now (line .entry)) ⌝ }
 {
-    let sound = sound_words::is_sound(w);
+    let sound = words_sound::is_sound(w);
     if !sound {
         return LineAnswer::Refused(Refusal::UnsoundState);
     }

@@ -4,29 +4,29 @@
 use machines::Request;
 ghost use lib.ListN.{length};
 ghost use Rattle.machines.specs.Machines.{Ended};
-ghost use Rattle.judge_machine.specs.Judging.{judging};
-ghost use Rattle.judge_machine.specs.Words.{EnoughRoom, stateOf};
+ghost use Rattle.machine_judge.specs.Judging.{judging};
+ghost use Rattle.machine_judge.specs.Words.{EnoughRoom, stateOf};
 
 // Each request is obeyed, and what came of it handed back, until the machine stops.
 fn drive(memory: &mut [u64], input: &mut [u8], out: &mut [u8]) -> Request
     requires { ⌜ EnoughRoom (length (now memory)) (length (now input)) (length (now out)) ⌝ }
     ensures { λ r. ⌜ Ended judging (stateOf (now (memory .exit)) (now (input .exit)) (now (out .exit))) ⌝ }
 {
-    let mut request = judge_machine::begin(memory, input, out);
+    let mut request = machine_judge::begin(memory, input, out);
     let mut source = machines::standard_input();
     while machines::goes_on(request) {
         let obeyed = machines::obey(request, source, input, out);
         let answer = obeyed.answer;
         let next = obeyed.source;
         source = next;
-        request = judge_machine::step(memory, input, out, answer);
+        request = machine_judge::step(memory, input, out, answer);
     }
     request
 }
 
 fn main() {
     let mut memory = [0u64; 2];
-    let mut input = [0u8; judge_machine::MOST_READ];
-    let mut out = [0u8; judge_machine::LONGEST_VERDICT];
+    let mut input = [0u8; machine_judge::MOST_READ];
+    let mut out = [0u8; machine_judge::LONGEST_VERDICT];
     drive(&mut memory, &mut input, &mut out);
 }

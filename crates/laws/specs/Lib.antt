@@ -1,3 +1,4 @@
+pub mod Basics
 pub mod Below
 pub mod Bits
 pub mod Choice

@@ -13,8 +13,8 @@ use Rattle.machines.specs.declared.Answer as answers
 use Rattle.machines.specs.Machines.{stepped}
 use Rattle.machines.specs.Forms.{answerOf}
 use Rattle.machines.specs.Packed.{packed, unpacked}
-use Rattle.console_machine.specs.Consoling.{Opening, consoling}
-use Rattle.console_steps.specs.Lent.{hasRoom, stateOf, placeOf, StandsFor}
+use Rattle.machine_console.specs.Consoling.{Opening, consoling}
+use Rattle.machine_console.specs.Lent.{hasRoom, stateOf, placeOf, StandsFor}
 use Rattle.lemidrosy.specs.ConsoleSteps.{ConsoleBegun, ConsoleStepped}
 
 module _ (words memory input out request : List ℕ) where

@@ -30,18 +30,18 @@ use Rattle.whole_runs.proofs.Sizes.{few-processes}
 use Rattle.whole_runs.proofs.whole.Handed.{gather-length}
 use Rattle.whole_runs.specs.Outcomes.{Outcome, judged, pairs, Report, startReport, checkpointReport, checkpointOutcome, sendReport, sendOutcome, deliverReport, deliverOutcome, loseReport, loseOutcome, lineReport, lineOutcome, recoverReport, recoverOutcome}
 use Rattle.whole_runs.specs.Earliest.{earliestOutcome}
-use Rattle.answers.specs.Codes.{Fits}
-use Rattle.answers.proofs.Fit.{fits-refused, fits-value, fits-none, checkpoint-fits, send-fits, deliver-fits, lose-fits, line-fits, recover-fits, earliest-fits}
-use Rattle.roles.specs.declared.Caller.{Caller}
-use Rattle.roles.specs.declared.Operation.the-variants.{Start, Checkpoint, Send, Deliver, Lose, Recover, Line, Earliest, List as Catalogue, Counts}
-use Rattle.roles.specs.declared.ListAnswer.{ListAnswer}
-use Rattle.roles.specs.declared.ListAnswer.the-variants as list-answer
-use Rattle.roles.specs.Console.{denied, deniedProcess, deniedMessage, denial, entitled, shown, consoleCheckpoint, consoleSend, consoleDeliver, consoleLose, consoleRecover, consoleLine, consoleEarliest, consoleList, listRefusal, listedTo, listReport, consoleCounts, countsRefusal, keptCounts}
+use Rattle.listing.specs.answers.Codes.{Fits}
+use Rattle.listing.proofs.answers.Fit.{fits-refused, fits-value, fits-none, checkpoint-fits, send-fits, deliver-fits, lose-fits, line-fits, recover-fits, earliest-fits}
+use Rattle.theory_roles.specs.declared.Caller.{Caller}
+use Rattle.theory_roles.specs.declared.Operation.the-variants.{Start, Checkpoint, Send, Deliver, Lose, Recover, Line, Earliest, List as Catalogue, Counts}
+use Rattle.theory_roles.specs.declared.ListAnswer.{ListAnswer}
+use Rattle.theory_roles.specs.declared.ListAnswer.the-variants as list-answer
+use Rattle.theory_roles.specs.Console.{denied, deniedProcess, deniedMessage, denial, entitled, shown, consoleCheckpoint, consoleSend, consoleDeliver, consoleLose, consoleRecover, consoleLine, consoleEarliest, consoleList, listRefusal, listedTo, listReport, consoleCounts, countsRefusal, keptCounts}
 use Rattle.words.specs.Layout.{runOf}
 use Rattle.in_place.specs.Starting.{startOutcomeIn}
-use Rattle.console_in_place.specs.declared.denied.Claim.{Claim}
-use Rattle.console_in_place.specs.declared.denied.Claim.the-variants.{Unknown, As}
-use Rattle.console_in_place.specs.Asked.{claimOf, asked, consoleStartIn, startAs, checkpointAs, sendAs, deliverAs, loseAs, recoverAs, lineAs, earliestAs, listAs, countsAs}
+use Rattle.library_console.specs.declared.denied.Claim.{Claim}
+use Rattle.library_console.specs.declared.denied.Claim.the-variants.{Unknown, As}
+use Rattle.library_console.specs.Asked.{claimOf, asked, consoleStartIn, startAs, checkpointAs, sendAs, deliverAs, loseAs, recoverAs, lineAs, earliestAs, listAs, countsAs}
 use Rattle.lemidrosy.proofs.Starting.{start-fits}
 
 -- No role, a caller who is denied the call, and one who is not.

@@ -11,11 +11,11 @@ use Rattle.model.specs.declared.Fields.{Fields}
 use Rattle.model.specs.declared.MergeAnswer.{MergeAnswer}
 use Rattle.model.specs.declared.MergeAnswer.the-variants.{Refused, Merged}
 use Rattle.model.specs.laws.Refusals.{by-refusal}
-use Rattle.answers.specs.Codes.{Fits}
-use Rattle.answers.proofs.Fit.{fits-refused, fits-value}
-use Rattle.merges.specs.Halves.{HalfEvent, KeepsBoth}
-use Rattle.merges.specs.Merge.{halfEventOf, afterFirstByte, fieldsIn, mergeRefusal, mergeOutcome, mergeReport, MergePromise}
-use Rattle.merges.proofs.Replaying.{how-many, fine, merge-promise}
+use Rattle.listing.specs.answers.Codes.{Fits}
+use Rattle.listing.proofs.answers.Fit.{fits-refused, fits-value}
+use Rattle.theory_merges.specs.Halves.{HalfEvent, KeepsBoth}
+use Rattle.theory_merges.specs.Merge.{halfEventOf, afterFirstByte, fieldsIn, mergeRefusal, mergeOutcome, mergeReport, MergePromise}
+use Rattle.theory_merges.proofs.Replaying.{how-many, fine, merge-promise}
 
 -- An order of two halves has all their records.
 keeps-length : (first second l : List HalfEvent) → KeepsBoth first second l → length l ≡ length first + length second

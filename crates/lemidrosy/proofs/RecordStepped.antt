@@ -13,8 +13,8 @@ use Rattle.machines.specs.declared.Answer as answers
 use Rattle.machines.specs.Machines.{stepped}
 use Rattle.machines.specs.Forms.{answerOf}
 use Rattle.machines.specs.Packed.{packed, unpacked}
-use Rattle.record_machine.specs.Machine.{machine, counting}
-use Rattle.record_steps.specs.Lent.{hasRoom, placeOf, StandsFor}
+use Rattle.machine_record.specs.Machine.{machine, counting}
+use Rattle.machine_record.specs.Lent.{hasRoom, placeOf, StandsFor}
 use Rattle.lemidrosy.specs.RecordSteps.{RecordPosed, fits, RecordBegun, Lent, stands, RecordStepped}
 
 module _ (memory words input out lines request : List ℕ) where

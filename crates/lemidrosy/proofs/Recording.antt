@@ -23,12 +23,12 @@ use Rattle.model.specs.Refusals.{number, checkpointRefusal, sendRefusal, delive
 use Rattle.model.specs.laws.Refusals.{by-refusal}
 use Rattle.whole_runs.specs.Outcomes.{Outcome, Report, startReport, checkpointReport, checkpointOutcome, sendReport, sendOutcome, deliverReport, deliverOutcome, loseReport, loseOutcome, lineReport, lineOutcome, recoverReport, recoverOutcome}
 use Rattle.whole_runs.specs.Earliest.{earliestOutcome}
-use Rattle.recording.specs.Recording.{Recorded, unwritten, appended, recording, recordedCheckpoint, recordedSend, recordedDeliver, recordedLose, recordedLine, recordedRecover, recordedEarliest}
-use Rattle.answers.specs.Codes.{Fits, coded, valueCode, startCode, checkpointCode, sendCode, deliverCode, loseCode, lineCode, recoverCode}
-use Rattle.answers.proofs.Fit.{fits-refused, checkpoint-fits, send-fits, deliver-fits, lose-fits, line-fits, recover-fits, earliest-fits}
+use Rattle.theory_recording.specs.Recording.{Recorded, unwritten, appended, recording, recordedCheckpoint, recordedSend, recordedDeliver, recordedLose, recordedLine, recordedRecover, recordedEarliest}
+use Rattle.listing.specs.answers.Codes.{Fits, coded, valueCode, startCode, checkpointCode, sendCode, deliverCode, loseCode, lineCode, recoverCode}
+use Rattle.listing.proofs.answers.Fit.{fits-refused, checkpoint-fits, send-fits, deliver-fits, lose-fits, line-fits, recover-fits, earliest-fits}
 use Rattle.words.specs.Layout.{runOf}
 use Rattle.in_place.specs.Starting.{startRefusalIn, startOutcomeIn}
-use Rattle.recorder_in_place.specs.Recorded.{recordedStartIn, recordedStartWords}
+use Rattle.library_recorder.specs.Recorded.{recordedStartIn, recordedStartWords}
 use Rattle.lemidrosy.specs.Recording.{Placed, atPlace, unplaced, startAt, startWordsAt, checkpointAt, sendAt, deliverAt, loseAt, lineAt, recoverAt, earliestAt}
 use Rattle.lemidrosy.proofs.Starting.{start-fits}
 

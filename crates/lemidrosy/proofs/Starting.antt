@@ -5,8 +5,8 @@ use Prim.Native.Nat.{ℕ}
 use native.Mathlib.Omega.{arith}
 use Rattle.model.specs.laws.Refusals.{by-refusal}
 use Rattle.whole_runs.specs.Outcomes.{startReport}
-use Rattle.answers.specs.Codes.{Fits}
-use Rattle.answers.proofs.Fit.{fits-refused, fits-none}
+use Rattle.listing.specs.answers.Codes.{Fits}
+use Rattle.listing.proofs.answers.Fit.{fits-refused, fits-none}
 use Rattle.in_place.specs.Starting.{startRefusalIn, startOutcomeIn}
 
 pub start-fits : (many n : ℕ) (blockCounts : List ℕ) → Fits (startReport (startOutcomeIn many n blockCounts .answer))

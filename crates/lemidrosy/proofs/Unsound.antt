@@ -12,8 +12,8 @@ use Rattle.model.specs.Sound.{sound}
 use Rattle.model.specs.Refusals.{number, Rule, unsound}
 use Rattle.model.specs.laws.Refusals.{refusal-in}
 use Rattle.whole_runs.specs.Outcomes.{refusing}
-use Rattle.answers.specs.Codes.{coded, valueCode}
-use Rattle.readers.specs.Readings.{Reading, reading, numbersReading, vectorReading, pinsReading, keptReading, messagesReading, carriedReading, lostReading}
+use Rattle.listing.specs.answers.Codes.{coded, valueCode}
+use Rattle.library_readers.specs.Readings.{Reading, reading, numbersReading, vectorReading, pinsReading, keptReading, messagesReading, carriedReading, lostReading}
 
 -- A reading that answers 2 and leaves the lent list.
 abbrev pub Refuses : Reading → List ℕ → Type 0

@@ -9,11 +9,11 @@ use Rattle.model.specs.Words.{ones}
 use Rattle.model.specs.Refusals.{startRefusal}
 use Rattle.model.specs.laws.Refusals.{by-refusal}
 use Rattle.model.proofs.simulation.Accepted.{start-out}
-use Rattle.patterns.specs.declared.Verdict.{Verdict}
-use Rattle.patterns.specs.declared.Verdict.the-variants.{Refused, Trackable, Breaks}
-use Rattle.patterns.specs.Patterns.{Pattern, Reading, refused, whole, reading}
-use Rattle.patterns.specs.Verdicts.{countOf, verdict, RightVerdict}
-use Rattle.patterns.proofs.Right.{verdict-right}
+use Rattle.theory_patterns.specs.declared.Verdict.{Verdict}
+use Rattle.theory_patterns.specs.declared.Verdict.the-variants.{Refused, Trackable, Breaks}
+use Rattle.theory_patterns.specs.Patterns.{Pattern, Reading, refused, whole, reading}
+use Rattle.theory_patterns.specs.Verdicts.{countOf, verdict, RightVerdict}
+use Rattle.theory_patterns.proofs.Right.{verdict-right}
 use Rattle.lemidrosy.specs.Programs.{PairFits}
 
 -- A trace that is read whole has at most 16 processes.

@@ -11,8 +11,8 @@ use Rattle.machines.specs.declared.Request as requests
 use Rattle.machines.specs.Machines.{stepped}
 use Rattle.machines.specs.Forms.{answerOf}
 use Rattle.machines.specs.Packed.{packed, unpacked}
-use Rattle.console_machine.specs.Consoling.{State, Opening, consoling}
-use Rattle.console_steps.specs.Lent.{hasRoom, stateOf, placeOf, StandsFor}
+use Rattle.machine_console.specs.Consoling.{State, Opening, consoling}
+use Rattle.machine_console.specs.Lent.{hasRoom, stateOf, placeOf, StandsFor}
 
 -- The lent lists stand for a state, and the four numbers at the front of the last one are what the machine asks for there.
 pub record ConsolePosed (words memory input out before request : List ℕ) (s : State) : Type 0 where

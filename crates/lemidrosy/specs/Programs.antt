@@ -9,16 +9,16 @@ use Rattle.laws.specs.Choice.{pick}
 use Rattle.model.specs.declared.MergeAnswer.{MergeAnswer}
 use Rattle.model.specs.declared.Refusal.the-variants.{ListTooShort}
 use Rattle.whole_runs.specs.Outcomes.{written, refusing, accepting}
-use Rattle.answers.specs.Codes.{coded}
-use Rattle.merges.specs.Merge.{mergeReport}
-use Rattle.patterns.specs.declared.Verdict.{Verdict}
-use Rattle.patterns.specs.declared.Verdict.the-variants.{Refused, Trackable, Breaks}
-use Rattle.patterns.specs.Verdicts.{Pair, JudgeReport, judgeReport}
-use Rattle.spacing.specs.declared.TrialAnswer.{TrialAnswer}
-use Rattle.spacing.specs.declared.TrialAnswer.the-variants as trial-answer
-use Rattle.spacing.specs.declared.TrialResult.{TrialResult}
-use Rattle.spacing.specs.Spacing.{simulated}
-use Rattle.readers.specs.Readings.{Reading}
+use Rattle.listing.specs.answers.Codes.{coded}
+use Rattle.theory_merges.specs.Merge.{mergeReport}
+use Rattle.theory_patterns.specs.declared.Verdict.{Verdict}
+use Rattle.theory_patterns.specs.declared.Verdict.the-variants.{Refused, Trackable, Breaks}
+use Rattle.theory_patterns.specs.Verdicts.{Pair, JudgeReport, judgeReport}
+use Rattle.theory_recording.specs.declared.spacing.TrialAnswer.{TrialAnswer}
+use Rattle.theory_recording.specs.declared.spacing.TrialAnswer.the-variants as trial-answer
+use Rattle.theory_recording.specs.declared.spacing.TrialResult.{TrialResult}
+use Rattle.theory_recording.specs.spacing.Spacing.{simulated}
+use Rattle.library_readers.specs.Readings.{Reading}
 
 -- Bits 0 to 7 the number of the refusal, 0 if none; bit 8 whether a pair of states breaks; bits 16 to 23 the process of its near
 -- end and bits 24 to 39 that end's index; bits 40 to 47 the process of its far end and bits 48 to 63 that end's index.

@@ -11,8 +11,8 @@ use Rattle.machines.specs.declared.Request as requests
 use Rattle.machines.specs.Machines.{stepped}
 use Rattle.machines.specs.Forms.{answerOf}
 use Rattle.machines.specs.Packed.{packed, unpacked}
-use Rattle.record_machine.specs.Machine.{State, machine, counting}
-use Rattle.record_steps.specs.Lent.{hasRoom, stateOf, placeOf, StandsFor}
+use Rattle.machine_record.specs.Machine.{State, machine, counting}
+use Rattle.machine_record.specs.Lent.{hasRoom, stateOf, placeOf, StandsFor}
 
 -- The lent lists stand for a state, and the four numbers at the front of the last one are what the machine asks for there.
 pub record RecordPosed (memory words input out lines before request : List ℕ) (s : State) : Type 0 where

@@ -21,9 +21,9 @@ use Rattle.model.specs.declared.LineAnswer.the-variants as line-answer
 use Rattle.model.specs.declared.RecoverAnswer.{RecoverAnswer}
 use Rattle.model.specs.declared.RecoverAnswer.the-variants as recover-answer
 use Rattle.whole_runs.specs.Outcomes.{Outcome}
-use Rattle.recording.specs.Recording.{Recorded, recordedCheckpoint, recordedSend, recordedDeliver, recordedLose, recordedLine, recordedRecover, recordedEarliest}
+use Rattle.theory_recording.specs.Recording.{Recorded, recordedCheckpoint, recordedSend, recordedDeliver, recordedLose, recordedLine, recordedRecover, recordedEarliest}
 use Rattle.words.specs.Layout.{runOf}
-use Rattle.recorder_in_place.specs.Recorded.{recordedStartIn, recordedStartWords}
+use Rattle.library_recorder.specs.Recorded.{recordedStartIn, recordedStartWords}
 
 -- What the call leaves behind: its outcome, the buffer and the list with the place.
 pub record Placed (A : Type 0) : Type 0 where

@@ -12,12 +12,12 @@ use Rattle.machines.specs.declared.Answer as answers
 use Rattle.machines.specs.Machines.{stepped}
 use Rattle.machines.specs.Forms.{answerOf}
 use Rattle.machines.specs.Packed.{packed, unpacked}
-use Rattle.judge_machine.specs.Judging.{Reading, judging}
-use Rattle.judge_machine.specs.Words as judged
-use Rattle.merge_machine.specs.Merging as merger
-use Rattle.merge_machine.specs.Words as merged
-use Rattle.simulate_machine.specs.Simulating.{Counting, simulating}
-use Rattle.simulate_machine.specs.Words as simulated
+use Rattle.machine_judge.specs.Judging.{Reading, judging}
+use Rattle.machine_judge.specs.Words as judged
+use Rattle.machine_merge.specs.Merging as merger
+use Rattle.machine_merge.specs.Words as merged
+use Rattle.machine_simulate.specs.Simulating.{Counting, simulating}
+use Rattle.machine_simulate.specs.Words as simulated
 
 -- The four numbers at the front of a list are a request of which this holds.
 pub record Posed (before request : List ℕ) (Stands : requests.Request → Type 0) : Type 0 where

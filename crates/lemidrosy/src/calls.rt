@@ -16,10 +16,10 @@ ghost use Rattle.whole_runs.specs.WholeRuns.{LinePromise, StartPromise, StatePr
 ghost use Rattle.whole_runs.specs.Earliest.{earliestOutcome};
 ghost use Rattle.whole_runs.specs.Clean.{CleanPromise};
 ghost use Rattle.whole_runs.specs.Sweep.{EmptyLinePromise, SweepPromise};
-ghost use Rattle.answers.specs.Codes.{startCode, checkpointCode, sendCode, deliverCode, loseCode, lineCode, recoverCode};
+ghost use Rattle.listing.specs.answers.Codes.{startCode, checkpointCode, sendCode, deliverCode, loseCode, lineCode, recoverCode};
 ghost use Rattle.words.specs.Clean.{Clean};
 ghost use Rattle.words.specs.Layout.{runOf, stateSize};
-ghost use Rattle.line_words.specs.Through.{namedIn};
+ghost use Rattle.words_line.specs.Through.{namedIn};
 ghost use Rattle.in_place.specs.Left.{Leaves};
 ghost use Rattle.in_place.specs.Starting.{startOutcomeIn, startWords};
 
@@ -28,7 +28,7 @@ ghost use Rattle.in_place.specs.Starting.{startOutcomeIn, startWords};
 pub extern "C" fn lemidrosy_is_sound(words: &[u16]) -> bool
     ensures { λ r. ⌜ r ≡ sound (runOf (now (words .entry))) ⌝ }
 {
-    sound_words::is_sound(words)
+    words_sound::is_sound(words)
 }
 
 // A run of n processes with the block count of each begins in the words.
@@ -41,7 +41,7 @@ pub extern "C" fn lemidrosy_start(words: &mut [u16], n: usize, block_counts: &[u
     ensures { λ r. ⌜ (startOutcomeIn (length (now (words .entry))) n (now («block_counts» .entry)) .answer ≡ Started → StartPromise n (now («block_counts» .entry)) (runOf (now (words .exit)))) ⌝ }
 {
     let answer = in_place::start::start(words, n, block_counts);
-    answers::of_start(answer)
+    listing::answers::of_start(answer)
 }
 
 // A process takes a checkpoint. The value is its index; what is deleted goes to the front of the lent list, as pairs of a process and an index.
@@ -59,7 +59,7 @@ pub extern "C" fn lemidrosy_checkpoint(
     ensures { λ r. ⌜ StatePromise (runOf (now (words .entry))) (made.checkpoint process (now (deleted .entry))) (runOf (now (words .exit))) ⌝ }
 {
     let answer = in_place::checkpoint::checkpoint(words, process, deleted);
-    answers::of_checkpoint(answer)
+    listing::answers::of_checkpoint(answer)
 }
 
 // A process sends a message to another. The value is the message's number.
@@ -72,7 +72,7 @@ pub extern "C" fn lemidrosy_send(words: &mut [u16], sender: usize, receiver: usi
     ensures { λ r. ⌜ StatePromise (runOf (now (words .entry))) (made.send sender receiver) (runOf (now (words .exit))) ⌝ }
 {
     let answer = in_place::send::send(words, sender, receiver);
-    answers::of_send(answer)
+    listing::answers::of_send(answer)
 }
 
 // A message reaches its receiver. The value is the index of the checkpoint that it forces, if it forces one; what is deleted goes to the front of the lent list, as
@@ -88,7 +88,7 @@ pub extern "C" fn lemidrosy_deliver(words: &mut [u16], message: u32, deleted: &m
 {
     let delivered = in_place::deliver::deliver(words, message, deleted);
     let answer = delivered.answer;
-    answers::of_deliver(answer, delivered.rose)
+    listing::answers::of_deliver(answer, delivered.rose)
 }
 
 // A message is lost.
@@ -101,7 +101,7 @@ pub extern "C" fn lemidrosy_lose(words: &mut [u16], message: u32) -> u64
     ensures { λ r. ⌜ StatePromise (runOf (now (words .entry))) (made.lose message) (runOf (now (words .exit))) ⌝ }
 {
     let answer = in_place::lose::lose(words, message);
-    answers::of_lose(answer)
+    listing::answers::of_lose(answer)
 }
 
 // The line for a failed set, bit p of which stands for process p: its n indexes go to the front of the lent list. An empty set is a sweep's.
@@ -113,7 +113,7 @@ pub extern "C" fn lemidrosy_line(words: &[u16], failed: u32, line: &mut [u16]) -
     ensures { λ r. ⌜ EmptyLinePromise (runOf (now (words .entry))) failed (now (line .entry)) (lineOutcome (runOf (now (words .entry))) failed (now (line .entry)) .answer) (now (line .exit)) ⌝ }
 {
     let answer = in_place::line::line(words, failed, line);
-    answers::of_line(answer)
+    listing::answers::of_line(answer)
 }
 
 // Every process goes back to the line for a failed set, bit p of which stands for process p: its n indexes go to the front of the one list, what is deleted to the front of the
@@ -136,8 +136,8 @@ pub extern "C" fn lemidrosy_recover(
     ensures { λ r. ⌜ CleanPromise (runOf (now (words .entry))) failed (now (deleted .entry)) (now (line .entry)) (runOf (now (words .exit))) ⌝ }
     ensures { λ r. ⌜ SweepPromise (runOf (now (words .entry))) failed (now (deleted .entry)) (now (line .entry)) (recoverOutcome (runOf (now (words .entry))) failed (now (deleted .entry)) (now (line .entry)) .answer) (now (line .exit)) (runOf (now (words .exit))) ⌝ }
 {
-    let answer = recover_in_place::recover(words, failed, deleted, line);
-    answers::of_recover(answer)
+    let answer = in_place_recover::recover(words, failed, deleted, line);
+    listing::answers::of_recover(answer)
 }
 
 // The earliest consistent line through the named checkpoints, pairs of a process and an index: its n indexes go to the front of the lent list.
@@ -148,5 +148,5 @@ pub extern "C" fn lemidrosy_earliest(words: &[u16], named: &[u32], line: &mut [u
     ensures { λ r. ⌜ EarliestPromise (runOf (now (words .entry))) (namedIn (now (named .entry))) (now (line .entry)) ⌝ }
 {
     let answer = in_place::through::earliest(words, named, line);
-    answers::of_line(answer)
+    listing::answers::of_line(answer)
 }

@@ -2,7 +2,7 @@
 // viewer) and the set of an owner's processes, bit p of which stands for process p; then the call's own arguments. What the caller may not do is refused with 25, before
 // every other number, and so is a number that is no role's. A refused call leaves every word and every entry of its lists as it was; only a start that is refused with a
 // number other than 25 makes the words zero.
-use roles::ListAnswer;
+use theory_roles::ListAnswer;
 ghost use mathlib.Core.Path.{_≡_};
 ghost use lib.ListN.{length};
 ghost use Rattle.model.specs.declared.Refusal.{Refusal};
@@ -11,13 +11,13 @@ ghost use Rattle.model.specs.declared.SendAnswer.the-variants as sending;
 ghost use Rattle.model.specs.declared.DeliverAnswer.the-variants as delivering;
 ghost use Rattle.model.specs.declared.LoseAnswer.the-variants as losing;
 ghost use Rattle.model.specs.declared.RecoverAnswer.the-variants as recovering;
-ghost use Rattle.answers.specs.Codes.{Fits, startCode, checkpointCode, sendCode, deliverCode, loseCode, lineCode, recoverCode};
+ghost use Rattle.listing.specs.answers.Codes.{Fits, startCode, checkpointCode, sendCode, deliverCode, loseCode, lineCode, recoverCode};
 ghost use Rattle.words.specs.Clean.{Clean};
 ghost use Rattle.words.specs.Layout.{runOf, stateSize};
-ghost use Rattle.line_words.specs.Through.{namedIn};
+ghost use Rattle.words_line.specs.Through.{namedIn};
 ghost use Rattle.in_place.specs.Left.{Leaves};
-ghost use Rattle.roles.specs.Console.{listReport};
-ghost use Rattle.console_in_place.specs.Asked.{startAs, startWordsAs, checkpointAs, sendAs, deliverAs, loseAs, recoverAs, lineAs, earliestAs, listAs, countsAs};
+ghost use Rattle.theory_roles.specs.Console.{listReport};
+ghost use Rattle.library_console.specs.Asked.{startAs, startWordsAs, checkpointAs, sendAs, deliverAs, loseAs, recoverAs, lineAs, earliestAs, listAs, countsAs};
 ghost use Rattle.lemidrosy.specs.Console.{listCode};
 
 // The number of the answer to a list. The value says how many checkpoints are listed.
@@ -26,8 +26,8 @@ fn of_list(answer: ListAnswer) -> u64
     ensures { λ r. ⌜ r ≡ listCode answer ⌝ }
 {
     match answer {
-        ListAnswer::Refused(why) => readers::refused(why),
-        ListAnswer::Listed(many) => readers::counted(many),
+        ListAnswer::Refused(why) => library_readers::refused(why),
+        ListAnswer::Listed(many) => library_readers::counted(many),
     }
 }
 
@@ -45,8 +45,8 @@ pub extern "C" fn lemidrosy_console_start(
     ensures { λ r. ⌜ now (words .exit) ≡ startWordsAs role owned (now (words .entry)) n (now («block_counts» .entry)) ⌝ }
     ensures { λ r. ⌜ (length (now (words .entry)) ≡ stateSize → Clean (now (words .entry)) → Clean (now (words .exit))) ⌝ }
 {
-    let answer = console_in_place::calls::start(role, owned, words, n, block_counts);
-    answers::of_start(answer)
+    let answer = library_console::calls::start(role, owned, words, n, block_counts);
+    listing::answers::of_start(answer)
 }
 
 // A process takes a checkpoint.
@@ -64,8 +64,8 @@ pub extern "C" fn lemidrosy_console_checkpoint(
     ensures { λ r. ⌜ ((why : Refusal) → checkpointAs role owned (runOf (now (words .entry))) process (now (deleted .entry)) .answer ≡ storing.Refused why → now (words .exit) ≡ now (words .entry)) ⌝ }
     ensures { λ r. ⌜ Leaves (now (words .entry)) (now (words .exit)) ⌝ }
 {
-    let answer = console_in_place::calls::checkpoint(role, owned, words, process, deleted);
-    answers::of_checkpoint(answer)
+    let answer = library_console::calls::checkpoint(role, owned, words, process, deleted);
+    listing::answers::of_checkpoint(answer)
 }
 
 // A process sends a message to another, which may be anyone's.
@@ -82,8 +82,8 @@ pub extern "C" fn lemidrosy_console_send(
     ensures { λ r. ⌜ ((why : Refusal) → sendAs role owned (runOf (now (words .entry))) sender receiver .answer ≡ sending.Refused why → now (words .exit) ≡ now (words .entry)) ⌝ }
     ensures { λ r. ⌜ Leaves (now (words .entry)) (now (words .exit)) ⌝ }
 {
-    let answer = console_in_place::calls::send(role, owned, words, sender, receiver);
-    answers::of_send(answer)
+    let answer = library_console::calls::send(role, owned, words, sender, receiver);
+    listing::answers::of_send(answer)
 }
 
 // A message reaches its receiver.
@@ -101,9 +101,9 @@ pub extern "C" fn lemidrosy_console_deliver(
     ensures { λ r. ⌜ ((why : Refusal) → deliverAs role owned (runOf (now (words .entry))) message (now (deleted .entry)) .answer ≡ delivering.Refused why → now (words .exit) ≡ now (words .entry)) ⌝ }
     ensures { λ r. ⌜ Leaves (now (words .entry)) (now (words .exit)) ⌝ }
 {
-    let delivered = console_in_place::calls::deliver(role, owned, words, message, deleted);
+    let delivered = library_console::calls::deliver(role, owned, words, message, deleted);
     let answer = delivered.answer;
-    answers::of_deliver(answer, delivered.rose)
+    listing::answers::of_deliver(answer, delivered.rose)
 }
 
 // A message is lost.
@@ -119,8 +119,8 @@ pub extern "C" fn lemidrosy_console_lose(
     ensures { λ r. ⌜ ((why : Refusal) → loseAs role owned (runOf (now (words .entry))) message .answer ≡ losing.Refused why → now (words .exit) ≡ now (words .entry)) ⌝ }
     ensures { λ r. ⌜ Leaves (now (words .entry)) (now (words .exit)) ⌝ }
 {
-    let answer = console_in_place::calls::lose(role, owned, words, message);
-    answers::of_lose(answer)
+    let answer = library_console::calls::lose(role, owned, words, message);
+    listing::answers::of_lose(answer)
 }
 
 // The caller's members of the line for a failed set go to their places in the lent list; no other place of it changes.
@@ -135,8 +135,8 @@ pub extern "C" fn lemidrosy_console_line(
     ensures { λ r. ⌜ r ≡ lineCode (lineAs role owned (runOf (now (words .entry))) failed (now (line .entry)) .answer) ⌝ }
     ensures { λ r. ⌜ now (line .exit) ≡ lineAs role owned (runOf (now (words .entry))) failed (now (line .entry)) .line ⌝ }
 {
-    let answer = console_in_place::shown::line(role, owned, words, failed, line);
-    answers::of_line(answer)
+    let answer = library_console::shown::line(role, owned, words, failed, line);
+    listing::answers::of_line(answer)
 }
 
 // Every process goes back to the line for a failed set, or the run is swept: for an operator alone.
@@ -156,8 +156,8 @@ pub extern "C" fn lemidrosy_console_recover(
     ensures { λ r. ⌜ ((why : Refusal) → recoverAs role owned (runOf (now (words .entry))) failed (now (deleted .entry)) (now (line .entry)) .answer ≡ recovering.Refused why → now (words .exit) ≡ now (words .entry)) ⌝ }
     ensures { λ r. ⌜ Leaves (now (words .entry)) (now (words .exit)) ⌝ }
 {
-    let answer = console_in_place::calls::recover(role, owned, words, failed, deleted, line);
-    answers::of_recover(answer)
+    let answer = library_console::calls::recover(role, owned, words, failed, deleted, line);
+    listing::answers::of_recover(answer)
 }
 
 // The earliest consistent line through the named checkpoints: for an operator alone.
@@ -172,8 +172,8 @@ pub extern "C" fn lemidrosy_console_earliest(
     ensures { λ r. ⌜ r ≡ lineCode (earliestAs role owned (runOf (now (words .entry))) (namedIn (now (named .entry))) (now (line .entry)) .answer) ⌝ }
     ensures { λ r. ⌜ now (line .exit) ≡ earliestAs role owned (runOf (now (words .entry))) (namedIn (now (named .entry))) (now (line .entry)) .line ⌝ }
 {
-    let answer = console_in_place::calls::earliest(role, owned, words, named, line);
-    answers::of_line(answer)
+    let answer = library_console::calls::earliest(role, owned, words, named, line);
+    listing::answers::of_line(answer)
 }
 
 // The checkpoints that the caller's processes keep go to the front of the lent list, as deletions do. The value says how many they are.
@@ -187,7 +187,7 @@ pub extern "C" fn lemidrosy_console_list(
     ensures { λ r. ⌜ r ≡ listCode (listAs role owned (runOf (now (words .entry))) (now (deleted .entry)) .answer) ⌝ }
     ensures { λ r. ⌜ now (deleted .exit) ≡ listAs role owned (runOf (now (words .entry))) (now (deleted .entry)) .deleted ⌝ }
 {
-    let answer = console_in_place::list::list(role, owned, words, deleted);
+    let answer = library_console::list::list(role, owned, words, deleted);
     of_list(answer)
 }
 
@@ -202,6 +202,6 @@ pub extern "C" fn lemidrosy_console_counts(
     ensures { λ r. ⌜ r ≡ lineCode (countsAs role owned (runOf (now (words .entry))) (now (line .entry)) .answer) ⌝ }
     ensures { λ r. ⌜ now (line .exit) ≡ countsAs role owned (runOf (now (words .entry))) (now (line .entry)) .line ⌝ }
 {
-    let answer = console_in_place::shown::counts(role, owned, words, line);
-    answers::of_line(answer)
+    let answer = library_console::shown::counts(role, owned, words, line);
+    listing::answers::of_line(answer)
 }

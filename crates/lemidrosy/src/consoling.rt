@@ -13,13 +13,13 @@ pub extern "C" fn lemidrosy_console_begin(
 ) -> u64
     ensures { λ r. ⌜ ConsoleBegun (now (words .entry)) (now (memory .entry)) (now (input .entry)) (now (out .entry)) (now (request .entry)) (now (memory .exit)) (now (request .exit)) r ⌝ }
 {
-    if !console_steps::has_room(memory.len(), words.len(), input.len(), out.len()) {
+    if !machine_console::has_room(memory.len(), words.len(), input.len(), out.len()) {
         return 3;
     }
     if request.len() < 4 {
         return 3;
     }
-    let asked = console_steps::begin(memory, words, input, out);
+    let asked = machine_console::begin(memory, words, input, out);
     packed::pack(asked, request);
     0
 }
@@ -41,7 +41,7 @@ pub extern "C" fn lemidrosy_console_step(
         return 3;
     }
     let answer = packed::unpack(kind, number);
-    let asked = console_steps::step(memory, words, input, out, answer);
+    let asked = machine_console::step(memory, words, input, out, answer);
     packed::pack(asked, request);
     0
 }

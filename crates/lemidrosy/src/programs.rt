@@ -1,20 +1,20 @@
 // What works on no state: the judge of another run-time's trace (document 02, Note 7), the merge of two halves of one run (Note 12) and a simulation (Note 10).
-use answers::code_of;
+use listing::answers::code_of;
 use listing::Summary;
 use listing::Value;
 use model::MergeAnswer;
-use patterns::Verdict;
-use spacing::TrialAnswer;
-use spacing::TrialResult;
+use theory_patterns::Verdict;
+use theory_recording::spacing::TrialAnswer;
+use theory_recording::spacing::TrialResult;
 ghost use mathlib.Core.Path.{_≡_};
 ghost use mathlib.Core.Option.{none};
 ghost use Prim.Native.Nat.{_≤_};
 ghost use lib.ListN.{length};
-ghost use Rattle.answers.specs.Codes.{coded, Fits};
-ghost use Rattle.merges.specs.Halves.{OrdersAgree};
-ghost use Rattle.merges.specs.Merge.{mergeOutcome, mergeReport, MergePromise};
-ghost use Rattle.patterns.specs.Verdicts.{verdict};
-ghost use Rattle.spacing.specs.Spacing.{trialRefusal, AgreesWithReplay};
+ghost use Rattle.listing.specs.answers.Codes.{coded, Fits};
+ghost use Rattle.theory_merges.specs.Halves.{OrdersAgree};
+ghost use Rattle.theory_merges.specs.Merge.{mergeOutcome, mergeReport, MergePromise};
+ghost use Rattle.theory_patterns.specs.Verdicts.{verdict};
+ghost use Rattle.theory_recording.specs.spacing.Spacing.{trialRefusal, AgreesWithReplay};
 ghost use Rattle.lemidrosy.specs.Programs.{judgeCode, PairFits, mergeCode, figuresWritten, simulation};
 
 // The weights of the fields of a pair that breaks.
@@ -33,7 +33,7 @@ fn verdict_code(v: Verdict) -> u64
     ensures { λ r. ⌜ r ≡ judgeCode v ⌝ }
 {
     match v {
-        Verdict::Refused(why) => summaries::number_of(why) as u64,
+        Verdict::Refused(why) => listing::summaries::number_of(why) as u64,
         Verdict::Trackable => 0,
         Verdict::Breaks(near, near_index, far, far_index) => {
             let near_end = NEAR * (near as u64) + NEAR_INDEX * (near_index.0 as u64);
@@ -48,7 +48,7 @@ fn verdict_code(v: Verdict) -> u64
 pub extern "C" fn lemidrosy_judge(trace: &[u8]) -> u64
     ensures { λ r. ⌜ r ≡ judgeCode (verdict (now (trace .entry))) ⌝ }
 {
-    let verdict = judge_trace::judge(trace);
+    let verdict = library_judge::judge(trace);
     verdict_code(verdict)
 }
 
@@ -57,7 +57,7 @@ fn merge_code(a: MergeAnswer) -> u64
     ensures { λ r. ⌜ r ≡ mergeCode a ⌝ }
 {
     match a {
-        MergeAnswer::Refused(why) => summaries::number_of(why) as u64,
+        MergeAnswer::Refused(why) => listing::summaries::number_of(why) as u64,
         MergeAnswer::Merged(bytes) => {
             let value = Value::Number(bytes as u64);
             let summary = Summary {
@@ -84,7 +84,7 @@ pub extern "C" fn lemidrosy_merge<'a>(
     ensures { λ r. ⌜ now (trace .exit) ≡ mergeOutcome (now (first .entry)) (now (second .entry)) set (now (trace .entry)) .buffer ⌝ }
     ensures { λ r. ⌜ MergePromise (now (first .entry)) (now (second .entry)) set (now (trace .entry)) × OrdersAgree ⌝ }
 {
-    let answer = halves::merge(first, second, set, trace);
+    let answer = library_halves::merge(first, second, set, trace);
     merge_code(answer)
 }
 
@@ -101,7 +101,7 @@ fn write_figures(figures: &mut [u64], result: TrialResult) -> u64
 {
     let answer = result.answer;
     match answer {
-        TrialAnswer::Refused(why) => summaries::number_of(why) as u64,
+        TrialAnswer::Refused(why) => listing::summaries::number_of(why) as u64,
         TrialAnswer::Tried => {
             figures[0] = result.deliveries as u64;
             figures[1] = result.forced as u64;
@@ -131,6 +131,6 @@ pub extern "C" fn lemidrosy_simulate(
     if figures.len() < FIGURES {
         return LIST_TOO_SHORT;
     }
-    let result = trials::simulate(n, spacing, steps, seed);
+    let result = library_trials::simulate(n, spacing, steps, seed);
     write_figures(figures, result)
 }

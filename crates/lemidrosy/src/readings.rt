@@ -2,9 +2,9 @@
 // that stand for no sound state (2), a list that is too short (3), a process not below n (4), a failed set with a process not below n (7) and a message not under
 // way (8): then the list keeps every entry.
 ghost use mathlib.Core.Path.{_≡_};
-ghost use Rattle.answers.specs.Codes.{coded};
+ghost use Rattle.listing.specs.answers.Codes.{coded};
 ghost use Rattle.words.specs.Layout.{runOf};
-ghost use Rattle.readers.specs.Readings.{numbersReading, vectorReading, pinsReading, keptReading, messagesReading, carriedReading, lostReading};
+ghost use Rattle.library_readers.specs.Readings.{numbersReading, vectorReading, pinsReading, keptReading, messagesReading, carriedReading, lostReading};
 
 // The number of the answer to words that stand for no sound state.
 const UNSOUND: u64 = 2;
@@ -15,11 +15,11 @@ pub extern "C" fn lemidrosy_numbers(words: &[u16], numbers: &mut [u64]) -> u64
     ensures { λ r. ⌜ r ≡ coded (numbersReading (runOf (now (words .entry))) (now (numbers .entry)) .report) 0 ⌝ }
     ensures { λ r. ⌜ now (numbers .exit) ≡ numbersReading (runOf (now (words .entry))) (now (numbers .entry)) .list ⌝ }
 {
-    let sound = sound_words::is_sound(words);
+    let sound = words_sound::is_sound(words);
     if !sound {
         return UNSOUND;
     }
-    readers::numbers_on(words, numbers)
+    library_readers::numbers_on(words, numbers)
 }
 
 // The n entries of the vector of a process.
@@ -28,11 +28,11 @@ pub extern "C" fn lemidrosy_vector(words: &[u16], process: usize, vector: &mut [
     ensures { λ r. ⌜ r ≡ coded (vectorReading (runOf (now (words .entry))) process (now (vector .entry)) .report) 0 ⌝ }
     ensures { λ r. ⌜ now (vector .exit) ≡ vectorReading (runOf (now (words .entry))) process (now (vector .entry)) .list ⌝ }
 {
-    let sound = sound_words::is_sound(words);
+    let sound = words_sound::is_sound(words);
     if !sound {
         return UNSOUND;
     }
-    readers::vector_on(words, process, vector)
+    library_readers::vector_on(words, process, vector)
 }
 
 // The n pins of a process, each as one more than the index of the checkpoint that it names, 0 for none.
@@ -41,11 +41,11 @@ pub extern "C" fn lemidrosy_pins(words: &[u16], process: usize, pins: &mut [u16]
     ensures { λ r. ⌜ r ≡ coded (pinsReading (runOf (now (words .entry))) process (now (pins .entry)) .report) 0 ⌝ }
     ensures { λ r. ⌜ now (pins .exit) ≡ pinsReading (runOf (now (words .entry))) process (now (pins .entry)) .list ⌝ }
 {
-    let sound = sound_words::is_sound(words);
+    let sound = words_sound::is_sound(words);
     if !sound {
         return UNSOUND;
     }
-    readers::pins_on(words, process, pins)
+    library_readers::pins_on(words, process, pins)
 }
 
 // The checkpoints that a process keeps, ascending, three numbers each: the index, the cause (0 initial, 1 basic, 2 forced) and the blocks. The list has room for 3 n
@@ -55,11 +55,11 @@ pub extern "C" fn lemidrosy_kept(words: &[u16], process: usize, kept: &mut [u32]
     ensures { λ r. ⌜ r ≡ coded (keptReading (runOf (now (words .entry))) process (now (kept .entry)) .report) 0 ⌝ }
     ensures { λ r. ⌜ now (kept .exit) ≡ keptReading (runOf (now (words .entry))) process (now (kept .entry)) .list ⌝ }
 {
-    let sound = sound_words::is_sound(words);
+    let sound = words_sound::is_sound(words);
     if !sound {
         return UNSOUND;
     }
-    readers::kept_on(words, process, kept)
+    library_readers::kept_on(words, process, kept)
 }
 
 // The messages under way, ascending, three numbers each: the number, the sender and the receiver. The list has room for 192 numbers. The value says how many they
@@ -69,11 +69,11 @@ pub extern "C" fn lemidrosy_messages(words: &[u16], messages: &mut [u32]) -> u64
     ensures { λ r. ⌜ r ≡ coded (messagesReading (runOf (now (words .entry))) (now (messages .entry)) .report) 0 ⌝ }
     ensures { λ r. ⌜ now (messages .exit) ≡ messagesReading (runOf (now (words .entry))) (now (messages .entry)) .list ⌝ }
 {
-    let sound = sound_words::is_sound(words);
+    let sound = words_sound::is_sound(words);
     if !sound {
         return UNSOUND;
     }
-    readers::messages_on(words, messages)
+    library_readers::messages_on(words, messages)
 }
 
 // The n entries of the vector that a message carries.
@@ -82,11 +82,11 @@ pub extern "C" fn lemidrosy_carried(words: &[u16], message: u32, vector: &mut [u
     ensures { λ r. ⌜ r ≡ coded (carriedReading (runOf (now (words .entry))) message (now (vector .entry)) .report) 0 ⌝ }
     ensures { λ r. ⌜ now (vector .exit) ≡ carriedReading (runOf (now (words .entry))) message (now (vector .entry)) .list ⌝ }
 {
-    let sound = sound_words::is_sound(words);
+    let sound = words_sound::is_sound(words);
     if !sound {
         return UNSOUND;
     }
-    readers::carried_on(words, message, vector)
+    library_readers::carried_on(words, message, vector)
 }
 
 // The messages under way that a recovery of a failed set would lose, bit p of which stands for process p, ascending, three numbers each as those under way. The list
@@ -96,9 +96,9 @@ pub extern "C" fn lemidrosy_lost(words: &[u16], failed: u32, messages: &mut [u32
     ensures { λ r. ⌜ r ≡ coded (lostReading (runOf (now (words .entry))) failed (now (messages .entry)) .report) 0 ⌝ }
     ensures { λ r. ⌜ now (messages .exit) ≡ lostReading (runOf (now (words .entry))) failed (now (messages .entry)) .list ⌝ }
 {
-    let sound = sound_words::is_sound(words);
+    let sound = words_sound::is_sound(words);
     if !sound {
         return UNSOUND;
     }
-    readers::lost::lost_on(words, failed, messages)
+    library_readers::lost::lost_on(words, failed, messages)
 }

@@ -14,7 +14,7 @@ pub extern "C" fn lemidrosy_record_begin(
 ) -> u64
     ensures { λ r. ⌜ RecordBegun (now (memory .entry)) (now (words .entry)) (now (input .entry)) (now (out .entry)) (now (lines .entry)) (now (request .entry)) (now (memory .exit)) (now (request .exit)) r ⌝ }
 {
-    if !record_steps::has_room(
+    if !machine_record::has_room(
         memory.len(),
         words.len(),
         input.len(),
@@ -26,7 +26,7 @@ pub extern "C" fn lemidrosy_record_begin(
     if request.len() < 4 {
         return 3;
     }
-    let asked = record_steps::begin(memory, words, input, out, lines);
+    let asked = machine_record::begin(memory, words, input, out, lines);
     packed::pack(asked, request);
     0
 }
@@ -49,7 +49,7 @@ pub extern "C" fn lemidrosy_record_step(
         return 3;
     }
     let answer = packed::unpack(kind, number);
-    let asked = record_steps::step(memory, words, input, out, lines, answer);
+    let asked = machine_record::step(memory, words, input, out, lines, answer);
     packed::pack(asked, request);
     0
 }

@@ -11,10 +11,10 @@ ghost use Rattle.model.specs.declared.SendAnswer.the-variants as sending;
 ghost use Rattle.model.specs.declared.DeliverAnswer.the-variants as delivering;
 ghost use Rattle.model.specs.declared.LoseAnswer.the-variants as losing;
 ghost use Rattle.model.specs.declared.RecoverAnswer.the-variants as recovering;
-ghost use Rattle.answers.specs.Codes.{startCode, checkpointCode, sendCode, deliverCode, loseCode, lineCode, recoverCode};
+ghost use Rattle.listing.specs.answers.Codes.{startCode, checkpointCode, sendCode, deliverCode, loseCode, lineCode, recoverCode};
 ghost use Rattle.words.specs.Clean.{Clean};
 ghost use Rattle.words.specs.Layout.{runOf, stateSize};
-ghost use Rattle.line_words.specs.Through.{namedIn};
+ghost use Rattle.words_line.specs.Through.{namedIn};
 ghost use Rattle.in_place.specs.Left.{Leaves};
 ghost use Rattle.lemidrosy.specs.Recording.{startAt, startWordsAt, checkpointAt, sendAt, deliverAt, loseAt, lineAt, recoverAt, earliestAt};
 
@@ -41,10 +41,10 @@ pub extern "C" fn lemidrosy_record_start(
         return NO_PLACE;
     }
     let at = place[0] as usize;
-    let recorded = recorder_in_place::start(words, n, block_counts, buffer, at);
+    let recorded = library_recorder::start(words, n, block_counts, buffer, at);
     let answer = recorded.answer;
     place[0] = recorded.place as u64;
-    answers::of_start(answer)
+    listing::answers::of_start(answer)
 }
 
 // A process takes a checkpoint.
@@ -68,10 +68,10 @@ pub extern "C" fn lemidrosy_record_checkpoint(
         return NO_PLACE;
     }
     let at = place[0] as usize;
-    let recorded = recorder_in_place::checkpoint(words, process, deleted, buffer, at);
+    let recorded = library_recorder::checkpoint(words, process, deleted, buffer, at);
     let answer = recorded.answer;
     place[0] = recorded.place as u64;
-    answers::of_checkpoint(answer)
+    listing::answers::of_checkpoint(answer)
 }
 
 // A process sends a message to another.
@@ -94,10 +94,10 @@ pub extern "C" fn lemidrosy_record_send(
         return NO_PLACE;
     }
     let at = place[0] as usize;
-    let recorded = recorder_in_place::send(words, sender, receiver, buffer, at);
+    let recorded = library_recorder::send(words, sender, receiver, buffer, at);
     let answer = recorded.answer;
     place[0] = recorded.place as u64;
-    answers::of_send(answer)
+    listing::answers::of_send(answer)
 }
 
 // A message reaches its receiver.
@@ -121,10 +121,10 @@ pub extern "C" fn lemidrosy_record_deliver(
         return NO_PLACE;
     }
     let at = place[0] as usize;
-    let recorded = recorder_in_place::deliver(words, message, deleted, buffer, at);
+    let recorded = library_recorder::deliver(words, message, deleted, buffer, at);
     let answer = recorded.answer;
     place[0] = recorded.place as u64;
-    answers::of_deliver(answer, recorded.rose)
+    listing::answers::of_deliver(answer, recorded.rose)
 }
 
 // A message is lost.
@@ -146,10 +146,10 @@ pub extern "C" fn lemidrosy_record_lose(
         return NO_PLACE;
     }
     let at = place[0] as usize;
-    let recorded = recorder_in_place::lose(words, message, buffer, at);
+    let recorded = library_recorder::lose(words, message, buffer, at);
     let answer = recorded.answer;
     place[0] = recorded.place as u64;
-    answers::of_lose(answer)
+    listing::answers::of_lose(answer)
 }
 
 // The line for a failed set. It is no event: the buffer and the place are as they were.
@@ -170,10 +170,10 @@ pub extern "C" fn lemidrosy_record_line(
         return NO_PLACE;
     }
     let at = place[0] as usize;
-    let recorded = recorder_in_place::line(words, failed, line, buffer, at);
+    let recorded = library_recorder::line(words, failed, line, buffer, at);
     let answer = recorded.answer;
     place[0] = recorded.place as u64;
-    answers::of_line(answer)
+    listing::answers::of_line(answer)
 }
 
 // Every process goes back to the line for a failed set; with an empty set a sweep.
@@ -199,10 +199,10 @@ pub extern "C" fn lemidrosy_record_recover(
         return NO_PLACE;
     }
     let at = place[0] as usize;
-    let recorded = recorder_in_place::recover(words, failed, deleted, line, buffer, at);
+    let recorded = library_recorder::recover(words, failed, deleted, line, buffer, at);
     let answer = recorded.answer;
     place[0] = recorded.place as u64;
-    answers::of_recover(answer)
+    listing::answers::of_recover(answer)
 }
 
 // The earliest consistent line through the named checkpoints. It is no event: the buffer and the place are as they were.
@@ -223,8 +223,8 @@ pub extern "C" fn lemidrosy_record_earliest(
         return NO_PLACE;
     }
     let at = place[0] as usize;
-    let recorded = recorder_in_place::earliest(words, named, line, buffer, at);
+    let recorded = library_recorder::earliest(words, named, line, buffer, at);
     let answer = recorded.answer;
     place[0] = recorded.place as u64;
-    answers::of_line(answer)
+    listing::answers::of_line(answer)
 }

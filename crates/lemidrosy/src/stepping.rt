@@ -12,13 +12,13 @@ pub extern "C" fn lemidrosy_judge_begin(
 ) -> u64
     ensures { λ r. ⌜ JudgeBegun (now (memory .entry)) (now (input .entry)) (now (out .entry)) (now (request .entry)) (now (memory .exit)) (now (request .exit)) r ⌝ }
 {
-    if judge_machine::lacks_room(memory.len(), input.len(), out.len()) {
+    if machine_judge::lacks_room(memory.len(), input.len(), out.len()) {
         return 3;
     }
     if request.len() < 4 {
         return 3;
     }
-    let asked = judge_machine::begin(memory, input, out);
+    let asked = machine_judge::begin(memory, input, out);
     packed::pack(asked, request);
     0
 }
@@ -39,7 +39,7 @@ pub extern "C" fn lemidrosy_judge_step(
         return 3;
     }
     let answer = packed::unpack(kind, number);
-    let asked = judge_machine::step(memory, input, out, answer);
+    let asked = machine_judge::step(memory, input, out, answer);
     packed::pack(asked, request);
     0
 }
@@ -54,13 +54,13 @@ pub extern "C" fn lemidrosy_simulate_begin(
 ) -> u64
     ensures { λ r. ⌜ SimulateBegun (now (memory .entry)) (now (input .entry)) (now (out .entry)) (now (request .entry)) (now (memory .exit)) (now (request .exit)) r ⌝ }
 {
-    if simulate_machine::lacks_room(memory.len(), input.len(), out.len()) {
+    if machine_simulate::lacks_room(memory.len(), input.len(), out.len()) {
         return 3;
     }
     if request.len() < 4 {
         return 3;
     }
-    let asked = simulate_machine::begin(memory, input, out);
+    let asked = machine_simulate::begin(memory, input, out);
     packed::pack(asked, request);
     0
 }
@@ -81,7 +81,7 @@ pub extern "C" fn lemidrosy_simulate_step(
         return 3;
     }
     let answer = packed::unpack(kind, number);
-    let asked = simulate_machine::step(memory, input, out, answer);
+    let asked = machine_simulate::step(memory, input, out, answer);
     packed::pack(asked, request);
     0
 }
@@ -96,13 +96,13 @@ pub extern "C" fn lemidrosy_merge_begin(
 ) -> u64
     ensures { λ r. ⌜ MergeBegun (now (memory .entry)) (now (input .entry)) (now (out .entry)) (now (request .entry)) (now (memory .exit)) (now (request .exit)) r ⌝ }
 {
-    if merge_machine::lacks_room(memory.len(), input.len(), out.len()) {
+    if machine_merge::lacks_room(memory.len(), input.len(), out.len()) {
         return 3;
     }
     if request.len() < 4 {
         return 3;
     }
-    let asked = merge_machine::begin(memory, input, out);
+    let asked = machine_merge::begin(memory, input, out);
     packed::pack(asked, request);
     0
 }
@@ -123,7 +123,7 @@ pub extern "C" fn lemidrosy_merge_step(
         return 3;
     }
     let answer = packed::unpack(kind, number);
-    let asked = merge_machine::step(memory, input, out, answer);
+    let asked = machine_merge::step(memory, input, out, answer);
     packed::pack(asked, request);
     0
 }

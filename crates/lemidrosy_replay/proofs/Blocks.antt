@@ -10,8 +10,8 @@ use borrow.Author.Tests.{lt-ltb, le-ltb}
 use Rattle.laws.specs.Choice.{pick}
 use Rattle.model.specs.declared.Run.{Run}
 use Rattle.model.specs.Refusals.{number}
-use Rattle.answers.specs.Codes.{coded, valueCode}
-use Rattle.replay_in_place.specs.Taken.{BlockOutcome, blockOutcome}
+use Rattle.listing.specs.answers.Codes.{coded, valueCode}
+use Rattle.library_replay.specs.Taken.{BlockOutcome, blockOutcome}
 use Rattle.lemidrosy_replay.specs.Replaying.{Replaying, replaying}
 
 module _ (all : Bool) (done : ℕ) (s : Run) (records text progress : List ℕ) where

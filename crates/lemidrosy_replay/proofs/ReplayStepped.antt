@@ -13,8 +13,8 @@ use Rattle.machines.specs.declared.Answer as answers
 use Rattle.machines.specs.Machines.{stepped}
 use Rattle.machines.specs.Forms.{answerOf, Asks}
 use Rattle.machines.specs.Packed.{packed, unpacked}
-use Rattle.replay_machine.specs.Replaying.{State, starting, asks, replaying}
-use Rattle.replay_machine.specs.Standing.{numbers, enoughRoom, stateOf, placeOf}
+use Rattle.machine_replay.specs.Replaying.{State, starting, asks, replaying}
+use Rattle.machine_replay.specs.Standing.{numbers, enoughRoom, stateOf, placeOf}
 use Rattle.lemidrosy_replay.specs.ReplaySteps.{ReplayPosed, hasRoom, ReplayBegun, ReplayStepped}
 
 module _ (words memory input out request : List ℕ) where

@@ -11,8 +11,8 @@ use Rattle.machines.specs.declared.Request as requests
 use Rattle.machines.specs.Machines.{stepped}
 use Rattle.machines.specs.Forms.{answerOf, Asks}
 use Rattle.machines.specs.Packed.{packed, unpacked}
-use Rattle.replay_machine.specs.Replaying.{State, starting, asks, replaying}
-use Rattle.replay_machine.specs.Standing.{numbers, enoughRoom, stateOf, placeOf}
+use Rattle.machine_replay.specs.Replaying.{State, starting, asks, replaying}
+use Rattle.machine_replay.specs.Standing.{numbers, enoughRoom, stateOf, placeOf}
 
 -- The lent lists stand for a state, and the four numbers at the front of the last one are what the machine asks for there.
 pub record ReplayPosed (words memory input out before request : List ℕ) (s : State) : Type 0 where

@@ -10,7 +10,7 @@ use Rattle.laws.specs.Choice.{pick}
 use Rattle.model.specs.declared.Refusal.the-variants.{ListTooShort}
 use Rattle.model.specs.declared.Run.{Run}
 use Rattle.whole_runs.specs.Outcomes.{Report, written, refusing, accepting}
-use Rattle.replay_in_place.specs.Taken.{BlockOutcome, blockOutcome}
+use Rattle.library_replay.specs.Taken.{BlockOutcome, blockOutcome}
 
 pub record Replaying : Type 0 where
   pub report : Report

@@ -1,6 +1,6 @@
 // A block of records applied to the words, for a run-time that hands its events over in batches: the words are tested once, and once more after each recovery that deletes a
 // checkpoint.
-use replay_in_place::block::Progress;
+use library_replay::block::Progress;
 ghost use mathlib.Core.Path.{_≡_};
 ghost use mathlib.Core.List.{[], _∷_};
 ghost use Prim.Native.Nat.{_≤_, _<_};
@@ -8,7 +8,7 @@ ghost use lib.ListN.{length};
 ghost use lib.Seq.{sets};
 ghost use Rattle.laws.specs.Choice.{pick};
 ghost use Rattle.whole_runs.specs.WholeRuns.{Reachable};
-ghost use Rattle.answers.specs.Codes.{coded};
+ghost use Rattle.listing.specs.answers.Codes.{coded};
 ghost use Rattle.words.specs.Layout.{runOf};
 ghost use Rattle.in_place.specs.Left.{Leaves};
 ghost use Rattle.lemidrosy_replay.specs.Replaying.{replaying};
@@ -61,7 +61,7 @@ pub extern "C" fn lemidrosy_replay(
     if progress.len() < PROGRESS {
         return LIST_TOO_SHORT;
     }
-    let step = replay_in_place::block::replay(words, all, done, records, text);
+    let step = library_replay::block::replay(words, all, done, records, text);
     write_progress(progress, step);
     0
 }

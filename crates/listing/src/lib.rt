@@ -8,6 +8,15 @@ ghost use Rattle.whole_runs.specs.Listing.{decimal, valueText, deletionsText, a
 ghost use Rattle.listing.specs.Lines.{valueIn, replyOf, pairText, refusalLine};
 ghost use Rattle.listing.specs.Printed.{Room, Printed};
 
+// summaries.rt: what a line says of each answer: the number that document 01 gives a refusal, the value, the count of deletions.
+pub mod summaries;
+
+// output.rt: the lines of a listing that belong to no record, and what every line shares: a line printed where there is room for it, the ends of a trace.
+pub mod output;
+
+// answers.rt: an answer as one number of 64 bits, for callers in a language to which no enum can be handed
+pub mod answers;
+
 // No line of a record has more bytes (longestLine in specs/Lines).
 pub const LONGEST_LINE: usize = 3102;
 

@@ -1,3 +1,4 @@
-pub mod Machines
 pub mod Forms
+pub mod Machines
 pub mod Packed
+pub mod programs

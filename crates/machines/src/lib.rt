@@ -11,6 +11,12 @@ pub mod heard;
 // packed.rt: requests and answers as numbers
 pub mod packed;
 
+// replay_input.rt: what a replay is given: the words that its program is started with, and the buffer that the blocks of a trace are read into
+pub mod replay_input;
+
+// programs.rt: what several programs share: the number that a word is, bytes read into a lent buffer, and texts printed into one.
+pub mod programs;
+
 ghost use mathlib.Core.Path.{_≡_};
 ghost use lib.ListN.{length};
 ghost use Rattle.machines.specs.Forms.{goesOn, Placed, Leaves};

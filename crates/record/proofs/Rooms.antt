@@ -4,8 +4,8 @@ use mathlib.Core.Path.{_≡_, refl}
 use mathlib.Core.Bool.{true}
 use Prim.Native.Nat.{ℕ, _≤_}
 use borrow.Author.Tests.{le-leb, eq-eqb}
-use Rattle.record_steps.specs.Played.{blockLines}
-use Rattle.record_steps.specs.Lent.{hasRoom}
+use Rattle.machine_record.specs.Played.{blockLines}
+use Rattle.machine_record.specs.Lent.{hasRoom}
 
 pub has-room : (memory words input out lines : ℕ) → 6 ≤ memory → words ≡ 6464 → 4099 ≤ input → blockLines ≤ out → blockLines ≤ lines → hasRoom memory words input out lines ≡ true
 unfolding hasRoom

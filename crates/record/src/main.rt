@@ -8,8 +8,8 @@ ghost use mathlib.Core.Path.{_≡_};
 ghost use mathlib.Core.Bool.{true};
 ghost use lib.ListN.{length};
 ghost use Rattle.machines.specs.Machines.{Ended};
-ghost use Rattle.record_machine.specs.Machine.{machine};
-ghost use Rattle.record_steps.specs.Lent.{hasRoom, stateOf};
+ghost use Rattle.machine_record.specs.Machine.{machine};
+ghost use Rattle.machine_record.specs.Lent.{hasRoom, stateOf};
 
 // Each request is obeyed, and what came of it handed back, until the machine stops.
 fn drive(
@@ -22,14 +22,14 @@ fn drive(
     requires { ⌜ hasRoom (length (now memory)) (length (now words)) (length (now input)) (length (now out)) (length (now lines)) ≡ true ⌝ }
     ensures { λ r. ⌜ Ended machine (stateOf (now (memory .exit)) (now (words .exit)) (now (input .exit)) (now (out .exit)) (now (lines .exit))) ⌝ }
 {
-    let mut request = record_steps::begin(memory, words, input, out, lines);
+    let mut request = machine_record::begin(memory, words, input, out, lines);
     let mut source = machines::standard_input();
     while machines::goes_on(request) {
         let obeyed = machines::obey(request, source, input, out);
         let answer = obeyed.answer;
         let next = obeyed.source;
         source = next;
-        request = record_steps::step(memory, words, input, out, lines, answer);
+        request = machine_record::step(memory, words, input, out, lines, answer);
     }
     request
 }
@@ -37,8 +37,8 @@ fn drive(
 fn main() {
     let mut memory = [0u64; 6];
     let mut words = [0u16; WORDS];
-    let mut input = [0u8; record_steps::INPUT_SIZE];
-    let mut out = [0u8; record_steps::BLOCK_LINES];
-    let mut lines = [0u8; record_steps::BLOCK_LINES];
+    let mut input = [0u8; machine_record::INPUT_SIZE];
+    let mut out = [0u8; machine_record::BLOCK_LINES];
+    let mut lines = [0u8; machine_record::BLOCK_LINES];
     drive(&mut memory, &mut words, &mut input, &mut out, &mut lines);
 }

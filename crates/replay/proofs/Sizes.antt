@@ -10,8 +10,8 @@ use Rattle.words.specs.Layout.{stateSize}
 use Rattle.machines.specs.declared.Request as requests
 use Rattle.machines.specs.Machines.{Answer, stepped}
 use Rattle.machines.specs.Forms.{Asks}
-use Rattle.replay_machine.specs.Replaying.{State, asks, replaying}
-use Rattle.replay_machine.specs.Standing.{leastInput, enoughRoom}
+use Rattle.machine_replay.specs.Replaying.{State, asks, replaying}
+use Rattle.machine_replay.specs.Standing.{leastInput, enoughRoom}
 
 pub large-enough : (words input out : ℕ) → words ≡ stateSize → leastInput ≤ input → longestLine ≤ out → enoughRoom words input out ≡ true
 unfolding enoughRoom

@@ -9,22 +9,22 @@ ghost use lib.ListN.{length};
 ghost use Rattle.listing.specs.Lines.{longestLine};
 ghost use Rattle.words.specs.Layout.{stateSize};
 ghost use Rattle.machines.specs.Machines.{Ended};
-ghost use Rattle.replay_machine.specs.Replaying.{replaying};
-ghost use Rattle.replay_machine.specs.Standing.{numbers, leastInput, stateOf};
+ghost use Rattle.machine_replay.specs.Replaying.{replaying};
+ghost use Rattle.machine_replay.specs.Standing.{numbers, leastInput, stateOf};
 
 // Each request is obeyed, and what came of it handed back, until the machine stops.
 fn drive(words: &mut [u16], memory: &mut [u64], input: &mut [u8], out: &mut [u8]) -> Request
     requires { ⌜ (numbers ≤ length (now memory)) × (length (now words) ≡ stateSize) × (leastInput ≤ length (now input)) × (longestLine ≤ length (now out)) ⌝ }
     ensures { λ r. ⌜ Ended (replaying (length (now (input .entry))) (length (now (out .entry)))) (stateOf (now (words .exit)) (now (memory .exit)) (now (input .exit)) (now (out .exit))) ⌝ }
 {
-    let mut request = replay_machine::step::begin(words, memory, input, out);
+    let mut request = machine_replay::step::begin(words, memory, input, out);
     let mut source = machines::standard_input();
     while machines::goes_on(request) {
         let obeyed = machines::obey(request, source, input, out);
         let answer = obeyed.answer;
         let next = obeyed.source;
         source = next;
-        request = replay_machine::step::step_reached(words, memory, input, out, answer);
+        request = machine_replay::step::step_reached(words, memory, input, out, answer);
     }
     request
 }

@@ -8,6 +8,9 @@ ghost use lib.ListN.{length};
 ghost use Rattle.model.specs.Trace.{word, fields, ifZero, eventOf, fieldsOf, wordOf, bytesOf};
 ghost use Rattle.trace.specs.Answers.{recordAt, fieldsRead, eventIn, eventRead, recordOf};
 
+// reader.rt: a reader of a trace: "A reader of a trace carries the lent trace together with the count of records taken
+pub mod reader;
+
 // "kind 3 bits, process 4 bits, argument 25 bits": how many arguments there are, how many processes a record can name, which are those of the largest run, and what a
 // kind is worth.
 pub const ARGUMENTS: u32 = 33554432;

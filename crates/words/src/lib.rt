@@ -20,6 +20,12 @@ pub const WORDS: usize = places::CARRIED + places::ROW * MESSAGES;
 // places.rt: where each thing stands
 pub mod places;
 
+// rows.rt: leaves on one process's part of the state, by value: its vector, and the rows as a state holds them
+pub mod rows;
+
+// messages.rt: the messages under way, in 64 places of the words
+pub mod messages;
+
 // What a word of a vector, of an index and of the pins stands for: here alone a number becomes one of these.
 pub fn interval_of(x: u16) -> Interval
     ensures { λ r. ⌜ r ≡ intervalOf x ⌝ }

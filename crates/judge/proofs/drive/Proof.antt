@@ -4,9 +4,9 @@ use mathlib.Core.Path.{_≡_, refl, sym, _∙_}
 use borrow.Author.Needs.{needs}
 use native.Mathlib.Omega.{arith}
 use lib.ListN.{length}
-use Rattle.judge_machine.specs.Words.{stateOf}
-use Rattle.judge_machine.proofs.Ending.{left}
-use Rattle.judge_machine.proofs.Driving.{Driven, driven-first, driven-next, driven-less, driven-ends}
+use Rattle.machine_judge.specs.Words.{stateOf}
+use Rattle.machine_judge.proofs.Ending.{left}
+use Rattle.machine_judge.proofs.Driving.{Driven, driven-first, driven-next, driven-less, driven-ends}
 use Rattle.judge.proofs.drive.Statement.{statement}
 use Rattle.judge.proofs.drive.Tie as tie
 

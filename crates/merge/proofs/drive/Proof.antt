@@ -4,9 +4,9 @@ use mathlib.Core.Path.{_≡_, refl, sym, _∙_}
 use borrow.Author.Needs.{needs}
 use native.Mathlib.Omega.{arith}
 use lib.ListN.{length}
-use Rattle.merge_machine.specs.Words.{stateOf}
-use Rattle.merge_machine.proofs.Ending.{left}
-use Rattle.merge_machine.proofs.Driving.{Driven, driven-first, driven-next, driven-less, driven-ends}
+use Rattle.machine_merge.specs.Words.{stateOf}
+use Rattle.machine_merge.proofs.Ending.{left}
+use Rattle.machine_merge.proofs.Driving.{Driven, driven-first, driven-next, driven-less, driven-ends}
 use Rattle.merge.proofs.drive.Statement.{statement}
 use Rattle.merge.proofs.drive.Tie as tie
 

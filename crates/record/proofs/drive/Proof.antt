@@ -2,9 +2,9 @@
 use mathlib.Core.Path.{_≡_, refl, sym, _∙_}
 use native.Mathlib.Omega.{arith}
 use lib.ListN.{length}
-use Rattle.record_steps.specs.Lent.{stateOf}
-use Rattle.record_steps.proofs.Stepping.{room-kept}
-use Rattle.record_steps.proofs.Driving.{left, Driven, driven-first, driven-next, driven-less, driven-ends}
+use Rattle.machine_record.specs.Lent.{stateOf}
+use Rattle.machine_record.proofs.Stepping.{room-kept}
+use Rattle.machine_record.proofs.Driving.{left, Driven, driven-first, driven-next, driven-less, driven-ends}
 use borrow.Author.Needs.{needs}
 use Rattle.record.proofs.drive.Statement.{statement}
 use Rattle.record.proofs.drive.Tie as tie

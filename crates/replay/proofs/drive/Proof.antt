@@ -3,9 +3,9 @@
 use mathlib.Core.Path.{_≡_, refl, sym, _∙_}
 use borrow.Author.Needs.{needs}
 use lib.ListN.{length}
-use Rattle.replay_machine.specs.Standing.{stateOf}
-use Rattle.replay_machine.proofs.Ending.{left}
-use Rattle.replay_machine.proofs.Driving.{Driven, driven-first, driven-next, driven-less, driven-ends, still-from-start}
+use Rattle.machine_replay.specs.Standing.{stateOf}
+use Rattle.machine_replay.proofs.Ending.{left}
+use Rattle.machine_replay.proofs.Driving.{Driven, driven-first, driven-next, driven-less, driven-ends, still-from-start}
 use Rattle.replay.proofs.Sizes.{large-enough, stepped-alike, asks-alike}
 use Rattle.replay.proofs.drive.Statement.{statement}
 use Rattle.replay.proofs.drive.Tie as tie

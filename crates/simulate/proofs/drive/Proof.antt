@@ -4,9 +4,9 @@ use mathlib.Core.Path.{_≡_, refl, sym, _∙_}
 use borrow.Author.Needs.{needs}
 use native.Mathlib.Omega.{arith}
 use lib.ListN.{length}
-use Rattle.simulate_machine.specs.Words.{stateOf}
-use Rattle.simulate_machine.proofs.Ending.{left}
-use Rattle.simulate_machine.proofs.Driving.{Driven, driven-first, driven-next, driven-less, driven-ends}
+use Rattle.machine_simulate.specs.Words.{stateOf}
+use Rattle.machine_simulate.proofs.Ending.{left}
+use Rattle.machine_simulate.proofs.Driving.{Driven, driven-first, driven-next, driven-less, driven-ends}
 use Rattle.simulate.proofs.drive.Statement.{statement}
 use Rattle.simulate.proofs.drive.Tie as tie
 

@@ -9,7 +9,7 @@ use borrow.Author.Needs.{needs}
 use borrow.Author.Tests.{ltb-false}
 use Rattle.words.specs.Layout.{countOf}
 use Rattle.words.proofs.ViewSound.{sound-words}
-use Rattle.message_words.specs.Places.{placeOf}
+use Rattle.words.specs.messages.Places.{placeOf}
 use Rattle.in_place.proofs.Losing.{nothing, there, its-number}
 use Rattle.in_place.proofs.Receiving.{list-short, not-under-way, renumbered}
 use Rattle.in_place.proofs.deliver.deliver_on.Statement.{statement}

@@ -12,7 +12,7 @@ use Rattle.whole_runs.specs.Outcomes.{loseOutcome}
 use Rattle.words.specs.Layout.{runOf}
 use Rattle.in_place.specs.Left.{Leaves}
 use Rattle.words.proofs.ViewSound.{sound-words}
-use Rattle.message_words.specs.Places.{placeOf, takenOut}
+use Rattle.words.specs.messages.Places.{placeOf, takenOut}
 use Rattle.in_place.proofs.Leaving.{same-words}
 use Rattle.in_place.proofs.Losing.{nothing, there, lose-refused, lose-accepted, place-in, one-there, taken-leaves}
 use Rattle.in_place.proofs.lose.lose_on.Statement.{statement}

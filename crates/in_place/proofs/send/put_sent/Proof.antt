@@ -11,7 +11,7 @@ use Rattle.words.specs.Layout.{word, wide2, markAt, partAt, vectorIn}
 use Rattle.words.specs.Puts.{puts, one, puts2}
 use Rattle.words.proofs.Reading.{set-is-put}
 use Rattle.words.proofs.ViewSound.{sound-words}
-use Rattle.message_words.specs.Places.{withRoom, putLast}
+use Rattle.words.specs.messages.Places.{withRoom, putLast}
 use Rattle.in_place.specs.Sending.{sentIn, sentWords}
 use Rattle.in_place.proofs.Sending.{EnoughRoom, with-room}
 use Rattle.in_place.proofs.send.put_sent.Statement.{statement}

@@ -5,7 +5,7 @@ use borrow.Author.Needs.{needs}
 use Rattle.words.specs.Layout.{runOf}
 use Rattle.whole_runs.proofs.Unsound.{is-sound, is-unsound, earliest-unsound}
 use Rattle.whole_runs.proofs.WholeRuns.{earliest-promise}
-use Rattle.line_words.specs.Through.{namedIn}
+use Rattle.words_line.specs.Through.{namedIn}
 use Rattle.in_place.proofs.through.earliest.Statement.{statement}
 use Rattle.in_place.proofs.through.earliest.Tie as tie
 

@@ -11,8 +11,8 @@ use Rattle.laws.specs.Search.{anyBelow}
 use Rattle.whole_runs.specs.Earliest.{someAbsent, unfit}
 use Rattle.words.specs.Layout.{countOf}
 use Rattle.words.proofs.ViewSound.{sound-words}
-use Rattle.line_words.specs.Through.{processOf, namedIn, twiceIn}
-use Rattle.line_words.proofs.Reaching.{pairs-fit, absent-is, unfit-is}
+use Rattle.words_line.specs.Through.{processOf, namedIn, twiceIn}
+use Rattle.words_line.proofs.Reaching.{pairs-fit, absent-is, unfit-is}
 use Rattle.in_place.proofs.Reached.{refused, reach-short, reach-absent, reach-unfit, same-run}
 use Rattle.in_place.proofs.through.earliest_on.Statement.{statement}
 use Rattle.in_place.proofs.through.earliest_on.Tie as tie

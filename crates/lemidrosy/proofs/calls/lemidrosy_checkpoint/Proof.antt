@@ -1,8 +1,8 @@
 -- `lemidrosy::calls::lemidrosy_checkpoint` meets its contract. Assumes nothing.
 use mathlib.Core.Path.{_≡_, _∙_, ap}
 use borrow.Author.Needs.{needs}
-use Rattle.answers.specs.Codes.{checkpointCode}
-use Rattle.answers.proofs.Fit.{checkpoint-fits}
+use Rattle.listing.specs.answers.Codes.{checkpointCode}
+use Rattle.listing.proofs.answers.Fit.{checkpoint-fits}
 use Rattle.words.specs.Layout.{runOf}
 use Rattle.lemidrosy.proofs.calls.lemidrosy_checkpoint.Statement.{statement}
 use Rattle.lemidrosy.proofs.calls.lemidrosy_checkpoint.Tie as tie

@@ -1,8 +1,8 @@
 -- `lemidrosy::calls::lemidrosy_deliver` meets its contract. Assumes nothing.
 use mathlib.Core.Path.{_≡_, _∙_}
 use borrow.Author.Needs.{needs}
-use Rattle.answers.specs.Codes.{deliverCode}
-use Rattle.answers.proofs.Fit.{deliver-fits}
+use Rattle.listing.specs.answers.Codes.{deliverCode}
+use Rattle.listing.proofs.answers.Fit.{deliver-fits}
 use Rattle.words.specs.Layout.{runOf}
 use Rattle.lemidrosy.proofs.calls.lemidrosy_deliver.Statement.{statement}
 use Rattle.lemidrosy.proofs.calls.lemidrosy_deliver.Tie as tie

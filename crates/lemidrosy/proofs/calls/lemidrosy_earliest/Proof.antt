@@ -1,10 +1,10 @@
 -- `lemidrosy::calls::lemidrosy_earliest` meets its contract. Assumes nothing.
 use mathlib.Core.Path.{_≡_, _∙_, ap}
 use borrow.Author.Needs.{needs}
-use Rattle.answers.specs.Codes.{lineCode}
-use Rattle.answers.proofs.Fit.{earliest-fits}
+use Rattle.listing.specs.answers.Codes.{lineCode}
+use Rattle.listing.proofs.answers.Fit.{earliest-fits}
 use Rattle.words.specs.Layout.{runOf}
-use Rattle.line_words.specs.Through.{namedIn}
+use Rattle.words_line.specs.Through.{namedIn}
 use Rattle.lemidrosy.proofs.calls.lemidrosy_earliest.Statement.{statement}
 use Rattle.lemidrosy.proofs.calls.lemidrosy_earliest.Tie as tie
 

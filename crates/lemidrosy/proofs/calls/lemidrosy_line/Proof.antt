@@ -1,8 +1,8 @@
 -- `lemidrosy::calls::lemidrosy_line` meets its contract. Assumes nothing.
 use mathlib.Core.Path.{_≡_, _∙_, ap}
 use borrow.Author.Needs.{needs}
-use Rattle.answers.specs.Codes.{lineCode}
-use Rattle.answers.proofs.Fit.{line-fits}
+use Rattle.listing.specs.answers.Codes.{lineCode}
+use Rattle.listing.proofs.answers.Fit.{line-fits}
 use Rattle.words.specs.Layout.{runOf}
 use Rattle.lemidrosy.proofs.calls.lemidrosy_line.Statement.{statement}
 use Rattle.lemidrosy.proofs.calls.lemidrosy_line.Tie as tie

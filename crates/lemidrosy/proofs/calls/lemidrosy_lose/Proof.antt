@@ -1,8 +1,8 @@
 -- `lemidrosy::calls::lemidrosy_lose` meets its contract. Assumes nothing.
 use mathlib.Core.Path.{_≡_, _∙_, ap}
 use borrow.Author.Needs.{needs}
-use Rattle.answers.specs.Codes.{loseCode}
-use Rattle.answers.proofs.Fit.{lose-fits}
+use Rattle.listing.specs.answers.Codes.{loseCode}
+use Rattle.listing.proofs.answers.Fit.{lose-fits}
 use Rattle.words.specs.Layout.{runOf}
 use Rattle.lemidrosy.proofs.calls.lemidrosy_lose.Statement.{statement}
 use Rattle.lemidrosy.proofs.calls.lemidrosy_lose.Tie as tie

@@ -1,8 +1,8 @@
 -- `lemidrosy::calls::lemidrosy_recover` meets its contract. Assumes nothing.
 use mathlib.Core.Path.{refl, _∙_, ap}
 use borrow.Author.Needs.{needs}
-use Rattle.answers.specs.Codes.{recoverCode}
-use Rattle.answers.proofs.Fit.{recover-fits}
+use Rattle.listing.specs.answers.Codes.{recoverCode}
+use Rattle.listing.proofs.answers.Fit.{recover-fits}
 use Rattle.whole_runs.proofs.Sweep.{sweep-promise}
 use Rattle.words.specs.Layout.{runOf}
 use Rattle.lemidrosy.proofs.calls.lemidrosy_recover.Statement.{statement}

@@ -1,8 +1,8 @@
 -- `lemidrosy::calls::lemidrosy_send` meets its contract. Assumes nothing.
 use mathlib.Core.Path.{_≡_, _∙_, ap}
 use borrow.Author.Needs.{needs}
-use Rattle.answers.specs.Codes.{sendCode}
-use Rattle.answers.proofs.Fit.{send-fits}
+use Rattle.listing.specs.answers.Codes.{sendCode}
+use Rattle.listing.proofs.answers.Fit.{send-fits}
 use Rattle.words.specs.Layout.{runOf}
 use Rattle.lemidrosy.proofs.calls.lemidrosy_send.Statement.{statement}
 use Rattle.lemidrosy.proofs.calls.lemidrosy_send.Tie as tie

@@ -2,7 +2,7 @@
 use mathlib.Core.Path.{_≡_, _∙_, ap}
 use lib.ListN.{length}
 use borrow.Author.Needs.{needs}
-use Rattle.answers.specs.Codes.{startCode}
+use Rattle.listing.specs.answers.Codes.{startCode}
 use Rattle.lemidrosy.proofs.Starting.{start-fits}
 use Rattle.lemidrosy.proofs.calls.lemidrosy_start.Statement.{statement}
 use Rattle.lemidrosy.proofs.calls.lemidrosy_start.Tie as tie

@@ -1,7 +1,7 @@
 -- `lemidrosy::console::lemidrosy_console_checkpoint` meets its contract. Assumes nothing.
 use mathlib.Core.Path.{_≡_, _∙_, ap}
 use borrow.Author.Needs.{needs}
-use Rattle.answers.specs.Codes.{checkpointCode}
+use Rattle.listing.specs.answers.Codes.{checkpointCode}
 use Rattle.words.specs.Layout.{runOf}
 use Rattle.lemidrosy.proofs.Consoles.{checkpoint-as-fits}
 use Rattle.lemidrosy.proofs.console.lemidrosy_console_checkpoint.Statement.{statement}

@@ -1,7 +1,7 @@
 -- `lemidrosy::console::lemidrosy_console_counts` meets its contract. Assumes nothing.
 use mathlib.Core.Path.{_≡_, _∙_, ap}
 use borrow.Author.Needs.{needs}
-use Rattle.answers.specs.Codes.{lineCode}
+use Rattle.listing.specs.answers.Codes.{lineCode}
 use Rattle.words.specs.Layout.{runOf}
 use Rattle.lemidrosy.proofs.Consoles.{counts-as-fits}
 use Rattle.lemidrosy.proofs.console.lemidrosy_console_counts.Statement.{statement}

@@ -1,7 +1,7 @@
 -- `lemidrosy::console::lemidrosy_console_lose` meets its contract. Assumes nothing.
 use mathlib.Core.Path.{_≡_, _∙_, ap}
 use borrow.Author.Needs.{needs}
-use Rattle.answers.specs.Codes.{loseCode}
+use Rattle.listing.specs.answers.Codes.{loseCode}
 use Rattle.words.specs.Layout.{runOf}
 use Rattle.lemidrosy.proofs.Consoles.{lose-as-fits}
 use Rattle.lemidrosy.proofs.console.lemidrosy_console_lose.Statement.{statement}

@@ -1,7 +1,7 @@
 -- `lemidrosy::console::lemidrosy_console_send` meets its contract. Assumes nothing.
 use mathlib.Core.Path.{_≡_, _∙_, ap}
 use borrow.Author.Needs.{needs}
-use Rattle.answers.specs.Codes.{sendCode}
+use Rattle.listing.specs.answers.Codes.{sendCode}
 use Rattle.words.specs.Layout.{runOf}
 use Rattle.lemidrosy.proofs.Consoles.{send-as-fits}
 use Rattle.lemidrosy.proofs.console.lemidrosy_console_send.Statement.{statement}

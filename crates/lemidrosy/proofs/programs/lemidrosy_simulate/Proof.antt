@@ -7,10 +7,10 @@ use lib.ListN.{length}
 use borrow.Author.Needs.{needs}
 use borrow.Author.Tests.{lt-ltb, le-ltb}
 use Rattle.model.specs.Refusals.{number}
-use Rattle.answers.specs.Codes.{coded, valueCode}
-use Rattle.spacing.specs.declared.TrialResult.{TrialResult}
-use Rattle.spacing.specs.Spacing.{simulated, TrialsAgree}
-use Rattle.spacing.proofs.Agreement.{trials-agree}
+use Rattle.listing.specs.answers.Codes.{coded, valueCode}
+use Rattle.theory_recording.specs.declared.spacing.TrialResult.{TrialResult}
+use Rattle.theory_recording.specs.spacing.Spacing.{simulated, TrialsAgree}
+use Rattle.theory_recording.proofs.spacing.Agreement.{trials-agree}
 use Rattle.lemidrosy.specs.Programs.{figuresWritten, simulation}
 use Rattle.lemidrosy.proofs.programs.lemidrosy_simulate.Statement.{statement}
 use Rattle.lemidrosy.proofs.programs.lemidrosy_simulate.Tie as tie

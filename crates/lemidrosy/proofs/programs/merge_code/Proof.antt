@@ -4,8 +4,8 @@ use native.Mathlib.Omega.{arith}
 use borrow.Author.Needs.{needs}
 use Rattle.listing.specs.Lines.{valueIn}
 use Rattle.listing.specs.Summarised.{reportIn}
-use Rattle.answers.specs.Codes.{coded, valueCode}
-use Rattle.merges.specs.Merge.{mergeReport}
+use Rattle.listing.specs.answers.Codes.{coded, valueCode}
+use Rattle.theory_merges.specs.Merge.{mergeReport}
 use Rattle.lemidrosy.proofs.programs.merge_code.Statement.{statement}
 use Rattle.lemidrosy.proofs.programs.merge_code.Tie as tie
 

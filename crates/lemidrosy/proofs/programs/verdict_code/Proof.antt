@@ -5,9 +5,9 @@ use Prim.Native.Nat.{ℕ, _<_}
 use native.Mathlib.Omega.{arith}
 use borrow.Author.Needs.{needs}
 use Rattle.model.specs.declared.CheckpointIndex.{CheckpointIndex}
-use Rattle.patterns.specs.declared.Verdict.{Verdict}
-use Rattle.patterns.specs.declared.Verdict.the-variants.{Breaks}
-use Rattle.patterns.specs.Verdicts.{judgeReport}
+use Rattle.theory_patterns.specs.declared.Verdict.{Verdict}
+use Rattle.theory_patterns.specs.declared.Verdict.the-variants.{Breaks}
+use Rattle.theory_patterns.specs.Verdicts.{judgeReport}
 use Rattle.lemidrosy.specs.Programs.{pairCode, judgeCoded, PairFits}
 use Rattle.lemidrosy.proofs.programs.verdict_code.Statement.{statement}
 use Rattle.lemidrosy.proofs.programs.verdict_code.Tie as tie

@@ -4,7 +4,7 @@ use Prim.Native.Nat.{ℕ}
 use native.Mathlib.Omega.{arith}
 use lib.ListN.{length-set}
 use borrow.Author.Needs.{needs}
-use Rattle.answers.specs.Codes.{coded, valueCode}
+use Rattle.listing.specs.answers.Codes.{coded, valueCode}
 use Rattle.lemidrosy.specs.Programs.{figuresAfter}
 use Rattle.lemidrosy.proofs.programs.write_figures.Statement.{statement}
 use Rattle.lemidrosy.proofs.programs.write_figures.Tie as tie

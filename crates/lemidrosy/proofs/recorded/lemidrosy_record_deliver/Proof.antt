@@ -3,7 +3,7 @@
 use mathlib.Core.Path.{refl, _∙_, ap}
 use lib.ListN.{getD, set}
 use borrow.Author.Needs.{needs}
-use Rattle.answers.specs.Codes.{deliverCode}
+use Rattle.listing.specs.answers.Codes.{deliverCode}
 use Rattle.words.specs.Layout.{runOf}
 use Rattle.in_place.proofs.Leaving.{same-words}
 use Rattle.lemidrosy.proofs.Recording.{deliver-none, deliver-some, deliver-three, deliver-recorded-fits}

@@ -3,9 +3,9 @@
 use mathlib.Core.Path.{_∙_, ap}
 use lib.ListN.{getD, set}
 use borrow.Author.Needs.{needs}
-use Rattle.answers.specs.Codes.{lineCode}
+use Rattle.listing.specs.answers.Codes.{lineCode}
 use Rattle.words.specs.Layout.{runOf}
-use Rattle.line_words.specs.Through.{namedIn}
+use Rattle.words_line.specs.Through.{namedIn}
 use Rattle.lemidrosy.proofs.Recording.{earliest-none, earliest-some, line-three, earliest-recorded-fits}
 use Rattle.lemidrosy.proofs.recorded.lemidrosy_record_earliest.Statement.{statement}
 use Rattle.lemidrosy.proofs.recorded.lemidrosy_record_earliest.Tie as tie

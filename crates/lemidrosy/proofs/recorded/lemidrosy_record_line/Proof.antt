@@ -3,7 +3,7 @@
 use mathlib.Core.Path.{_∙_, ap}
 use lib.ListN.{getD, set}
 use borrow.Author.Needs.{needs}
-use Rattle.answers.specs.Codes.{lineCode}
+use Rattle.listing.specs.answers.Codes.{lineCode}
 use Rattle.words.specs.Layout.{runOf}
 use Rattle.lemidrosy.proofs.Recording.{line-none, line-some, line-three, line-recorded-fits}
 use Rattle.lemidrosy.proofs.recorded.lemidrosy_record_line.Statement.{statement}

@@ -3,7 +3,7 @@
 use mathlib.Core.Path.{refl, _∙_, ap}
 use lib.ListN.{getD, set}
 use borrow.Author.Needs.{needs}
-use Rattle.answers.specs.Codes.{loseCode}
+use Rattle.listing.specs.answers.Codes.{loseCode}
 use Rattle.words.specs.Layout.{runOf}
 use Rattle.in_place.proofs.Leaving.{same-words}
 use Rattle.lemidrosy.proofs.Recording.{lose-none, lose-some, lose-three, lose-recorded-fits}

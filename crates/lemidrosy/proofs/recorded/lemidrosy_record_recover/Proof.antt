@@ -3,7 +3,7 @@
 use mathlib.Core.Path.{refl, _∙_, ap}
 use lib.ListN.{getD, set}
 use borrow.Author.Needs.{needs}
-use Rattle.answers.specs.Codes.{recoverCode}
+use Rattle.listing.specs.answers.Codes.{recoverCode}
 use Rattle.words.specs.Layout.{runOf}
 use Rattle.in_place.proofs.Leaving.{same-words}
 use Rattle.lemidrosy.proofs.Recording.{recover-none, recover-some, recover-three, recover-recorded-fits}

@@ -4,7 +4,7 @@ use mathlib.Core.Path.{_∙_, ap}
 use native.Mathlib.Omega.{arith}
 use lib.ListN.{length, getD, set}
 use borrow.Author.Needs.{needs}
-use Rattle.answers.specs.Codes.{startCode}
+use Rattle.listing.specs.answers.Codes.{startCode}
 use Rattle.lemidrosy.proofs.Recording.{start-none, start-some, start-three, start-recorded-fits, words-none, words-some}
 use Rattle.lemidrosy.proofs.recorded.lemidrosy_record_start.Statement.{statement}
 use Rattle.lemidrosy.proofs.recorded.lemidrosy_record_start.Tie as tie

@@ -1,4 +1,0 @@
--- Laws that belong to no one function.
-pub mod Lines
-pub mod Ending
-pub mod Theorem

@@ -1,9 +1,0 @@
-pub mod Parts
-pub mod Replying
-pub mod Starting
-pub mod Lists
-pub mod Marking
-pub mod Arriving
-pub mod Leading
-pub mod Stepping
-pub mod Driving

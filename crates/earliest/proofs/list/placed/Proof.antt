@@ -1,9 +1,0 @@
--- `earliest::list::placed` meets its contract.
--- Assumes nothing.
-use borrow.Author.Needs.{needs}
-use borrow.Author.Tests.{lt-ltb, le-ltb}
-use Rattle.earliest.proofs.list.placed.Statement.{statement}
-use Rattle.earliest.proofs.list.placed.Tie as tie
-
-pub placed-spec : {M : Type 1} → statement M
-placed-spec = tie.close (tie.spec (λ c. search needs) (λ c. search needs) (λ c. rw (lt-ltb _ _ (c .if1 .taken))) (λ c. rw (le-ltb _ _ (c .if1 .left))))

@@ -1,0 +1,37 @@
+-- `library_calls::run_words::read::marks_of` meets its contract. Assumes nothing.
+use Prim.Native.Nat.{_≤_, _-_}
+use mathlib.Core.Path.{_≡_, refl, _∙_}
+use native.Mathlib.Omega.{arith}
+use Rattle.laws.specs.Loops.{setBelow, below-none, step-set}
+use Rattle.words.specs.Layout.{markIn}
+use mathlib.Core.Bool.{false}
+use Rattle.library_calls.proofs.run_words.Tables.{rows-of}
+use borrow.Author.Needs.{needs}
+use Rattle.library_calls.proofs.run_words.read.marks_of.Statement.{statement}
+use Rattle.library_calls.proofs.run_words.read.marks_of.Tie as tie
+
+abbrev Inv-loop : tie.InvT-loop
+Inv-loop w n sent₀ p₀ sent p = (p ≤ n) × (sent ≡ setBelow p (markIn w) sent₀)
+
+abbrev μ-loop : tie.MeasureT-loop
+μ-loop w n sent₀ p₀ sent p = n - p
+
+loop-again : tie.Need-loop-again Inv-loop μ-loop
+unfolding markIn
+loop-again c =
+    let l = c .before .before .loop in
+    let a = c .before .before .before .args in
+    (search needs, step-set (markIn (a .w .now)) _ (l .sent) (l .p) (l .inv .1) _ refl)
+
+returns : tie.Need-returns Inv-loop μ-loop
+returns c =
+    let l = c .before .loop in
+    let s = c .before .before in
+    let e : l .p ≡ s .args .n = omega arith in
+    rw e at (l .inv .1) ∙ rows-of (s .args .w .now) (s .args .n) (markIn (s .args .w .now)) false (s .pre .1) (s .pre .2)
+
+pub marks-of-spec : {M : Type 1} → statement M
+marks-of-spec =
+    tie.close
+    (tie.spec Inv-loop μ-loop (λ c. (search needs, below-none _ _)) (λ c. search needs) (λ c. search needs) (λ c. search needs) (λ c. search needs)
+    (λ c. search needs) (λ c. search needs) loop-again returns)

@@ -1,0 +1,42 @@
+-- `library_calls::run_words::read::pins_of` meets its contract. Assumes nothing.
+use Prim.Native.Nat.{_≤_, _-_}
+use mathlib.Core.Path.{_≡_, ap, _∙_}
+use mathlib.Core.List.{List}
+use native.Mathlib.Omega.{arith}
+use lib.ListN.{replicate}
+use Rattle.laws.specs.Loops.{setBelow, below-none, step-set}
+use Rattle.words.specs.Layout.{pinsAt, pinsIn}
+use Rattle.model.specs.declared.Pin.{Pin}
+use Rattle.model.specs.Words.{noPins}
+use Rattle.library_calls.proofs.run_words.Tables.{rows-of}
+use borrow.Author.Needs.{needs}
+use Rattle.library_calls.proofs.run_words.read.pins_of.Statement.{statement}
+use Rattle.library_calls.proofs.run_words.read.pins_of.Tie as tie
+
+abbrev Inv-loop : tie.InvT-loop
+Inv-loop w n pins₀ p₀ pins p = (p ≤ n) × (pins ≡ setBelow p (λ q. pinsIn w (pinsAt q)) pins₀)
+
+abbrev μ-loop : tie.MeasureT-loop
+μ-loop w n pins₀ p₀ pins p = n - p
+
+loop-again : tie.Need-loop-again Inv-loop μ-loop
+loop-again c =
+    let l = c .before .before .loop in
+    let a = c .before .before .before .before .before .args in
+    (search needs, step-set (λ q. pinsIn (a .w .now) (pinsAt q)) _ (l .pins) (l .p) (l .inv .1) _ (c .pins-at .ensures))
+
+returns : tie.Need-returns Inv-loop μ-loop
+returns c =
+    let l = c .before .loop in
+    let z = c .before .before in
+    let s = z .before .before in
+    let e : l .p ≡ s .args .n = omega arith in
+    rw e at (l .inv .1)
+    ∙ ap (λ (v : List Pin). setBelow (s .args .n) (λ q. pinsIn (s .args .w .now) (pinsAt q)) (replicate 16 v)) (z .no-pins .ensures)
+    ∙ rows-of (s .args .w .now) (s .args .n) (λ q. pinsIn (s .args .w .now) (pinsAt q)) noPins (s .pre .1) (s .pre .2)
+
+pub pins-of-spec : {M : Type 1} → statement M
+pins-of-spec =
+    tie.close
+    (tie.spec Inv-loop μ-loop (λ c κs. search needs) (λ c. (search needs, below-none _ _)) (λ c. search needs) (λ c. search needs) (λ c κs. search needs)
+    (λ c. search needs) (λ c. search needs) (λ c. search needs) (λ c. search needs) loop-again returns)

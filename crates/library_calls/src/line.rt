@@ -1,0 +1,35 @@
+// The line, by value.
+use model::LineAnswer;
+use model::Refusal;
+use model::Run;
+use words::WORDS;
+ghost use mathlib.Core.Path.{_≡_};
+ghost use Rattle.whole_runs.specs.Outcomes.{lineOutcome};
+ghost use Rattle.whole_runs.specs.WholeRuns.{LinePromise};
+ghost use Rattle.whole_runs.specs.Sweep.{EmptyLinePromise};
+
+pub struct LineOutcome {
+    pub run: Run,
+    pub answer: LineAnswer,
+}
+
+// The line for a failed set, bit p of which stands for process p: its indexes go to the front of the lent list. Nothing else changes.
+// Wherever calls from an accepted start led to s, the line is right, and so is what s keeps (demand 3). Wherever s is sound, the line for the empty set has every
+// process live (Note 4).
+pub fn line(s: Run, failed: u16, line: &mut [u16]) -> LineOutcome
+    ensures { λ r. ⌜ r .run ≡ lineOutcome s failed (now (line .entry)) .run ⌝ }
+    ensures { λ r. ⌜ r .answer ≡ lineOutcome s failed (now (line .entry)) .answer ⌝ }
+    ensures { λ r. ⌜ now (line .exit) ≡ lineOutcome s failed (now (line .entry)) .line ⌝ }
+    ensures { λ r. ⌜ LinePromise s failed ⌝ }
+    ensures { λ r. ⌜ EmptyLinePromise s failed (now (line .entry)) (r .answer) (now (line .exit)) ⌝ }
+{
+    let mut w = [0u16; WORDS];
+    let fit = crate::run_words::fill::fill(&mut w, s);
+    let sound = super::judged::is_sound(&w, fit);
+    if !sound {
+        let answer = LineAnswer::Refused(Refusal::UnsoundState);
+        return LineOutcome { run: s, answer };
+    }
+    let answer = in_place::line::line_on(&w, failed as u32, line);
+    LineOutcome { run: s, answer }
+}

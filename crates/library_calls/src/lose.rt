@@ -1,0 +1,38 @@
+// Lose, by value.
+use model::LoseAnswer;
+use model::Refusal;
+use model::Run;
+use words::WORDS;
+ghost use mathlib.Core.Path.{_≡_};
+ghost use Rattle.whole_runs.specs.Outcomes.{loseOutcome};
+ghost use Rattle.whole_runs.specs.Calls as made;
+ghost use Rattle.whole_runs.specs.WholeRuns.{StatePromise};
+
+pub struct LoseOutcome {
+    pub run: Run,
+    pub answer: LoseAnswer,
+}
+
+// Message m is lost.
+// Wherever calls from an accepted start led to s, what the returned state keeps and its blocks are right (demand 3).
+pub fn lose(s: Run, m: u32) -> LoseOutcome
+    ensures { λ r. ⌜ r .run ≡ loseOutcome s m .run ⌝ }
+    ensures { λ r. ⌜ r .answer ≡ loseOutcome s m .answer ⌝ }
+    ensures { λ r. ⌜ StatePromise s (made.lose m) (r .run) ⌝ }
+{
+    let mut w = [0u16; WORDS];
+    let fit = crate::run_words::fill::fill(&mut w, s);
+    let sound = super::judged::is_sound(&w, fit);
+    if !sound {
+        let answer = LoseAnswer::Refused(Refusal::UnsoundState);
+        return LoseOutcome { run: s, answer };
+    }
+    let answer = in_place::lose::lose_on(&mut w, m);
+    match answer {
+        LoseAnswer::Refused(_) => LoseOutcome { run: s, answer },
+        LoseAnswer::Lost => {
+            let run = crate::run_words::read::read_lost(&w, s);
+            LoseOutcome { run, answer }
+        }
+    }
+}

@@ -1,0 +1,46 @@
+// The recovery of a failed set, and the sweep, by value.
+use model::RecoverAnswer;
+use model::Refusal;
+use model::Run;
+use words::WORDS;
+ghost use mathlib.Core.Path.{_≡_};
+ghost use Rattle.whole_runs.specs.Outcomes.{recoverOutcome};
+ghost use Rattle.whole_runs.specs.Calls as made;
+ghost use Rattle.whole_runs.specs.Clean.{CleanPromise};
+ghost use Rattle.whole_runs.specs.Sweep.{SweepPromise};
+ghost use Rattle.whole_runs.specs.WholeRuns.{LinePromise, StatePromise};
+
+pub struct RecoverOutcome {
+    pub run: Run,
+    pub answer: RecoverAnswer,
+}
+
+// Every process goes back to the line for a failed set: its indexes go to the front of the one lent list, what is deleted to the front of the other.
+// Wherever calls from an accepted start led to s, the line is right, and so is what s and the returned state keep (demand 3); if the call is accepted,
+// the returned state keeps a checkpoint exactly if some failure would use it (Note 6). Wherever s is sound, a recovery for the empty set rolls nobody back (Note 4).
+pub fn recover(s: Run, failed: u16, deleted: &mut [u16], line: &mut [u16]) -> RecoverOutcome
+    ensures { λ r. ⌜ r .run ≡ recoverOutcome s failed (now (deleted .entry)) (now (line .entry)) .run ⌝ }
+    ensures { λ r. ⌜ r .answer ≡ recoverOutcome s failed (now (deleted .entry)) (now (line .entry)) .answer ⌝ }
+    ensures { λ r. ⌜ now (deleted .exit) ≡ recoverOutcome s failed (now (deleted .entry)) (now (line .entry)) .deleted ⌝ }
+    ensures { λ r. ⌜ now (line .exit) ≡ recoverOutcome s failed (now (deleted .entry)) (now (line .entry)) .line ⌝ }
+    ensures { λ r. ⌜ LinePromise s failed ⌝ }
+    ensures { λ r. ⌜ StatePromise s (made.recover failed (now (deleted .entry)) (now (line .entry))) (r .run) ⌝ }
+    ensures { λ r. ⌜ CleanPromise s failed (now (deleted .entry)) (now (line .entry)) (r .run) ⌝ }
+    ensures { λ r. ⌜ SweepPromise s failed (now (deleted .entry)) (now (line .entry)) (r .answer) (now (line .exit)) (r .run) ⌝ }
+{
+    let mut w = [0u16; WORDS];
+    let fit = crate::run_words::fill::fill(&mut w, s);
+    let sound = super::judged::is_sound(&w, fit);
+    if !sound {
+        let answer = RecoverAnswer::Refused(Refusal::UnsoundState);
+        return RecoverOutcome { run: s, answer };
+    }
+    let answer = in_place_recover::recover_on(&mut w, failed as u32, deleted, line);
+    match answer {
+        RecoverAnswer::Refused(_) => RecoverOutcome { run: s, answer },
+        RecoverAnswer::Recovered(_, _) => {
+            let run = crate::run_words::read::read(&w);
+            RecoverOutcome { run, answer }
+        }
+    }
+}

@@ -1,0 +1,101 @@
+-- What is shown of words: a line, by the cases of who asks, and the counts, which are refused with 2 or 3 or written.
+-- Assumes nothing.
+use mathlib.Core.Path.{_≡_, refl, sym, _∙_, ap}
+use mathlib.Core.Bool.{Bool, true, false, not}
+use mathlib.Core.List.{List, []}
+use Prim.Native.Nat.{ℕ, _+_, _≤_, _<_}
+use native.Mathlib.Omega.{arith}
+use lib.Dec.{ltb}
+use lib.ListN.{length}
+use lib.Seq.{sets}
+use Rattle.laws.specs.Choice.{pick, by-bool}
+use Rattle.laws.specs.Lists.{table}
+use Rattle.laws.specs.Tables.{table-same}
+use Rattle.model.specs.declared.Run.{Run}
+use Rattle.model.specs.declared.Refusal.the-variants.{Denied, UnsoundState, ListTooShort}
+use Rattle.model.specs.declared.LineAnswer.{LineAnswer}
+use Rattle.model.specs.declared.LineAnswer.the-variants.{Refused, Written}
+use Rattle.model.specs.Words.{process}
+use Rattle.model.specs.Sound.{sound}
+use Rattle.model.specs.Refusals.{firstOf}
+use Rattle.whole_runs.specs.Outcomes.{Outcome, judged, lineOutcome}
+use Rattle.words.specs.Layout.{word, keptCountAt, runOf}
+use Rattle.words.proofs.View.{count-is, process-is, kept-count}
+use Rattle.words.proofs.ViewSound.{sound-words, sound-part}
+use Rattle.library_readers.specs.Written.{wordsFrom}
+use Rattle.theory_roles.specs.declared.Role.{Role}
+use Rattle.theory_roles.specs.declared.Caller.{Caller}
+use Rattle.theory_roles.specs.declared.Operation.the-variants.{Line, Counts}
+use Rattle.theory_roles.specs.Console.{may, denied, denial, shown, consoleLine, consoleCounts, countsRefusal, keptCounts}
+use Rattle.library_console.specs.declared.denied.Claim.{Claim}
+use Rattle.library_console.specs.declared.denied.Claim.the-variants.{Unknown, As}
+use Rattle.library_console.specs.Asked.{claimOf, asked, deniedAs, lineAs, countsAs}
+use Rattle.library_console.proofs.Asking.{asked-denied, asked-made}
+
+-- The line of one role: what the table says of it.
+module _ (c : Caller) (s : Run) (F : ℕ) (lent : List ℕ) {b : Bool} (e : b ≡ may (c .role) Line) where
+  pub line-denied : not b ≡ true → (Refused Denied ≡ consoleLine c s F lent .answer) × (lent ≡ consoleLine c s F lent .line)
+  unfolding consoleLine denied
+  line-denied t = rw (sym (ap not e) ∙ t) (refl, refl)
+
+  pub line-made : not b ≡ false → {a : LineAnswer} {out : List ℕ} → a ≡ lineOutcome s F lent .answer → out ≡ shown c (s .count) lent (lineOutcome s F lent .line)
+      → (a ≡ consoleLine c s F lent .answer) × (out ≡ consoleLine c s F lent .line)
+  unfolding consoleLine denied
+  line-made t answered wrote = rw (sym (ap not e) ∙ t) (answered, wrote)
+
+-- And by the number of a role. No line changes the run.
+line-leaves : (c : Caller) (s : Run) (F : ℕ) (lent : List ℕ) → s ≡ consoleLine c s F lent .run
+unfolding consoleLine
+line-leaves c s F lent = by-bool (denied c Line) (λ e. rw e) (λ e. rw e)
+
+module _ (role owned : ℕ) (s : Run) (F : ℕ) (lent : List ℕ) {q : Claim} (e : q ≡ claimOf role) where
+  pub line-unknown : q ≡ Unknown → (s ≡ lineAs role owned s F lent .run) × ((Refused Denied ≡ lineAs role owned s F lent .answer) × (lent ≡ lineAs role owned s F lent .line))
+  unfolding lineAs asked
+  line-unknown u = rw (sym e ∙ u) (refl, (refl, refl))
+
+  pub line-known : (r : Role) → q ≡ As r → {a : LineAnswer} {out : List ℕ} → a ≡ consoleLine (record { role = r; owned = owned }) s F lent .answer
+      → out ≡ consoleLine (record { role = r; owned = owned }) s F lent .line
+      → (s ≡ lineAs role owned s F lent .run) × ((a ≡ lineAs role owned s F lent .answer) × (out ≡ lineAs role owned s F lent .line))
+  unfolding lineAs asked
+  line-known r u answered wrote = rw (sym e ∙ u) (line-leaves (record { role = r; owned = owned }) s F lent, (answered, wrote))
+
+-- What the counts call answers and leaves.
+module _ (role owned : ℕ) (w lent : List ℕ) where
+  abbrev s : Run
+  s = runOf w
+
+  abbrev pub CountsAre : LineAnswer → List ℕ → Type 0
+  CountsAre a l = (s ≡ countsAs role owned s lent .run) × ((a ≡ countsAs role owned s lent .answer) × (l ≡ countsAs role owned s lent .line))
+
+  -- Where it is not denied, whoever asks.
+  abbrev counted : Outcome LineAnswer
+  counted = judged (countsRefusal s lent)
+      (λ r. record { run = s; answer = Refused r; rose = 0; deleted = []; line = lent })
+      (record { run = s; answer = Written; rose = 0; deleted = []; line = sets lent 0 (keptCounts s) })
+
+  module _ {b : Bool} (e : b ≡ deniedAs (claimOf role) owned (λ c. denied c Counts)) where
+    pub counts-denied : b ≡ true → CountsAre (Refused Denied) lent
+    unfolding countsAs consoleCounts
+    counts-denied t = rw (asked-denied owned (λ c. denied c Counts) (denial (Refused Denied) s [] lent) (λ c. counted) (claimOf role) e t) (refl, (refl, refl))
+
+    made : b ≡ false → countsAs role owned s lent ≡ counted
+    unfolding countsAs consoleCounts
+    made t = asked-made owned (λ c. denied c Counts) (denial (Refused Denied) s [] lent) (λ c. counted) (claimOf role) _ (λ c. refl) e t
+
+    pub counts-unsound : b ≡ false → sound s ≡ false → CountsAre (Refused UnsoundState) lent
+    unfolding countsRefusal firstOf
+    counts-unsound t h = rw (made t, h) (refl, (refl, refl))
+
+    pub counts-short : b ≡ false → sound s ≡ true → ltb (length lent) (s .count) ≡ true → CountsAre (Refused ListTooShort) lent
+    unfolding countsRefusal firstOf
+    counts-short t h short = rw (made t, h, short) (refl, (refl, refl))
+
+    pub counts-written : b ≡ false → (h : sound s ≡ true) → ltb (length lent) (s .count) ≡ false → (out : List ℕ) → out ≡ sets lent 0 (wordsFrom w 16 (s .count)) → CountsAre Written out
+    unfolding countsRefusal firstOf keptCounts
+    counts-written t h long out wrote = rw (made t, h, long) (refl, (refl, wrote ∙ ap (λ (l : List ℕ). sets lent 0 l) (table-same (s .count) _ _ many)))
+      where
+        many : (p : ℕ) → p < s .count → word w (16 + p) ≡ length (process s p .kept)
+        many p lt =
+            let known = sound-words w h in
+            let below : p < word w 0 = rw (count-is w (known .fit)) at lt in
+            sym (ap (λ x. length (x .kept)) (process-is w (known .fit) p below (known .few)) ∙ kept-count w p (omega (arith, sound-part w h p below .kept-count-most, known .few)))

@@ -1,0 +1,12 @@
+-- `library_halves::both::left_over` meets its contract.
+-- Assumes nothing.
+use denote.Ref.{now}
+use borrow.Author.Needs.{needs}
+use Rattle.library_halves.proofs.Rules.{after-first-is, none-over}
+use Rattle.library_halves.proofs.both.left_over.Statement.{statement}
+use Rattle.library_halves.proofs.both.left_over.Tie as tie
+
+pub left-over-spec : {M : Type 1} → statement M
+left-over-spec =
+    tie.close
+    (tie.spec (λ c. none-over (now (c .before .args .half)) (c .if1 .taken)) (λ c. search needs) (λ c. rw (after-first-is (now (c .before .args .half)))))

@@ -1,0 +1,12 @@
+-- `library_halves::both::too_many` meets its contract.
+-- Assumes nothing.
+use denote.Ref.{now}
+use borrow.Author.Needs.{needs}
+use Rattle.library_halves.proofs.Rules.{after-first-is, none-many}
+use Rattle.library_halves.proofs.both.too_many.Statement.{statement}
+use Rattle.library_halves.proofs.both.too_many.Tie as tie
+
+pub too-many-spec : {M : Type 1} → statement M
+too-many-spec =
+    tie.close
+    (tie.spec (λ c. none-many (now (c .before .args .half)) (c .if1 .taken)) (λ c. search needs) (λ c. rw (after-first-is (now (c .before .args .half)))))

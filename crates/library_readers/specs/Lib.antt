@@ -1,0 +1,3 @@
+pub mod Readings
+pub mod Written
+pub mod saved

@@ -1,0 +1,124 @@
+-- The three ways of a start in place through the recorder: refused by itself, refused for an empty buffer, and done.
+-- Assumes nothing.
+use mathlib.Core.Path.{_≡_, refl, sym, _∙_, ap}
+use mathlib.Core.Bool.{Bool, true, false, not}
+use mathlib.Core.List.{List, [], _∷_}
+use mathlib.Core.Option.{none, some}
+use Prim.Native.Nat.{ℕ, _+_, _≤_}
+use native.Mathlib.Omega.{arith}
+use lib.Dec.{eqb, ltb}
+use lib.ListN.{length}
+use lib.Seq.{sets}
+use borrow.Author.Tests.{lt-ltb, le-ltb, eq-eqb}
+use Rattle.laws.specs.Choice.{by-bool}
+use Rattle.model.specs.declared.Refusal.{Refusal}
+use Rattle.model.specs.declared.Refusal.the-variants.{BufferTooShort, CountOutsideRange}
+use Rattle.model.specs.declared.StartAnswer.{StartAnswer}
+use Rattle.model.specs.declared.StartAnswer.the-variants.{Refused}
+use Rattle.model.specs.Words.{blank}
+use Rattle.model.specs.Refusals.{firstOf}
+use Rattle.model.specs.laws.Refusals.{by-refusal}
+use Rattle.whole_runs.specs.Outcomes.{Outcome, startReport}
+use Rattle.whole_runs.proofs.whole.Reached.{refused-number}
+use Rattle.theory_recording.specs.Recording.{Recorded, unwritten, appended}
+use Rattle.words.specs.Clean.{Clean}
+use Rattle.words.specs.Layout.{stateSize, runOf}
+use Rattle.in_place.specs.Starting.{zeros, startRefusalIn, startOutcomeIn, startWords}
+use Rattle.in_place.proofs.Starting.{zeros-run, zeros-clean, accepted-size, start-length}
+use Rattle.library_recorder.proofs.record.Leaves.{leaves-all, leaves-written}
+use Rattle.library_recorder.proofs.record.Ways.{negated, affirmed}
+use Rattle.library_recorder.specs.Recorded.{recordedStartIn, recordedStartWords}
+
+clash : {P : Type 0} (b : Bool) → b ≡ true → b ≡ false → P
+clash b p q = absurd (let y : _≡_ {A = ℕ} 0 1 = cc in omega arith)
+
+module _ (many n : ℕ) (blockCounts : List ℕ) where
+  number-none : startRefusalIn many n blockCounts ≡ none → eqb (startReport (startOutcomeIn many n blockCounts .answer) .refused) 0 ≡ true
+  unfolding startOutcomeIn startReport
+  number-none h = rw h refl
+
+  number-some : (x : Refusal) → startRefusalIn many n blockCounts ≡ some x → eqb (startReport (startOutcomeIn many n blockCounts .answer) .refused) 0 ≡ false
+  unfolding startOutcomeIn startReport
+  number-some x h = rw h (refused-number x)
+
+  says : {answer : StartAnswer} {v b : Bool} → answer ≡ startOutcomeIn many n blockCounts .answer → v ≡ eqb (startReport answer .refused) 0 → v ≡ b
+      → eqb (startReport (startOutcomeIn many n blockCounts .answer) .refused) 0 ≡ b
+  says e t h = ap (λ (a : StartAnswer). eqb (startReport a .refused) 0) (sym e) ∙ sym t ∙ h
+
+  pub start-accepted : {answer : StartAnswer} {v : Bool} → answer ≡ startOutcomeIn many n blockCounts .answer → v ≡ eqb (startReport answer .refused) 0 → not v ≡ false
+      → startRefusalIn many n blockCounts ≡ none
+  start-accepted {answer} {v} e t h = by-refusal (startRefusalIn many n blockCounts) (λ ok. ok) (λ x q. clash _ (says e t (affirmed v h)) (number-some x q))
+
+  pub start-refused : {answer : StartAnswer} {v : Bool} → answer ≡ startOutcomeIn many n blockCounts .answer → v ≡ eqb (startReport answer .refused) 0 → not v ≡ true
+      → (x : Refusal) × (startRefusalIn many n blockCounts ≡ some x)
+  start-refused {answer} {v} e t h = by-refusal (startRefusalIn many n blockCounts) (λ ok. clash _ (number-none ok) (says e t (negated v h))) (λ x q. (x, q))
+
+-- What is said of the words v, the answer, the buffer's bytes and the place that a start leaves.
+abbrev pub Replies : List ℕ → ℕ → List ℕ → List ℕ → ℕ → List ℕ → StartAnswer → List ℕ → ℕ → Type 0
+Replies w n blockCounts buffer place v answer bytes next =
+    (runOf v ≡ recordedStartIn (length w) n blockCounts buffer place .outcome .run)
+    × ((answer ≡ recordedStartIn (length w) n blockCounts buffer place .outcome .answer)
+    × ((bytes ≡ recordedStartIn (length w) n blockCounts buffer place .buffer)
+    × ((next ≡ recordedStartIn (length w) n blockCounts buffer place .place)
+    × ((v ≡ recordedStartWords w n blockCounts buffer) × (length w ≡ 6464 → Clean v)))))
+
+-- A start of no process makes words of the right number zero, and leaves others, as any refused start does.
+none-words : (w blockCounts : List ℕ) → length w ≡ stateSize → startWords w 0 blockCounts ≡ zeros
+unfolding startWords startRefusalIn firstOf
+none-words w blockCounts long = rw (eq-eqb (length w) stateSize long)
+
+module _ (w : List ℕ) (n : ℕ) (blockCounts buffer : List ℕ) (place : ℕ) where
+  none-refused : startRefusalIn (length w) 0 blockCounts ≡ some CountOutsideRange
+  unfolding startRefusalIn firstOf
+  none-refused = refl
+
+  refused-alike : (x : Refusal) → startRefusalIn (length w) n blockCounts ≡ some x → startWords w n blockCounts ≡ startWords w 0 blockCounts
+  unfolding startWords
+  refused-alike x h = rw (h, none-refused) refl
+
+  refused-words : (x : Refusal) → startRefusalIn (length w) n blockCounts ≡ some x → startWords w n blockCounts ≡ recordedStartWords w n blockCounts buffer
+  unfolding recordedStartWords
+  refused-words x h = by-bool (ltb (length buffer) 1) (λ b. rw b (refused-alike x h)) (λ b. rw b refl)
+
+  refused-is : (x : Refusal) → startRefusalIn (length w) n blockCounts ≡ some x → recordedStartIn (length w) n blockCounts buffer place ≡ unwritten (startOutcomeIn (length w) n blockCounts) buffer place
+  unfolding recordedStartIn
+  refused-is x h = rw h refl
+
+  short-is : startRefusalIn (length w) n blockCounts ≡ none → length buffer ≡ 0
+      → recordedStartIn (length w) n blockCounts buffer place ≡ unwritten (record { run = blank 0; answer = Refused BufferTooShort; rose = 0; deleted = []; line = [] }) buffer place
+  unfolding recordedStartIn
+  short-is ok e = rw (ok, lt-ltb (length buffer) 1 (omega arith)) refl
+
+  short-words : length buffer ≡ 0 → recordedStartWords w n blockCounts buffer ≡ startWords w 0 blockCounts
+  unfolding recordedStartWords
+  short-words e = rw (lt-ltb (length buffer) 1 (omega arith)) refl
+
+  pub done-is : startRefusalIn (length w) n blockCounts ≡ none → 1 ≤ length buffer
+      → recordedStartIn (length w) n blockCounts buffer place ≡ appended (startOutcomeIn (length w) n blockCounts) (n ∷ []) buffer 0
+  unfolding recordedStartIn
+  done-is ok h = rw (ok, le-ltb (length buffer) 1 h) refl
+
+  pub done-words : 1 ≤ length buffer → recordedStartWords w n blockCounts buffer ≡ startWords w n blockCounts
+  unfolding recordedStartWords
+  done-words h = rw (le-ltb (length buffer) 1 h) refl
+
+  pub replied-refused : {v : List ℕ} {answer : StartAnswer} (x : Refusal) → startRefusalIn (length w) n blockCounts ≡ some x → answer ≡ startOutcomeIn (length w) n blockCounts .answer
+      → runOf v ≡ startOutcomeIn (length w) n blockCounts .run → v ≡ startWords w n blockCounts → (length w ≡ 6464 → Clean v) → Replies w n blockCounts buffer place v answer buffer place
+  replied-refused x h a r e c =
+      let l = leaves-all _ _ _ _ (refused-is x h) in
+      (r ∙ l .run, (a ∙ l .answer, (l .buffer, (l .place, (e ∙ refused-words x h, c)))))
+
+  pub replied-short : {u v : List ℕ} → startRefusalIn (length w) n blockCounts ≡ none → length buffer ≡ 0 → u ≡ startWords w n blockCounts → v ≡ startWords u 0 blockCounts
+      → Replies w n blockCounts buffer place v (Refused BufferTooShort) buffer place
+  replied-short {u} {v} ok empty e f =
+      let long : length w ≡ stateSize = accepted-size (length w) n blockCounts ok in
+      let z : v ≡ zeros = f ∙ none-words u blockCounts (ap length e ∙ start-length w n blockCounts ∙ long) in
+      let l = leaves-all _ _ _ _ (short-is ok empty) in
+      (ap runOf z ∙ zeros-run ∙ l .run, (l .answer, (l .buffer, (l .place, (z ∙ sym (none-words w blockCounts long) ∙ sym (short-words empty), λ h. rw z zeros-clean)))))
+
+  pub replied-done : {v : List ℕ} {answer : StartAnswer} → startRefusalIn (length w) n blockCounts ≡ none → 1 ≤ length buffer → answer ≡ startOutcomeIn (length w) n blockCounts .answer
+      → runOf v ≡ startOutcomeIn (length w) n blockCounts .run → v ≡ startWords w n blockCounts → (length w ≡ 6464 → Clean v)
+      → Replies w n blockCounts buffer place v answer (sets buffer 0 (n ∷ [])) 1
+  replied-done ok room a r e c =
+      let l = leaves-written _ _ _ _ _ (done-is ok room) in
+      (r ∙ l .run, (a ∙ l .answer, (l .buffer, (l .place, (e ∙ sym (done-words room), c)))))

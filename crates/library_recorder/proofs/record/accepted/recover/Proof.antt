@@ -1,0 +1,14 @@
+-- `library_recorder::record::accepted::recover` meets its contract, by the cases of the answer.
+-- Assumes nothing.
+use mathlib.Core.Path.{refl, sym}
+use borrow.Author.Needs.{needs}
+use Rattle.whole_runs.specs.Outcomes.{recoverReport}
+use Rattle.whole_runs.proofs.whole.Reached.{refused-number}
+use Rattle.library_recorder.proofs.record.accepted.recover.Statement.{statement}
+use Rattle.library_recorder.proofs.record.accepted.recover.Tie as tie
+
+pub recover-spec : {M : Type 1} → statement M
+unfolding recoverReport
+recover-spec =
+    tie.close
+    (tie.spec (λ c. search needs) (λ c. search needs) (λ c. rw (c .enum-told .given .1) (sym (refused-number _))) (λ c. rw (c .enum-told2 .given .1) refl))

@@ -1,0 +1,44 @@
+// The bytes that the recorder writes.
+use model::Event;
+ghost use mathlib.Core.Path.{_≡_};
+ghost use mathlib.Core.Bool.{not, true};
+ghost use Prim.Native.Nat.{_+_, _-_, _≤_};
+ghost use lib.Dec.{ltb};
+ghost use lib.ListN.{length};
+ghost use lib.Seq.{sets};
+ghost use Rattle.model.specs.Trace.{fits};
+ghost use Rattle.theory_recording.specs.Replay.{recordBytes};
+
+// Whether a buffer of `size` bytes has room for a record after a place: a place past the end leaves no byte.
+pub fn has_room(size: usize, place: usize) -> bool
+    ensures { λ r. ⌜ r ≡ not (ltb (size - place) 4) ⌝ }
+{
+    if size < place {
+        return false;
+    }
+    4 <= size - place
+}
+
+// Four bytes go to a place, the rest of the buffer is unchanged.
+fn put(buffer: &mut [u8], place: usize, bytes: [u8; 4])
+    requires { ⌜ place + 4 ≤ length (now buffer) ⌝ }
+    ensures { λ r. ⌜ now (buffer .exit) ≡ sets (now (buffer .entry)) place bytes ⌝ }
+{
+    buffer[place] = bytes[0];
+    buffer[place + 1] = bytes[1];
+    buffer[place + 2] = bytes[2];
+    buffer[place + 3] = bytes[3];
+}
+
+// The record of an event goes to a place. The answer is the place after it.
+pub fn append(buffer: &mut [u8], place: usize, e: Event) -> usize
+    requires { ⌜ place + 4 ≤ length (now buffer) ⌝ }
+    requires { ⌜ fits e ≡ true ⌝ }
+    ensures { λ r. ⌜ now (buffer .exit) ≡ sets (now (buffer .entry)) place (recordBytes e) ⌝ }
+    ensures { λ r. ⌜ r ≡ place + length (recordBytes e) ⌝ }
+{
+    let encoded = trace::encode(e);
+    let bytes = encoded.bytes;
+    put(buffer, place, bytes);
+    place + 4
+}

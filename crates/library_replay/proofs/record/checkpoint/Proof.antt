@@ -1,0 +1,21 @@
+-- `library_replay::record::checkpoint` meets its contract. Assumes nothing.
+use mathlib.Core.Path.{sym, _∙_, ap}
+use borrow.Author.Needs.{needs}
+use Rattle.model.specs.Sound.{sound}
+use Rattle.words.specs.Layout.{runOf}
+use Rattle.library_replay.proofs.Summarised.{checkpoint-performs}
+use Rattle.in_place.proofs.Staying.{calls-keep-sound}
+use Rattle.in_place.specs.Staying.{CallsKeepSound}
+use Rattle.library_replay.proofs.record.checkpoint.Statement.{statement}
+use Rattle.library_replay.proofs.record.checkpoint.Tie as tie
+
+returns : tie.Need-returns
+unfolding CallsKeepSound
+returns c =
+    let s = c .before .before .before .before .before .before .before .before .before .before in
+    let a = s .args in
+    let g = c .before .before .before .before .before .checkpoint-on .ensures in
+    (checkpoint-performs (runOf (a .w .now)) (a .i) (a .deleted .now) (s .pre .1) (g .0) (g .1 .0) (g .1 .1 .0) (c .of-checkpoint .ensures), (sym (ap sound (g .0) ∙ calls-keep-sound (a .w .now) (s .pre .0) .checkpoint (a .i) (a .deleted .now)), g .1 .1 .1 .1))
+
+pub checkpoint-spec : {M : Type 1} → statement M
+checkpoint-spec = tie.close (tie.spec (λ c κs. search needs) (λ c κs. search needs) (λ c. search needs) (λ c. search needs) returns)

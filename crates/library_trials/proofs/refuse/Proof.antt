@@ -1,0 +1,10 @@
+-- `library_trials::refuse` meets its contract.
+-- Assumes nothing.
+use mathlib.Core.Path.{refl}
+use Rattle.theory_recording.specs.spacing.Spacing.{noFigures}
+use Rattle.library_trials.proofs.refuse.Statement.{statement}
+use Rattle.library_trials.proofs.refuse.Tie as tie
+
+pub refuse-spec : {M : Type 1} → statement M
+unfolding noFigures
+refuse-spec = tie.close (tie.spec (λ c. refl))

@@ -1,7 +1,0 @@
--- `line_words::line::limit_of` meets its contract. Assumes nothing.
-use borrow.Author.Needs.{needs}
-use Rattle.line_words.proofs.line.limit_of.Statement.{statement}
-use Rattle.line_words.proofs.line.limit_of.Tie as tie
-
-pub limit-of-spec : {M : Type 1} → statement M
-limit-of-spec = tie.close (tie.spec (λ c. search needs) (λ c. rw (c .before .if1 .taken)) (λ c. rw (c .if1 .left)))

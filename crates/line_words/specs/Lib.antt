@@ -1,4 +1,0 @@
-pub mod Line
-pub mod Restored
-pub mod Sifted
-pub mod Through

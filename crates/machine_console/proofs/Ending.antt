@@ -1,0 +1,105 @@
+-- The machine ends: a number falls with each answer.
+-- Assumes nothing.
+use mathlib.Core.Path.{_≡_, refl, sym, _∙_, ap}
+use mathlib.Core.Bool.{Bool, true, false, _&&_}
+use mathlib.Core.List.{List, [], _∷_, _++_}
+use Prim.Native.Nat.{ℕ, _+_, _-_, _*_, _≤_, _<_}
+use native.Mathlib.Omega.{arith}
+use lib.Dec.{eqb, ltb, leb}
+use lib.ListN.{length, getD, length-append}
+use borrow.Author.Tests.{leb-true, ltb-true, ltb-false}
+use Rattle.laws.specs.Choice.{pick, by-bool}
+use Rattle.machines.specs.Machines.{Request, Read, Stop, Answer, Number, Bytes, End, Done, Failed, heard, heardRead, heardDone, stepped, Ends}
+use Rattle.machine_console.specs.Text.{callSize, refusedAt}
+use Rattle.machine_console.specs.Consoling.{mostCalls, Between, State, Opening, Reading, Printing, Ending, Failing, Stopped, ask, next, begun, afterFirst, called, onward, atEnd, afterRead, furtherOn, afterWrite, consoling}
+
+-- 10 answers a call are enough: 8 reads of one byte and a write.
+abbrev pub left : State → ℕ
+left Opening = 10 * mostCalls + 13
+left (Reading b) = 10 * (mostCalls - b .done) + (8 - length (b .buffered)) + 4
+left (Printing line b) = pick (ltb (b .done) mostCalls) (10 * (mostCalls - b .done) + 13) 3
+left (Ending line) = 2
+left (Failing name) = 1
+left Stopped = 0
+
+and-true : (a b : Bool) → a && b ≡ true → a ≡ true
+and-true true b e = refl
+and-true false b e = absurd (let z : _≡_ {A = ℕ} 0 1 = cc in omega arith)
+
+begun-falls : (n : ℕ) → left (begun n) < left Opening
+unfolding begun
+begun-falls n = by-bool (eqb (refusedAt n) 0) (λ e. rw e (omega arith)) (λ e. rw e (omega arith))
+
+first-falls : (a : Answer) → left (afterFirst (heardRead 1 a)) < left Opening
+unfolding heardRead afterFirst
+first-falls (Number n) = omega arith
+first-falls (Bytes l) = by-bool (leb 1 (length l) && leb (length l) 1) (λ e. rw e (begun-falls (getD l 0 0))) (λ e. rw e (omega arith))
+first-falls End = omega arith
+first-falls Done = omega arith
+first-falls Failed = omega arith
+
+called-falls : (b : Between) → left (called b) < 10 * (mostCalls - b .done) + 4
+unfolding called
+called-falls b =
+    by-bool (ltb (b .done + 1) mostCalls)
+    (λ e. rw e (omega (arith, ltb-true (b .done + 1) mostCalls e)))
+    (λ e. rw e (omega arith))
+
+onward-falls : (b : Between) (more : List ℕ) → 1 ≤ length more → left (onward (record { done = b .done; run = b .run; buffered = b .buffered ++ more })) < left (Reading b)
+unfolding onward
+onward-falls b more h =
+    let after : Between = record { done = b .done; run = b .run; buffered = b .buffered ++ more } in
+    by-bool (ltb (length (b .buffered ++ more)) 8)
+    (λ e. rw e (omega (arith, ltb-true (length (b .buffered ++ more)) 8 e, length-append (b .buffered) more)))
+    (λ e. rw e (omega (arith, called-falls after)))
+
+end-falls : (b : Between) → left (atEnd b) < left (Reading b)
+unfolding atEnd
+end-falls b = by-bool (eqb (length (b .buffered)) 0) (λ e. rw e (omega arith)) (λ e. rw e (omega arith))
+
+read-falls : (b : Between) (most : ℕ) (a : Answer) → left (afterRead b (heardRead most a)) < left (Reading b)
+unfolding heardRead afterRead
+read-falls b most (Number n) = omega arith
+read-falls b most (Bytes more) =
+    by-bool (leb 1 (length more) && leb (length more) most)
+    (λ e. rw e (onward-falls b more (leb-true 1 (length more) (and-true _ _ e))))
+    (λ e. rw e (omega arith))
+read-falls b most End = end-falls b
+read-falls b most Done = omega arith
+read-falls b most Failed = omega arith
+
+further-falls : (line : List ℕ) (b : Between) → left (furtherOn b) < left (Printing line b)
+unfolding furtherOn
+further-falls line b = by-bool (ltb (b .done) mostCalls) (λ e. rw e (omega arith)) (λ e. rw e (omega arith))
+
+write-falls : (then : State) (most : ℕ) → left then < most → 1 < most → (a : Answer) → left (afterWrite then (heardDone a)) < most
+unfolding heardDone afterWrite
+write-falls then most h one (Number n) = one
+write-falls then most h one (Bytes l) = one
+write-falls then most h one End = one
+write-falls then most h one Done = h
+write-falls then most h one Failed = one
+
+printed-more : (line : List ℕ) (b : Between) → 1 < left (Printing line b)
+printed-more line b = by-bool (ltb (b .done) mostCalls) (λ e. rw e (omega arith)) (λ e. rw e (omega arith))
+
+pub falls : (s : State) (a : Answer) → (ask s ≡ Stop → ⊥) → left (stepped consoling s a) < left s
+unfolding stepped ask next heard
+falls Opening a h = first-falls a
+falls (Reading b) a h = read-falls b (callSize - length (b .buffered)) a
+falls (Printing line b) a h = write-falls (furtherOn b) (left (Printing line b)) (further-falls line b) (printed-more line b) a
+falls (Ending line) a h = write-falls Stopped 2 (omega arith) (omega arith) a
+falls (Failing name) a h = omega arith
+falls Stopped a h = absurd (h refl)
+
+pub stays : (s : State) (a : Answer) → ask s ≡ Stop → ask (stepped consoling s a) ≡ Stop
+unfolding stepped ask next
+stays Opening a e = cc
+stays (Reading b) a e = cc
+stays (Printing line b) a e = cc
+stays (Ending line) a e = cc
+stays (Failing name) a e = cc
+stays Stopped a e = refl
+
+abbrev pub consoling-ends : Ends consoling
+consoling-ends = record { left = left; falls = falls; stays = stays }

@@ -1,0 +1,11 @@
+-- `machine_console::going::stop` meets its contract. Assumes nothing.
+use Rattle.machine_console.proofs.Arriving.{arrives-stopped}
+use borrow.Author.Needs.{needs}
+use Rattle.machine_console.proofs.going.stop.Statement.{statement}
+use Rattle.machine_console.proofs.going.stop.Tie as tie
+
+returns : tie.Need-returns
+returns c = λ words input out. rw (c .at .ensures) (arrives-stopped words input out)
+
+pub stop-spec : {M : Type 1} → statement M
+stop-spec = tie.close (tie.spec (λ c κs. search needs) returns)

@@ -1,0 +1,13 @@
+-- `machine_console::marks::most_done` meets its contract. Assumes nothing.
+use mathlib.Core.Path.{refl}
+use borrow.Author.Tests.{eq-eqb, ne-eqb}
+use Rattle.machine_console.specs.Lent.{mostDone}
+use borrow.Author.Needs.{needs}
+use Rattle.machine_console.proofs.marks.most_done.Statement.{statement}
+use Rattle.machine_console.proofs.marks.most_done.Tie as tie
+
+pub most-done-spec : {M : Type 1} → statement M
+unfolding mostDone
+most-done-spec =
+    tie.close
+    (tie.spec (λ c. rw (eq-eqb (c .before .args .phase) 2 (c .if1 .taken)) refl) (λ c. rw (ne-eqb (c .before .args .phase) 2 (c .if1 .left)) refl))

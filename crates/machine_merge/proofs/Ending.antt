@@ -1,0 +1,134 @@
+-- The machine ends: a number falls with each answer.
+-- Assumes nothing.
+use mathlib.Core.Path.{_≡_, refl}
+use mathlib.Core.Bool.{Bool, true, false, _&&_}
+use mathlib.Core.List.{List, [], _∷_}
+use Prim.Native.Nat.{ℕ, _+_, _-_, _≤_, _<_}
+use native.Mathlib.Omega.{arith}
+use lib.Dec.{eqb, ltb, leb}
+use lib.ListN.{length, take}
+use borrow.Author.Tests.{leb-true, ltb-true}
+use Rattle.laws.specs.Choice.{by-bool}
+use Rattle.machines.specs.programs.Numbers.{numberIn, noNumber}
+use Rattle.machines.specs.Machines.{Stop, Answer, Number, Bytes, End, Done, Failed, heard, heardCount, heardWord, heardRead, heardDone, isNumber, stepped, Ends}
+use Rattle.machine_merge.specs.Buffered.{mostCounted, bufferedSize, wanted, keeping}
+use Rattle.machine_merge.specs.Printed.{printed}
+use Rattle.machine_merge.specs.Merging.{longestWord, longestName, Stage, FirstHalf, SecondHalf, State, Counting, Setting, Naming, Opening, Reading, Writing, Reporting, Failing, Stopped, ask, shown, showing, halfRead, ended, onward, afterCount, afterSet, afterName, afterOpen, afterRead, afterWrite, next, merging}
+
+abbrev pub stageLeft : Stage → ℕ
+stageLeft (FirstHalf set) = mostCounted + 6
+stageLeft (SecondHalf set first) = 3
+
+abbrev pub left : State → ℕ
+left Counting = mostCounted + (mostCounted + 10)
+left Setting = mostCounted + (mostCounted + 9)
+left (Naming stage) = mostCounted + 2 + stageLeft stage
+left (Opening stage name) = mostCounted + 1 + stageLeft stage
+left (Reading stage name kept total) = mostCounted - total + stageLeft stage
+left (Writing trace) = 2
+left (Reporting line) = 1
+left (Failing name) = 1
+left Stopped = 0
+
+two-left : (stage : Stage) → 3 ≤ stageLeft stage
+two-left (FirstHalf set) = omega arith
+two-left (SecondHalf set first) = omega arith
+
+shown-falls : (trace line : List ℕ) → left (shown trace line) < 3
+unfolding shown
+shown-falls trace [] = omega arith
+shown-falls trace (b ∷ line) = omega arith
+
+ended-falls : (stage : Stage) (kept : List ℕ) (total : ℕ) → left (ended stage kept total) < stageLeft stage
+unfolding halfRead showing
+ended-falls (FirstHalf set) kept total = omega arith
+ended-falls (SecondHalf set first) kept total = shown-falls (printed first (take (bufferedSize total) kept) set .trace) (printed first (take (bufferedSize total) kept) set .refusal)
+
+count-falls : (a : Answer) → left (afterCount a) < left Counting
+unfolding afterCount
+count-falls a = by-bool (isNumber a 4) (λ e. rw e (omega arith)) (λ e. rw e (omega arith))
+
+set-falls : (a : Answer) → left (afterSet a) < left Setting
+unfolding afterSet
+set-falls (Number n) = omega arith
+set-falls (Bytes word) = by-bool (eqb (numberIn word) noNumber) (λ e. rw e (omega arith)) (λ e. rw e (omega arith))
+set-falls End = omega arith
+set-falls Done = omega arith
+set-falls Failed = omega arith
+
+name-falls : (stage : Stage) (a : Answer) → left (afterName stage a) < left (Naming stage)
+unfolding afterName
+name-falls stage (Number n) = omega arith
+name-falls stage (Bytes name) = omega arith
+name-falls stage End = omega arith
+name-falls stage Done = omega arith
+name-falls stage Failed = omega arith
+
+open-falls : (stage : Stage) (name : List ℕ) (a : Answer) → left (afterOpen stage name a) < left (Opening stage name)
+unfolding afterOpen
+open-falls stage name (Number n) = omega arith
+open-falls stage name (Bytes l) = omega arith
+open-falls stage name End = omega arith
+open-falls stage name Done = omega arith
+open-falls stage name Failed = omega arith
+
+module _ (stage : Stage) (name kept : List ℕ) (total : ℕ) where
+  onward-falls : (more : List ℕ) → 1 ≤ length more → left (onward stage name (keeping kept more) (total + length more)) < left (Reading stage name kept total)
+  unfolding onward
+  onward-falls more h =
+      by-bool (ltb (total + length more) mostCounted)
+      (λ e. rw e (omega (arith, h, ltb-true (total + length more) mostCounted e)))
+      (λ e. rw e (omega (arith, ended-falls stage (keeping kept more) (total + length more))))
+
+  failed-falls : 1 < left (Reading stage name kept total)
+  failed-falls = omega (arith, two-left stage)
+
+  and-true : (a b : Bool) → a && b ≡ true → a ≡ true
+  and-true true b e = refl
+  and-true false b e = absurd (let z : _≡_ {A = ℕ} 0 1 = cc in omega arith)
+
+  read-falls : (most : ℕ) (a : Answer) → left (afterRead stage name kept total (heardRead most a)) < left (Reading stage name kept total)
+  unfolding heardRead afterRead
+  read-falls most (Number n) = failed-falls
+  read-falls most (Bytes more) =
+      by-bool (leb 1 (length more) && leb (length more) most)
+      (λ e. rw e (onward-falls more (leb-true 1 (length more) (and-true _ _ e))))
+      (λ e. rw e failed-falls)
+  read-falls most End = omega (arith, ended-falls stage kept total)
+  read-falls most Done = failed-falls
+  read-falls most Failed = failed-falls
+
+write-falls : (a : Answer) → left (afterWrite a) < 2
+unfolding afterWrite
+write-falls (Number n) = omega arith
+write-falls (Bytes l) = omega arith
+write-falls End = omega arith
+write-falls Done = omega arith
+write-falls Failed = omega arith
+
+pub falls : (s : State) (a : Answer) → (ask s ≡ Stop → ⊥) → left (stepped merging s a) < left s
+unfolding stepped ask next heard
+falls Counting a h = count-falls (heardCount a)
+falls Setting a h = set-falls (heardWord longestWord a)
+falls (Naming stage) a h = name-falls stage (heardWord longestName a)
+falls (Opening stage name) a h = open-falls stage name (heardDone a)
+falls (Reading stage name kept total) a h = read-falls stage name kept total (wanted total) a
+falls (Writing trace) a h = write-falls (heardDone a)
+falls (Reporting line) a h = omega arith
+falls (Failing name) a h = omega arith
+falls Stopped a h = absurd (h refl)
+
+pub stays : (s : State) (a : Answer) → ask s ≡ Stop → ask (stepped merging s a) ≡ Stop
+unfolding stepped ask next
+stays Counting a e = cc
+stays Setting a e = cc
+stays (Naming stage) a e = cc
+stays (Opening stage name) a e = cc
+stays (Reading stage name kept total) a e = cc
+stays (Writing trace) a e = cc
+stays (Reporting line) a e = cc
+stays (Failing name) a e = cc
+stays Stopped a e = refl
+
+abbrev pub merging-ends : Ends merging
+merging-ends = record { left = left; falls = falls; stays = stays }

@@ -1,0 +1,23 @@
+-- `machine_merge::going::fail_file` meets its contract.
+-- Assumes nothing.
+use mathlib.Core.Path.{ap}
+use Rattle.machine_merge.specs.Merging.{Failing}
+use Rattle.machine_merge.specs.Words.{nameOf}
+use Rattle.machine_merge.proofs.Leading.{file-text-none}
+use Rattle.machine_merge.proofs.Arriving.{led, printed-file}
+use borrow.Author.Needs.{needs}
+use Rattle.machine_merge.proofs.going.fail_file.Statement.{statement}
+use Rattle.machine_merge.proofs.going.fail_file.Tie as tie
+
+returns : tie.Need-returns
+returns c = led (ap Failing (file-text-none (c .before .before .before .before .before .before .before .before .args .m) (c .before .before .before .before .before .before .before .before .args .input .now) (c .before .before .before .before .if1 .taken))) (c .before .before .fail-no-name .ensures (c .before .before .before .before .before .before .before .before .args .input .now))
+
+returns-2 : tie.Need-returns-2
+unfolding nameOf
+returns-2 c = rw (c .at .ensures) (printed-file (c .before .before .before .before .before .before .before .before .before .before .before .before .before .before .before .before .before .args .m) (c .before .before .before .before .before .before .before .before .before .before .before .before .before .before .before .before .before .args .input .now) (c .before .before .before .before .before .before .before .before .before .before .before .before .before .before .before .before .before .pre .0) (c .before .before .before .before .before .before .before .before .before .before .before .before .before .before .before .before .before .args .m .name) (c .before .before .before .before .before .before .before .before .before .before .before .before .name-at .result) (c .before .before .before .before .before .before .before .before .before .before .before .before .before .before .before .before .before .pre .2) (c .before .before .before .before .before .before .before .before .before .before .before .before .name-at .ensures .0) _ _ _ _ _ (c .before .before .before .before .before .before .before .before .before .before .before .before .before .if1 .left) (c .before .before .before .before .before .before .before .before .before .before .before .before .before .before .before .before .before .pre .1) (c .before .before .before .before .before .before .before .before .write-word .ensures) (c .before .before .before .write-word2 .ensures))
+
+pub fail-file-spec : {M : Type 1} → statement M
+fail-file-spec =
+    tie.close
+    (tie.spec (λ c κs. search needs) (λ c. search needs) returns (λ c κs. search needs) (λ c. search needs) (λ c. search needs) (λ c κs. search needs)
+    (λ c. search needs) (λ c. search needs) (λ c. search needs) (λ c κs. search needs) (λ c κs. search needs) (λ c. search needs) returns-2)

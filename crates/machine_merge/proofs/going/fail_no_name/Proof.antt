@@ -1,0 +1,19 @@
+-- `machine_merge::going::fail_no_name` meets its contract.
+-- Assumes nothing.
+use mathlib.Core.Path.{ap}
+use Rattle.machine_merge.specs.Merging.{Failing}
+use Rattle.machine_merge.proofs.Leading.{no-name-first, no-name-second}
+use Rattle.machine_merge.proofs.Arriving.{led}
+use borrow.Author.Needs.{needs}
+use Rattle.machine_merge.proofs.going.fail_no_name.Statement.{statement}
+use Rattle.machine_merge.proofs.going.fail_no_name.Tie as tie
+
+returns : tie.Need-returns
+returns c = λ input. led (ap Failing (no-name-first (c .before .before .before .before .before .before .before .before .args .m) input (c .before .before .before .before .before .if1 .taken))) (c .before .before .fail .ensures input)
+
+returns-2 : tie.Need-returns-2
+returns-2 c = λ input. led (ap Failing (no-name-second (c .before .before .before .before .before .before .before .before .args .m) input (c .before .before .before .before .before .if1 .left))) (c .before .before .fail2 .ensures input)
+
+pub fail-no-name-spec : {M : Type 1} → statement M
+fail-no-name-spec =
+    tie.close (tie.spec (λ c. search needs) (λ c κs. search needs) (λ c. search needs) returns (λ c. search needs) (λ c κs. search needs) (λ c. search needs) returns-2)

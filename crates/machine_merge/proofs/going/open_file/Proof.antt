@@ -1,0 +1,14 @@
+-- `machine_merge::going::open_file` meets its contract.
+-- Assumes nothing.
+use Rattle.machine_merge.proofs.Arriving.{printed-opening}
+use borrow.Author.Needs.{needs}
+use Rattle.machine_merge.proofs.going.open_file.Statement.{statement}
+use Rattle.machine_merge.proofs.going.open_file.Tie as tie
+
+returns : tie.Need-returns
+returns c = printed-opening (c .before .before .before .before .before .before .before .before .args .m) (c .before .before .before .before .before .before .before .before .args .input .now) (c .before .before .before .before .before .before .before .before .pre .1) (c .before .before .before .before .before .before .before .before .args .name) (c .before .before .before .before .before .name-at .result) (c .before .before .before .before .before .before .before .before .pre .3) (c .before .before .before .before .before .name-at .ensures .0) _ _ _ (c .before .before .before .before .before .before .before .before .pre .0) (c .before .before .before .before .before .before .before .before .pre .2) (c .before .before .write-word .ensures)
+
+pub open-file-spec : {M : Type 1} → statement M
+open-file-spec =
+    tie.close
+    (tie.spec (λ c κs. search needs) (λ c. search needs) (λ c. search needs) (λ c. search needs) (λ c. search needs) (λ c κs. search needs) (λ c. search needs) returns)

@@ -1,0 +1,14 @@
+-- `machine_merge::marks::read` meets its contract.
+-- Assumes nothing.
+use mathlib.Core.Path.{refl}
+use Rattle.machine_merge.specs.Words.{marksOf}
+use borrow.Author.Needs.{needs}
+use Rattle.machine_merge.proofs.marks.read.Statement.{statement}
+use Rattle.machine_merge.proofs.marks.read.Tie as tie
+
+pub read-spec : {M : Type 1} → statement M
+unfolding marksOf
+read-spec =
+    tie.close
+    (tie.spec (λ c. search needs) (λ c. search needs) (λ c. search needs) (λ c. search needs) (λ c. search needs) (λ c. search needs) (λ c. search needs)
+    (λ c. refl))

@@ -1,0 +1,143 @@
+-- The numbers of a state, and the states that they stand for.
+-- Assumes nothing.
+use mathlib.Core.Path.{_≡_, refl, sym, _∙_, ap}
+use mathlib.Core.Bool.{true, false}
+use mathlib.Core.List.{List, [], _∷_}
+use Prim.Native.Nat.{ℕ, _+_, _-_, _≤_, _<_}
+use native.Mathlib.Omega.{arith}
+use lib.Dec.{eqb}
+use lib.ListN.{length, take}
+use lib.Seq.{length-sets, length-take-le}
+use borrow.Author.Tests.{lt-ltb, le-ltb, le-leb}
+use Rattle.laws.specs.Choice.{by-bool}
+use Rattle.model.specs.Refusals.{number}
+use Rattle.whole_runs.specs.Listing.{mostRecords}
+use Rattle.listing.specs.Printed.{Printed}
+use Rattle.machines.specs.declared.Request as requests
+use Rattle.machines.specs.declared.Request.the-variants as request
+use Rattle.machines.specs.Machines.{Answer, stepped}
+use Rattle.machine_record.specs.declared.marks.Marks.{Marks}
+use Rattle.machine_record.specs.Recorded.{refusedLine, endLine}
+use Rattle.machine_record.specs.Machine.{Position, counting, naming, beginning, writing, reporting, ending, failing, stopped, machine, next, toRead, toReport, toWrite, toEnd}
+use Rattle.machine_record.specs.Played.{blockLines}
+use Rattle.machine_record.specs.Lent.{inBounds, positionOf, stateIn, Arrives}
+use Rattle.machine_record.proofs.Emptied.{front}
+
+pub bounds : (m : Marks) (out : ℕ) → m .left ≤ 4000000001 → m .done ≤ mostRecords → m .kept ≤ 3 → m .size ≤ out → m .pending ≤ blockLines → inBounds m out ≡ true
+unfolding inBounds
+bounds m out a b c d e = rw (le-leb (m .left) 4000000001 a, le-leb (m .done) mostRecords b, le-leb (m .kept) 3 c, le-leb (m .size) out d, le-leb (m .pending) blockLines e) refl
+
+-- A text printed to the front.
+pub printed-front : (out text out′ : List ℕ) (size : ℕ) → length text ≤ length out → Printed out 0 text out′ size → take size out′ ≡ text
+printed-front out text out′ size h p = (λ j. take (p .next-place j) (p .holds j)) ∙ front out text 0 (omega (arith, h))
+
+pub printed-inside : (out text out′ : List ℕ) (size : ℕ) → length text ≤ length out → Printed out 0 text out′ size → size ≤ length out′
+printed-inside out text out′ size h p = omega (arith, p .next-place, ap (λ (x : List ℕ). length x) (p .holds), length-sets out 0 text, h)
+
+module _ (words input lines : List ℕ) where
+  pub arrives-stopped : (out : List ℕ) → Arrives (record { phase = 0; left = 0; done = 0; kept = 0; size = 0; pending = 0 }) words input out lines stopped
+  unfolding stateIn
+  arrives-stopped out = record { bounds = bounds _ (length out) (omega arith) (omega arith) (omega arith) (omega arith) (omega arith); state = refl }
+
+  pub arrives-counting : (out : List ℕ) → Arrives (record { phase = 1; left = 0; done = 0; kept = 0; size = 0; pending = 0 }) words input out lines counting
+  unfolding stateIn
+  arrives-counting out = record { bounds = bounds _ (length out) (omega arith) (omega arith) (omega arith) (omega arith) (omega arith); state = refl }
+
+  pub arrives-naming : (out : List ℕ) → Arrives (record { phase = 2; left = 0; done = 0; kept = 0; size = 0; pending = 0 }) words input out lines naming
+  unfolding stateIn
+  arrives-naming out = record { bounds = bounds _ (length out) (omega arith) (omega arith) (omega arith) (omega arith) (omega arith); state = refl }
+
+  pub arrives-beginning : (out : List ℕ) (left : ℕ) → left ≤ 4000000001 → Arrives (record { phase = 3; left = left; done = 0; kept = 0; size = 0; pending = 0 }) words input out lines (beginning left)
+  unfolding stateIn
+  arrives-beginning out left h = record { bounds = bounds _ (length out) h (omega arith) (omega arith) (omega arith) (omega arith); state = refl }
+
+  pub arrives-ending : (out text out′ : List ℕ) (size : ℕ) → length text ≤ length out → Printed out 0 text out′ size
+      → Arrives (record { phase = 7; left = 0; done = 0; kept = 0; size = size; pending = 0 }) words input out′ lines (ending text)
+  unfolding stateIn
+  arrives-ending out text out′ size h p = record {
+    bounds = bounds _ (length out′) (omega arith) (omega arith) (omega arith) (printed-inside out text out′ size h p) (omega arith);
+    state = ap ending (printed-front out text out′ size h p);
+  }
+
+  pub arrives-failing : (out text out′ : List ℕ) (size : ℕ) → length text ≤ length out → Printed out 0 text out′ size
+      → Arrives (record { phase = 8; left = 0; done = 0; kept = 0; size = size; pending = 0 }) words input out′ lines (failing text)
+  unfolding stateIn
+  arrives-failing out text out′ size h p = record {
+    bounds = bounds _ (length out′) (omega arith) (omega arith) (omega arith) (printed-inside out text out′ size h p) (omega arith);
+    state = ap failing (printed-front out text out′ size h p);
+  }
+
+  pub arrives-read : (m : Marks) (out : List ℕ) → m .left ≤ 4000000001 → m .done < mostRecords → m .kept ≤ 3
+      → Arrives (record { phase = 6; left = m .left; done = m .done; kept = m .kept; size = 0; pending = 0 }) words input out lines (toRead (positionOf m words input))
+  unfolding stateIn toRead
+  arrives-read m out a b c = record {
+    bounds = bounds _ (length out) a (omega (arith, b)) c (omega arith) (omega arith);
+    state = rw (lt-ltb (m .done) mostRecords b) refl;
+  }
+
+  pub arrives-last : (m : Marks) (out : List ℕ) → mostRecords ≤ m .done → toRead (positionOf m words input) ≡ stopped
+  unfolding toRead
+  arrives-last m out h = rw (le-ltb (m .done) mostRecords h) refl
+
+  -- Lines that are left to say.
+  pub none-to-report : (m : Marks) → m .pending ≡ 0 → toReport (take (m .pending) lines) (positionOf m words input) ≡ toRead (positionOf m words input)
+  unfolding toReport
+  none-to-report m e = rw e refl
+
+  some-to-report : (text : List ℕ) (p : Position) → (length text ≡ 0 → ⊥) → toReport text p ≡ reporting text p
+  unfolding toReport
+  some-to-report [] p h = absurd (h refl)
+  some-to-report (b ∷ text) p h = refl
+
+  pub arrives-report : (m : Marks) (out out′ : List ℕ) (size : ℕ) → m .left ≤ 4000000001 → m .done ≤ mostRecords → m .kept ≤ 3 → m .pending ≤ length lines → m .pending ≤ length out → (m .pending ≡ 0 → ⊥)
+      → Printed out 0 (take (m .pending) lines) out′ size
+      → Arrives (record { phase = 5; left = m .left; done = m .done; kept = m .kept; size = size; pending = 0 }) words input out′ lines (toReport (take (m .pending) lines) (positionOf m words input))
+  unfolding stateIn
+  arrives-report m out out′ size a b c d e some p =
+      let many : length (take (m .pending) lines) ≡ m .pending = length-take-le (m .pending) lines d in
+      let fits : length (take (m .pending) lines) ≤ length out = omega (arith, many, e) in
+      record {
+        bounds = bounds _ (length out′) a b c (printed-inside out (take (m .pending) lines) out′ size fits p) (omega arith);
+        state = ap (λ (x : List ℕ). reporting x (positionOf m words input)) (printed-front out (take (m .pending) lines) out′ size fits p) ∙ sym (some-to-report (take (m .pending) lines) (positionOf m words input) (λ h. some (sym many ∙ h)));
+      }
+
+  -- What is left over at the end.
+  pub none-left : (m : Marks) → m .kept ≡ 0 → toEnd (endLine (m .done) (take (m .kept) input)) ≡ stopped
+  unfolding toEnd endLine
+  none-left m e = rw e refl
+
+  pub some-left : (m : Marks) → (m .kept ≡ 0 → ⊥) → m .kept ≤ length input → toEnd (endLine (m .done) (take (m .kept) input)) ≡ ending (refusedLine (m .done + 1) 13)
+  some-left m h k = left-text (take (m .kept) input) (λ e. h (sym (length-take-le (m .kept) input k) ∙ e))
+    where
+      left-text : (rest : List ℕ) → (length rest ≡ 0 → ⊥) → toEnd (endLine (m .done) rest) ≡ ending (refusedLine (m .done + 1) 13)
+      left-text [] none-there = absurd (none-there refl)
+      left-text (b ∷ rest) none-there = unfold toEnd endLine number refusedLine in refl
+
+-- Texts of the program.
+pub lines-empty : (p : Position) (lines : List ℕ) → toReport (take 0 lines) p ≡ toRead p
+unfolding toReport
+lines-empty p lines = refl
+
+-- Where a block was recorded.
+pub arrives-write : (m : Marks) (words input out lines : List ℕ) → m .phase ≡ 4 → m .left ≤ 4000000001 → m .done ≤ mostRecords → m .kept ≤ 3 → m .size ≤ length out → m .pending ≤ blockLines
+    → (m .size ≡ 0 → ⊥) → Arrives m words input out lines (toWrite (take (m .size) out) (take (m .pending) lines) (positionOf m words input))
+unfolding stateIn
+arrives-write m words input out lines e a b c d f some = record {
+  bounds = bounds m (length out) a b c d f;
+  state = rw e (sym (some-to-write (take (m .size) out) (take (m .pending) lines) (positionOf m words input) (λ h. some (sym (length-take-le (m .size) out d) ∙ h))));
+}
+  where
+    some-to-write : (text more : List ℕ) (p : Position) → (length text ≡ 0 → ⊥) → toWrite text more p ≡ writing text more p
+    some-to-write [] more p h = absurd (h refl)
+    some-to-write (x ∷ text) more p h = unfold toWrite in refl
+
+pub none-to-write : (m : Marks) (words input out lines : List ℕ) → m .size ≡ 0 → toWrite (take (m .size) out) (take (m .pending) lines) (positionOf m words input) ≡ toReport (take (m .pending) lines) (positionOf m words input)
+unfolding toWrite
+none-to-write m words input out lines e = rw e refl
+
+-- What has ended or failed stops.
+pub rest-stops : (m : Marks) (words input out lines : List ℕ) (a : Answer) → eqb (m .phase) 1 ≡ false → eqb (m .phase) 2 ≡ false → eqb (m .phase) 3 ≡ false → eqb (m .phase) 4 ≡ false
+    → eqb (m .phase) 5 ≡ false → eqb (m .phase) 6 ≡ false → stepped machine (stateIn m words input out lines) a ≡ stopped
+unfolding stateIn stepped next
+rest-stops m words input out lines a n1 n2 n3 n4 n5 n6 = rw (n1, n2, n3, n4, n5, n6)
+    (by-bool (eqb (m .phase) 7) (λ p7. rw p7 refl) (λ n7. by-bool (eqb (m .phase) 8) (λ p8. rw (n7, p8) refl) (λ n8. rw (n7, n8) refl)))

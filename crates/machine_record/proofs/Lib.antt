@@ -1,0 +1,15 @@
+pub mod Arriving
+pub mod Blocks
+pub mod Driving
+pub mod Emptied
+pub mod Kept
+pub mod Leading
+pub mod Marking
+pub mod Observed
+pub mod Parts
+pub mod Promised
+pub mod Ranks
+pub mod Starting
+pub mod Starts
+pub mod Stepping
+pub mod Taking

@@ -1,0 +1,82 @@
+-- Records part by part: what two parts come to, one after the other.
+-- Assumes nothing.
+use mathlib.Core.Path.{_≡_, refl, sym, _∙_, ap}
+use mathlib.Core.List.{List, [], _∷_, _++_, append-assoc}
+use Prim.Native.Nat.{ℕ, _+_, _-_, _*_, _<_}
+use native.Mathlib.Omega.{arith}
+use lib.ListN.{length}
+use Rattle.model.specs.Trace.{decoded}
+use Rattle.machine_record.specs.Recorded.{wholeRecords, leftOver}
+use Rattle.machine_record.specs.Records.{Standing, standingNext, bytesOf, lineOf, standingAfter, bytesAfter, linesAfter}
+
+-- Fewer than four bytes are no record.
+pub few-bytes : (g : Standing) (l : List ℕ) → length l < 4 → (standingAfter g l ≡ g) × (bytesAfter g l ≡ []) × (linesAfter g l ≡ []) × (leftOver l ≡ l)
+unfolding standingAfter bytesAfter linesAfter leftOver
+few-bytes g [] h = (refl, refl, refl, refl)
+few-bytes g (a ∷ []) h = (refl, refl, refl, refl)
+few-bytes g (a ∷ b ∷ []) h = (refl, refl, refl, refl)
+few-bytes g (a ∷ b ∷ c ∷ []) h = (refl, refl, refl, refl)
+few-bytes g (a ∷ b ∷ c ∷ d ∷ l) h = absurd (omega arith)
+
+pub left-few : (l : List ℕ) → length (leftOver l) < 4
+unfolding leftOver
+left-few [] = omega arith
+left-few (a ∷ []) = omega arith
+left-few (a ∷ b ∷ []) = omega arith
+left-few (a ∷ b ∷ c ∷ []) = omega arith
+left-few (a ∷ b ∷ c ∷ d ∷ l) = left-few l
+
+-- Every byte is in a record or left over.
+pub counted : (l : List ℕ) → length l ≡ 4 * wholeRecords l + length (leftOver l)
+unfolding wholeRecords leftOver
+counted [] = refl
+counted (a ∷ []) = refl
+counted (a ∷ b ∷ []) = refl
+counted (a ∷ b ∷ c ∷ []) = refl
+counted (a ∷ b ∷ c ∷ d ∷ l) = omega (arith, counted l)
+
+pub done-after : (g : Standing) (l : List ℕ) → standingAfter g l .done ≡ g .done + wholeRecords l
+unfolding standingAfter standingNext wholeRecords
+done-after g [] = omega arith
+done-after g (a ∷ []) = omega arith
+done-after g (a ∷ b ∷ []) = omega arith
+done-after g (a ∷ b ∷ c ∷ []) = omega arith
+done-after g (a ∷ b ∷ c ∷ d ∷ l) = omega (arith, done-after (standingNext g (decoded (a ∷ b ∷ c ∷ d ∷ []))) l)
+
+pub standing-append : (g : Standing) (l m : List ℕ) → standingAfter g (l ++ m) ≡ standingAfter (standingAfter g l) (leftOver l ++ m)
+unfolding standingAfter leftOver
+standing-append g [] m = refl
+standing-append g (a ∷ []) m = refl
+standing-append g (a ∷ b ∷ []) m = refl
+standing-append g (a ∷ b ∷ c ∷ []) m = refl
+standing-append g (a ∷ b ∷ c ∷ d ∷ l) m = standing-append (standingNext g (decoded (a ∷ b ∷ c ∷ d ∷ []))) l m
+
+pub left-append : (l m : List ℕ) → leftOver (l ++ m) ≡ leftOver (leftOver l ++ m)
+unfolding leftOver
+left-append [] m = refl
+left-append (a ∷ []) m = refl
+left-append (a ∷ b ∷ []) m = refl
+left-append (a ∷ b ∷ c ∷ []) m = refl
+left-append (a ∷ b ∷ c ∷ d ∷ l) m = left-append l m
+
+pub bytes-append : (g : Standing) (l m : List ℕ) → bytesAfter g (l ++ m) ≡ bytesAfter g l ++ bytesAfter (standingAfter g l) (leftOver l ++ m)
+unfolding standingAfter leftOver bytesAfter
+bytes-append g [] m = refl
+bytes-append g (a ∷ []) m = refl
+bytes-append g (a ∷ b ∷ []) m = refl
+bytes-append g (a ∷ b ∷ c ∷ []) m = refl
+bytes-append g (a ∷ b ∷ c ∷ d ∷ l) m =
+    let o = decoded (a ∷ b ∷ c ∷ d ∷ []) in
+    let h = standingNext g o in
+    ap (λ (x : List ℕ). bytesOf g o ++ x) (bytes-append h l m) ∙ sym (append-assoc (bytesOf g o) (bytesAfter h l) (bytesAfter (standingAfter h l) (leftOver l ++ m)))
+
+pub lines-append : (g : Standing) (l m : List ℕ) → linesAfter g (l ++ m) ≡ linesAfter g l ++ linesAfter (standingAfter g l) (leftOver l ++ m)
+unfolding standingAfter leftOver linesAfter
+lines-append g [] m = refl
+lines-append g (a ∷ []) m = refl
+lines-append g (a ∷ b ∷ []) m = refl
+lines-append g (a ∷ b ∷ c ∷ []) m = refl
+lines-append g (a ∷ b ∷ c ∷ d ∷ l) m =
+    let o = decoded (a ∷ b ∷ c ∷ d ∷ []) in
+    let h = standingNext g o in
+    ap (λ (x : List ℕ). lineOf g o ++ x) (lines-append h l m) ∙ sym (append-assoc (lineOf g o) (linesAfter h l) (linesAfter (standingAfter h l) (leftOver l ++ m)))

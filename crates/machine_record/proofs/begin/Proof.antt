@@ -1,0 +1,21 @@
+-- `machine_record::begin` meets its contract. Assumes nothing.
+use native.Mathlib.Omega.{arith}
+use mathlib.Core.Path.{_≡_, refl, _∙_, sym, ap}
+use lib.ListN.{length}
+use Rattle.machine_record.proofs.Arriving.{arrives-counting}
+use Rattle.machine_record.proofs.Stepping.{enoughRoom, room-kept, begin-stands}
+use borrow.Author.Needs.{needs}
+use Rattle.machine_record.proofs.begin.Statement.{statement}
+use Rattle.machine_record.proofs.begin.Tie as tie
+
+put-requires : tie.Need-put-requires
+put-requires c κs = enoughRoom _ _ _ _ _ (c .before .before .before .before .before .before .before .pre) .memory-room
+
+request-requires : tie.Need-request-requires
+request-requires c κs = rw (c .before .before .before .before .at .ensures) (omega arith, omega arith)
+
+returns : tie.Need-returns
+returns c = begin-stands _ _ _ _ _ _ _ _ (room-kept _ _ _ _ _ _ _ _ _ _ (c .before .before .before .put .kept .0) refl refl refl refl (c .before .before .before .before .before .before .before .before .before .before .before .pre)) (c .before .before .before .put .ensures) (rw (c .before .before .before .before .before .at .ensures) (arrives-counting _ _ _ _)) (c .request .ensures)
+
+pub begin-spec : {M : Type 1} → statement M
+begin-spec = tie.close (tie.spec (λ c κs. search needs) put-requires request-requires (λ c. search needs) returns)

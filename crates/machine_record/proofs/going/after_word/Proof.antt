@@ -1,0 +1,50 @@
+-- `machine_record::going::after_word` meets its contract. Assumes nothing.
+use native.Mathlib.Omega.{arith}
+use mathlib.Core.Path.{_≡_, _∙_, ap}
+use Prim.Native.Nat.{ℕ, _+_, _-_}
+use lib.ListN.{take, drop}
+use Rattle.machines.specs.programs.Numbers.{numberIn}
+use Rattle.machine_record.specs.Machine.{sized}
+use Rattle.machine_record.proofs.Leading.{led, word-taken, word-end, word-failed}
+use Rattle.machines.specs.Forms.{Between}
+use borrow.Author.Needs.{needs}
+use Rattle.machine_record.proofs.going.after_word.Statement.{statement}
+use Rattle.machine_record.proofs.going.after_word.Tie as tie
+
+add-end : tie.Need-add-end
+unfolding Between
+add-end c = let b = rw (c .before .taken .given .1) at (c .before .before .before .word .ensures .1) in omega (arith, b .1, c .before .before .before .before .before .before .pre .1)
+
+part-take-size-end : tie.Need-part-take-size-end
+unfolding Between
+part-take-size-end c = let b = rw (c .before .taken .given .1) at (c .before .before .before .word .ensures .1) in omega (arith, b .1, c .before .before .before .before .before .before .pre .0, c .before .before .before .before .before .before .pre .1)
+
+take-size-requires : tie.Need-take-size-requires
+take-size-requires c κs = c .before .before .before .before .before .before .before .before .pre .2
+
+end-with-requires : tie.Need-end-with-requires
+end-with-requires c κs = omega (arith, c .before .before .before .before .before .before .before .pre .2)
+
+end-with-requires-2 : tie.Need-end-with-requires-2
+end-with-requires-2 c κs = omega (arith, c .before .before .before .before .before .before .before .pre .2)
+
+returns : tie.Need-returns
+returns c = λ words lines.
+    let size = c .before .before .before .before .before .before .taken .given .0 .0 in
+    let kept = c .before .before .before .before .before .before .before .before .before .before .before .args .kept in
+    let input = c .before .before .before .before .before .before .before .before .before .before .before .args .input .now in
+    let same : size ≡ (kept + size) - kept = omega arith in
+    led (word-taken _ kept input _ (c .before .before .before .before .before .before .before .before .word .ensures .0 (c .before .before .before .before .before .before .before .before .before .before .before .args .kept) (c .before .before .before .before .before .before .before .before .before .before .before .args .input .now) (omega (arith, c .before .before .before .before .before .before .before .before .before .before .before .pre .0, c .before .before .before .before .before .before .before .before .before .before .before .pre .1))) size (c .before .before .before .before .before .before .taken .given .1) ∙ ap (λ (k : ℕ). sized (numberIn (take k (drop kept input)))) same) (c .before .before .take-size .ensures words input lines)
+
+returns-2 : tie.Need-returns-2
+returns-2 c = λ words lines. led (word-end _ _ _ _ (c .before .before .before .before .before .before .before .word .ensures .0 (c .before .before .before .before .before .before .before .before .before .before .args .kept) (c .before .before .before .before .before .before .before .before .before .before .args .input .now) (omega (arith, c .before .before .before .before .before .before .before .before .before .before .pre .0, c .before .before .before .before .before .before .before .before .before .before .pre .1))) (c .before .before .before .before .before .enum-told .given .1)) (c .before .before .end-with .ensures words (c .before .before .before .before .before .before .before .before .before .before .args .input .now) lines)
+
+returns-3 : tie.Need-returns-3
+returns-3 c = λ words lines. led (word-failed _ _ _ _ (c .before .before .before .before .before .before .before .word .ensures .0 (c .before .before .before .before .before .before .before .before .before .before .args .kept) (c .before .before .before .before .before .before .before .before .before .before .args .input .now) (omega (arith, c .before .before .before .before .before .before .before .before .before .before .pre .0, c .before .before .before .before .before .before .before .before .before .before .pre .1))) (c .before .before .before .before .before .enum-told2 .given .1)) (c .before .before .end-with2 .ensures words (c .before .before .before .before .before .before .before .before .before .before .args .input .now) lines)
+
+pub after-word-spec : {M : Type 1} → statement M
+after-word-spec =
+    tie.close
+    (tie.spec (λ c κs. search needs) (λ c. search needs) add-end (λ c. search needs) (λ c. search needs) part-take-size-end take-size-requires (λ c. search needs)
+    (λ c. search needs) end-with-requires (λ c. search needs) (λ c. search needs) end-with-requires-2 (λ c. search needs) returns (λ c. search needs) returns-2
+    (λ c. search needs) returns-3)

@@ -1,0 +1,21 @@
+-- `machine_record::going::take_size` meets its contract. Assumes nothing.
+use native.Mathlib.Omega.{arith}
+use Rattle.machine_record.proofs.Arriving.{arrives-beginning}
+use Rattle.machine_record.proofs.Leading.{led, sized-large, sized-small}
+use mathlib.Core.Path.{_∙_, ap}
+use Rattle.machine_record.specs.Machine.{sized}
+use borrow.Author.Needs.{needs}
+use Rattle.machine_record.proofs.going.take_size.Statement.{statement}
+use Rattle.machine_record.proofs.going.take_size.Tie as tie
+
+end-with-requires : tie.Need-end-with-requires
+end-with-requires c κs = omega (arith, c .before .before .before .before .before .before .pre)
+
+returns : tie.Need-returns
+returns c = λ words input lines. rw (← c .before .before .before .before .before .before .number-in .ensures) (led (sized-large _ (c .before .before .before .before .before .if1 .taken)) (c .before .before .end-with .ensures words input lines))
+
+returns-2 : tie.Need-returns-2
+returns-2 c = λ words input lines. rw (← c .before .before .number-in .ensures) (led (sized-small _ (c .before .if1 .left)) (rw (c .at .ensures) (arrives-beginning words input lines _ _ (omega (arith, c .before .if1 .left)))))
+
+pub take-size-spec : {M : Type 1} → statement M
+take-size-spec = tie.close (tie.spec (λ c κs. search needs) (λ c. search needs) end-with-requires (λ c. search needs) returns (λ c κs. search needs) returns-2)

@@ -1,0 +1,27 @@
+-- `machine_record::going::to_report` meets its contract. Assumes nothing.
+use native.Mathlib.Omega.{arith}
+use Rattle.machine_record.proofs.Arriving.{none-to-report, arrives-report}
+use Rattle.machine_record.proofs.Leading.{led}
+use mathlib.Core.Path.{sym}
+use lib.Seq.{length-take-le}
+use borrow.Author.Needs.{needs}
+use Rattle.machine_record.proofs.going.to_report.Statement.{statement}
+use Rattle.machine_record.proofs.going.to_report.Tie as tie
+
+to-read-requires : tie.Need-to-read-requires
+to-read-requires c κs = (c .before .before .before .pre .0, c .before .before .before .pre .1, c .before .before .before .pre .2)
+
+returns : tie.Need-returns
+returns c = λ words input. led (none-to-report words input _ (c .before .before .before .before .args .m) (c .before .if1 .taken)) (c .to-read .ensures words input _ _)
+
+slice-aggregate-write-word : tie.Need-slice-aggregate-write-word
+slice-aggregate-write-word c = sym (length-take-le (c .before .before .before .before .before .args .m .pending) (c .before .before .before .before .before .args .lines .now) (c .before .before .before .before .before .pre .3))
+
+write-word-requires : tie.Need-write-word-requires
+write-word-requires c κs = omega (arith, c .before .before .before .before .before .pre .4, length-take-le (c .before .before .before .before .before .args .m .pending) (c .before .before .before .before .before .args .lines .now) (c .before .before .before .before .before .pre .3))
+
+returns-2 : tie.Need-returns-2
+returns-2 c = λ words input. arrives-report words input _ (c .before .before .before .before .before .before .before .before .args .m) _ _ _ (c .before .before .before .before .before .before .before .before .pre .0) (c .before .before .before .before .before .before .before .before .pre .1) (c .before .before .before .before .before .before .before .before .pre .2) (c .before .before .before .before .before .before .before .before .pre .3) (c .before .before .before .before .before .before .before .before .pre .4) (c .before .before .before .before .before .if1 .left) (c .before .before .write-word .ensures)
+
+pub to-report-spec : {M : Type 1} → statement M
+to-report-spec = tie.close (tie.spec to-read-requires returns slice-aggregate-write-word write-word-requires (λ c. search needs) returns-2)

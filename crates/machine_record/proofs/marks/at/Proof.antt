@@ -1,0 +1,8 @@
+-- `machine_record::marks::at` meets its contract. Assumes nothing.
+use mathlib.Core.Path.{refl}
+use borrow.Author.Needs.{needs}
+use Rattle.machine_record.proofs.marks.at.Statement.{statement}
+use Rattle.machine_record.proofs.marks.at.Tie as tie
+
+pub at-spec : {M : Type 1} → statement M
+at-spec = tie.close (tie.spec (λ c. refl))

@@ -1,0 +1,519 @@
+-- What the replay program asks to be written is the listing of what it read, over every list of answers.
+-- Assumes nothing.
+use mathlib.Core.Path.{_≡_, refl, sym, _∙_, ap, subst}
+use mathlib.Core.Bool.{Bool, true, false, _&&_, _||_, false≢true}
+use mathlib.Core.List.{List, [], _∷_, _++_, append-nil, append-assoc}
+use mathlib.Core.Option.{Option, none, some}
+use Prim.Native.Nat.{ℕ, _+_, _-_, _*_, _≤_, _<_}
+use native.Mathlib.Omega.{arith}
+use lib.Dec.{eqb, ltb, leb}
+use lib.ListN.{length, take, drop, getD, length-append}
+use borrow.Author.Tests.{lt-ltb, le-leb, leb-true, leb-false, ltb-true, eqb-true, eqb-false}
+use Rattle.laws.specs.Choice.{pick, by-bool}
+use Rattle.laws.specs.Truth.{and-left, and-right, or-left}
+use Rattle.laws.specs.Tests.{same}
+use Rattle.model.specs.declared.Refusal.{Refusal}
+use Rattle.model.specs.declared.Run.{Run}
+use Rattle.model.specs.Words.{ones}
+use Rattle.model.specs.Refusals.{startRefusal}
+use Rattle.whole_runs.specs.Listing.{mostRecords, asksForAll, records, started, listing}
+use Rattle.listing.specs.Lines.{longestLine}
+use Rattle.library_replay.specs.Taken.{BlockOutcome, mayTake, takenOf, outcomeOf, blockOutcome, Within, BlocksGoOn}
+use Rattle.library_replay.proofs.Onward.{blocks-go-on}
+use Rattle.machines.specs.Machines as m
+use Rattle.machines.specs.Machines.{Request, Count, Argument, Open, Read, Write, Say, Fail, Stop, Answer, Number, Bytes, End, Done, Failed, Machine, Exchange, stepped, exchanged, stateAfter, exchanges, asked, writtenOf, errorTextOf, readBy, readOf, requestsOf, brought, isNumber, heard, heardRead, heardDone, heardCount, heardWord}
+use Rattle.machines.proofs.Runs.{throughout, asked-is, requests-then, written-then, error-text-then, read-then, written-one, error-text-one, written-is}
+use Rattle.machine_replay.specs.Replaying.{Between, State, starting, counted, opening, reading, printing, ending, failing, stopped, allWord, inputText, outputText, mostToRead, asks, taking, onward, begun, opened, filled, wrote, next, replaying}
+use Rattle.machine_replay.specs.Printing.{numberOf, wayOf, isEnd, hasEnded, linesOf, goesOnAfter, MayFollow, PrintsTheListing}
+use Rattle.machine_replay.proofs.Going.{Going, begun-going, read-length, owed, going-filled, going-taken, owed-last, buffered-length, lines-so-far, goes-on-after}
+
+-- What was asked and answered so far comes to.
+record Account (all : Bool) (read written : List ℕ) (ended : Bool) (talk : List Exchange) : Type 0 where
+  way : (more : List Exchange) → wayOf (talk ++ more) ≡ all
+  is-read : readOf talk ≡ read
+  is-written : writtenOf (requestsOf talk) ≡ written
+  is-ended : hasEnded talk ≡ ended
+
+abbrev one : Request → Answer → Exchange
+one r a = record { request = r; answer = a }
+
+ended-then : (l : List Exchange) (e : Exchange) → hasEnded (l ++ (e ∷ [])) ≡ (hasEnded l || isEnd (e .answer))
+unfolding hasEnded
+ended-then [] e = by-bool (isEnd (e .answer)) (λ h. rw h) (λ h. rw h)
+ended-then (x ∷ l) e = by-bool (isEnd (x .answer)) (λ h. rw h) (λ h. rw h (ended-then l e))
+
+read-one : (e : Exchange) → readOf (e ∷ []) ≡ readBy (e .request) (e .answer)
+unfolding readOf
+read-one e = append-nil (readBy (e .request) (e .answer))
+
+module _ (all : Bool) (read written : List ℕ) (ended : Bool) (talk : List Exchange) (account : Account all read written ended talk) where
+  account-then : (r : Request) (a : Answer) → Account all (read ++ readBy r a) (written ++ m.written r) (ended || isEnd a) (talk ++ (one r a ∷ []))
+  unfolding requestsOf
+  account-then r a = record {
+    way = λ more. ap wayOf (append-assoc talk (one r a ∷ []) more) ∙ account .way (one r a ∷ more);
+    is-read = read-then talk (one r a ∷ []) ∙ rw (account .is-read, read-one (one r a));
+    is-written = ap writtenOf (requests-then talk (one r a ∷ [])) ∙ written-then (requestsOf talk) (r ∷ []) ∙ rw (account .is-written, written-one r);
+    is-ended = ended-then talk (one r a) ∙ rw (account .is-ended);
+  }
+
+-- Bytes may follow until the input has ended.
+abbrev Follows : Bool → List ℕ → Type 0
+Follows ended unread = ended ≡ true → unread ≡ []
+
+abbrev Whole : Bool → List ℕ → List ℕ → Bool → Type 0
+Whole all read written ended = (unread : List ℕ) → Follows ended unread → listing all (read ++ unread) ≡ written
+
+abbrev Front : Bool → List ℕ → List ℕ → Bool → Type 0
+Front all read written ended = (unread : List ℕ) → Follows ended unread → (rest : List ℕ) × (listing all (read ++ unread) ≡ written ++ rest)
+
+whole-front : (all : Bool) (read written : List ℕ) (ended : Bool) → Whole all read written ended → Front all read written ended
+whole-front all read written ended h unread f = ([], h unread f ∙ sym (append-nil written))
+
+-- What is known in each state.
+record Known-reading (b : Between) (talk : List Exchange) : Type 0 where
+  read : List ℕ
+  written : List ℕ
+  account : Account (b .all) read written false talk
+  going : Going read written b
+  few : length (b .buffered) < 4
+
+record Known-printing (b : Between) (lines : List ℕ) (talk : List Exchange) : Type 0 where
+  read : List ℕ
+  written : List ℕ
+  account : Account (b .all) read written false talk
+  going : Going read (written ++ lines) b
+
+record Known-ending (lines : List ℕ) (talk : List Exchange) : Type 0 where
+  all : Bool
+  read : List ℕ
+  written : List ℕ
+  ended : Bool
+  account : Account all read written ended talk
+  whole : Whole all read (written ++ lines) ended
+
+record Known-failing (text : List ℕ) (talk : List Exchange) : Type 0 where
+  all : Bool
+  read : List ℕ
+  written : List ℕ
+  ended : Bool
+  account : Account all read written ended talk
+  front : Front all read written ended
+  says : 1 ≤ length text
+
+record Known-stopped (talk : List Exchange) : Type 0 where
+  all : Bool
+  read : List ℕ
+  written : List ℕ
+  ended : Bool
+  account : Account all read written ended talk
+  front : Front all read written ended
+  whole : errorTextOf (requestsOf talk) ≡ [] → Whole all read written ended
+
+Known : State → List Exchange → Type 0
+Known starting talk = talk ≡ []
+Known (counted single) talk = (a : Answer) × (talk ≡ one Count (heardCount a) ∷ []) × (single ≡ isNumber (heardCount a) 2)
+Known (opening all) talk = Account all [] [] false talk
+Known (reading b) talk = Known-reading b talk
+Known (printing b lines) talk = Known-printing b lines talk
+Known (ending lines) talk = Known-ending lines talk
+Known (failing text) talk = Known-failing text talk
+Known stopped talk = Known-stopped talk
+
+not-end-count : (a : Answer) → isEnd (heardCount a) ≡ false
+unfolding isEnd heardCount
+not-end-count (Number k) = refl
+not-end-count (Bytes l) = refl
+not-end-count End = refl
+not-end-count Done = refl
+not-end-count Failed = refl
+
+not-end-word : (most : ℕ) (a : Answer) → isEnd (heardWord most a) ≡ false
+unfolding isEnd heardWord
+not-end-word most (Number k) = refl
+not-end-word most (Bytes l) = by-bool (leb (length l) most) (λ e. rw e) (λ e. rw e)
+not-end-word most End = refl
+not-end-word most Done = refl
+not-end-word most Failed = refl
+
+number-two : (a : Answer) → isNumber a 2 ≡ eqb (numberOf a) 2
+unfolding isNumber numberOf
+number-two (Number n) = refl
+number-two (Bytes l) = refl
+number-two End = refl
+number-two Done = refl
+number-two Failed = refl
+
+-- Both arguments are heard.
+argument-account : (a b : Answer) → Account (isNumber (heardCount a) 2 && same (brought (heardWord 4 b)) allWord) [] [] false (one Count (heardCount a) ∷ one (Argument 1 4) (heardWord 4 b) ∷ [])
+unfolding wayOf asksForAll readOf readBy writtenOf requestsOf m.written hasEnded
+argument-account a b = record { way = λ more. ap (λ (single : Bool). single && same (brought (heardWord 4 b)) allWord) (sym (number-two (heardCount a))); is-read = refl; is-written = refl; is-ended = rw (not-end-count a, not-end-word 4 b) }
+
+-- A read that fits.
+FitsRead : ℕ → Answer → Type 0
+FitsRead most (Number k) = Unit {0}
+FitsRead most (Bytes l) = (1 ≤ length l) × (length l ≤ most)
+FitsRead most End = Unit {0}
+FitsRead most Done = Unit {0}
+FitsRead most Failed = Unit {0}
+
+fits-read : (most : ℕ) (a : Answer) → FitsRead most (heardRead most a)
+unfolding heardRead FitsRead
+fits-read most (Number k) = tt
+fits-read most (Bytes l) = by-bool (leb 1 (length l) && leb (length l) most)
+    (λ e. rw e (leb-true 1 (length l) (and-left (leb 1 (length l)) (leb (length l) most) e), leb-true (length l) most (and-right (leb 1 (length l)) (leb (length l) most) e)))
+    (λ e. rw e tt)
+fits-read most End = tt
+fits-read most Done = tt
+fits-read most Failed = tt
+
+by-refusal : {P : Type 0} (o : Option Refusal) → (o ≡ none → P) → ((x : Refusal) → o ≡ some x → P) → P
+by-refusal none a b = a refl
+by-refusal (some x) a b = b x refl
+
+follows-before : (ended more : Bool) (unread : List ℕ) → Follows (ended || more) unread → Follows ended unread
+follows-before ended more unread f t = f (or-left ended more t)
+
+-- A failure is said: what was written is the front of the listing.
+fails : (all : Bool) (read written : List ℕ) (ended : Bool) (talk : List Exchange) (text : List ℕ) → Account all read written ended talk → Front all read written ended → 1 ≤ length text → Known (failing text) talk
+unfolding Known
+fails all read written ended talk text account front says = record { all = all; read = read; written = written; ended = ended; account = account; front = front; says = says }
+
+module _ (size room : ℕ) (enoughRoom : longestLine ≤ room) where
+  -- The records that were read are taken.
+  module _ (b : Between) (read written : List ℕ) (talk : List Exchange) (account : Account (b .all) read written false talk) (going : Going read written b) where
+    abbrev o : BlockOutcome
+    o = blockOutcome (b .all) (b .done) (b .run) (b .buffered) room
+
+    within : Within (b .all) (b .done) (b .run) (b .buffered) room (o .taken)
+    unfolding blockOutcome outcomeOf BlocksGoOn
+    within = blocks-go-on (b .all) (b .done) (b .run) (b .buffered) room
+
+    none-whole : o .taken ≡ 0 → length (b .buffered) < 4
+    unfolding mayTake
+    none-whole none-taken = by-bool (leb 4 (length (b .buffered)))
+        (λ e. absurd (omega (arith, none-taken, within .some (leb-true 4 (length (b .buffered)) e) (rw (lt-ltb (b .done) mostRecords (going .less), le-leb longestLine room enoughRoom)))))
+        (λ e. leb-false 4 (length (b .buffered)) e)
+
+    onward-known : Known (onward room b) talk
+    unfolding Known onward taking blockOutcome outcomeOf
+    onward-known = by-bool (eqb (o .taken) 0)
+        (λ e. rw e (record { read = read; written = written; account = account; going = going; few = none-whole (eqb-true (o .taken) 0 e) }))
+        (λ e. by-bool (o .going && ltb (b .done + o .taken) mostRecords)
+        (λ g. rw (e, g) (record {
+          read = read;
+          written = written;
+          account = account;
+          going = going-taken read written b going (o .taken) (within .inside) (and-left (o .going) (ltb (b .done + o .taken) mostRecords) g) (ltb-true (b .done + o .taken) mostRecords (and-right (o .going) (ltb (b .done + o .taken) mostRecords) g));
+        }))
+        (λ g. rw (e, g) (record { all = b .all; read = read; written = written; ended = false; account = account; whole = λ unread f. owed-last read written b going (o .taken) (within .inside) g unread })))
+
+  -- The first byte.
+  module _ (all : Bool) (talk : List Exchange) (account : Account all [] [] false talk) where
+    abbrev then : Answer → List Exchange
+    then x = talk ++ (one (Read 1) x ∷ [])
+
+    opened-failed : (x : Answer) → brought x ≡ [] → isEnd x ≡ false → Known (failing inputText) (then x)
+    unfolding readBy m.written
+    opened-failed x none-read not-end =
+        fails all [] [] false (then x) inputText (rw (none-read, not-end) at (account-then all [] [] false talk account (Read 1) x)) (λ unread f. (listing all unread, refl)) (omega arith)
+
+    opened-begun : (n : ℕ) → Known (begun all n (startRefusal n ones)) (then (Bytes (n ∷ [])))
+    unfolding Known begun readBy brought m.written isEnd listing started
+    opened-begun n = by-refusal (startRefusal n ones)
+        (λ ok. rw ok (record { read = n ∷ []; written = []; account = account-then all [] [] false talk account (Read 1) (Bytes (n ∷ [])); going = begun-going all n ok; few = omega arith }))
+        (λ why e. rw e (record { all = all; read = n ∷ []; written = []; ended = false; account = account-then all [] [] false talk account (Read 1) (Bytes (n ∷ [])); whole = λ unread f. rw e }))
+
+    opened-known : (x : Answer) → FitsRead 1 x → Known (opened all x) (then x)
+    unfolding opened FitsRead Known readBy brought m.written isEnd listing
+    opened-known (Number k) fits = opened-failed (Number k) refl refl
+    opened-known (Bytes []) fits = absurd (omega (arith, fits .0))
+    opened-known (Bytes (n ∷ [])) fits = opened-begun n
+    opened-known (Bytes (n ∷ y ∷ l)) fits = absurd (omega (arith, fits .1))
+    opened-known End fits = record { all = all; read = []; written = []; ended = true; account = account-then all [] [] false talk account (Read 1) End; whole = λ unread f. rw (f refl) }
+    opened-known Done fits = opened-failed Done refl refl
+    opened-known Failed fits = opened-failed Failed refl refl
+
+  -- The next bytes.
+  module _ (b : Between) (talk : List Exchange) (h : Known-reading b talk) where
+    abbrev most : ℕ
+    most = mostToRead size b
+
+    abbrev after : Answer → List Exchange
+    after x = talk ++ (one (Read most) x ∷ [])
+
+    account-after : (x : Answer) → Account (b .all) (h .read ++ brought x) (h .written) (isEnd x) (after x)
+    unfolding readBy m.written
+    account-after x = rw (append-nil (h .written)) at (account-then (b .all) (h .read) (h .written) false talk (h .account) (Read most) x)
+
+    filled-failed : (x : Answer) → brought x ≡ [] → Known (failing inputText) (after x)
+    filled-failed x none-read =
+        fails (b .all) (h .read) (h .written) (isEnd x) (after x) inputText (rw (none-read, append-nil (h .read)) at (account-after x)) (λ unread f. (records (b .all) (b .done) (b .run) (b .buffered ++ unread), owed (h .read) (h .written) b (h .going) unread)) (omega arith)
+
+    filled-known : (x : Answer) → FitsRead most x → Known (filled room b x) (after x)
+    unfolding filled FitsRead Known brought isEnd mostToRead
+    filled-known (Number k) fits = filled-failed (Number k) refl
+    filled-known (Bytes l) fits =
+        onward-known (record { all = b .all; done = b .done; run = b .run; buffered = b .buffered ++ l }) (h .read ++ l) (h .written) (after (Bytes l)) (account-after (Bytes l))
+        (going-filled (h .read) (h .written) b (h .going) l (omega (arith, fits .0, fits .1, buffered-length (h .read) (h .written) b (h .going), h .going .less)))
+    filled-known End fits = record {
+      all = b .all;
+      read = h .read;
+      written = h .written;
+      ended = true;
+      account = rw (append-nil (h .read)) at (account-after End);
+      whole = λ unread f. rw (f refl) (owed (h .read) (h .written) b (h .going) [] ∙ ap (λ (l : List ℕ). h .written ++ records (b .all) (b .done) (b .run) l) (append-nil (b .buffered)));
+    }
+    filled-known Done fits = filled-failed Done refl
+    filled-known Failed fits = filled-failed Failed refl
+
+  -- Lines are written.
+  module _ (all : Bool) (read written lines : List ℕ) (ended : Bool) (talk : List Exchange) (account : Account all read written ended talk) where
+    account-written : (x : Answer) → Account all read (written ++ lines) (ended || isEnd x) (talk ++ (one (Write lines) x ∷ []))
+    unfolding readBy m.written
+    account-written x = rw (append-nil read) at (account-then all read written ended talk account (Write lines) x)
+
+    wrote-failed : (x : Answer) → Front all read (written ++ lines) ended → Known (failing outputText) (talk ++ (one (Write lines) x ∷ []))
+    wrote-failed x front =
+        fails all read (written ++ lines) (ended || isEnd x) (talk ++ (one (Write lines) x ∷ [])) outputText (account-written x) (λ unread f. front unread (follows-before ended (isEnd x) unread f)) (omega arith)
+
+    wrote-known : (s : State) (x : Answer) → Front all read (written ++ lines) ended → Known s (talk ++ (one (Write lines) Done ∷ [])) → Known (wrote s x) (talk ++ (one (Write lines) x ∷ []))
+    unfolding wrote
+    wrote-known s Done front h = h
+    wrote-known s (Number k) front h = wrote-failed (Number k) front
+    wrote-known s (Bytes l) front h = wrote-failed (Bytes l) front
+    wrote-known s End front h = wrote-failed End front
+    wrote-known s Failed front h = wrote-failed Failed front
+
+  printed-known : (b : Between) (lines : List ℕ) (talk : List Exchange) → Known-printing b lines talk → (x : Answer) → Known (wrote (onward room b) x) (talk ++ (one (Write lines) x ∷ []))
+  unfolding isEnd
+  printed-known b lines talk h x =
+      wrote-known (b .all) (h .read) (h .written) lines false talk (h .account) (onward room b) x
+      (λ unread f. (records (b .all) (b .done) (b .run) (b .buffered ++ unread), owed (h .read) (h .written ++ lines) b (h .going) unread))
+      (onward-known b (h .read) (h .written ++ lines) (talk ++ (one (Write lines) Done ∷ [])) (account-written (b .all) (h .read) (h .written) lines false talk (h .account) Done) (h .going))
+
+  ended-known : (lines : List ℕ) (talk : List Exchange) → Known-ending lines talk → (x : Answer) → Known (wrote stopped x) (talk ++ (one (Write lines) x ∷ []))
+  unfolding Known
+  ended-known lines talk h x =
+      let all-lines = h .written ++ lines in
+      let still : Whole (h .all) (h .read) (h .written ++ lines) (h .ended || isEnd Done) = λ unread f. h .whole unread (follows-before (h .ended) (isEnd Done) unread f) in
+      wrote-known (h .all) (h .read) (h .written) lines (h .ended) talk (h .account) stopped x (whole-front (h .all) (h .read) all-lines (h .ended) (h .whole))
+      (record {
+        all = h .all;
+        read = h .read;
+        written = all-lines;
+        ended = h .ended || isEnd Done;
+        account = account-written (h .all) (h .read) (h .written) lines (h .ended) talk (h .account) Done;
+        front = whole-front (h .all) (h .read) all-lines (h .ended || isEnd Done) still;
+        whole = λ silent. still;
+      })
+
+  error-text-after : (talk : List Exchange) (r : Request) (x : Answer) → errorTextOf (requestsOf (talk ++ (one r x ∷ []))) ≡ errorTextOf (requestsOf talk) ++ m.errorText r
+  unfolding requestsOf
+  error-text-after talk r x = ap errorTextOf (requests-then talk (one r x ∷ [])) ∙ error-text-then (requestsOf talk) (r ∷ []) ∙ ap (λ (l : List ℕ). errorTextOf (requestsOf talk) ++ l) (error-text-one r)
+
+  failed-known : (text : List ℕ) (talk : List Exchange) → Known-failing text talk → (x : Answer) → Known stopped (talk ++ (one (Fail text) x ∷ []))
+  unfolding Known readBy m.written m.errorText
+  failed-known text talk h x = record {
+    all = h .all;
+    read = h .read;
+    written = h .written;
+    ended = h .ended || isEnd x;
+    account = rw (append-nil (h .read), append-nil (h .written)) at (account-then (h .all) (h .read) (h .written) (h .ended) talk (h .account) (Fail text) x);
+    front = λ unread f. h .front unread (follows-before (h .ended) (isEnd x) unread f);
+    whole = λ silent. absurd (omega (arith, h .says, ap length (sym (error-text-after talk (Fail text) x) ∙ silent), length-append (errorTextOf (requestsOf talk)) text));
+  }
+
+  stopped-known : (talk : List Exchange) → Known-stopped talk → (x : Answer) → Known stopped (talk ++ (one Stop x ∷ []))
+  unfolding Known readBy m.written m.errorText
+  stopped-known talk h x = record {
+    all = h .all;
+    read = h .read;
+    written = h .written;
+    ended = h .ended || isEnd x;
+    account = rw (append-nil (h .read), append-nil (h .written)) at (account-then (h .all) (h .read) (h .written) (h .ended) talk (h .account) Stop x);
+    front = λ unread f. h .front unread (follows-before (h .ended) (isEnd x) unread f);
+    whole = λ silent unread f. h .whole (sym (append-nil (errorTextOf (requestsOf talk))) ∙ sym (error-text-after talk Stop x) ∙ silent) unread (follows-before (h .ended) (isEnd x) unread f);
+  }
+
+  known-step : (s : State) (talk : List Exchange) (a : Answer) → Known s talk → Known (stepped (replaying size room) s a) (talk ++ (exchanged (replaying size room) s a ∷ []))
+  unfolding stepped next asks heard Known
+  known-step starting talk a h = (a, rw h, refl)
+  known-step (counted single) talk a h = rw (h .1, h .2) (argument-account (h .0) a)
+  known-step (opening all) talk a h = opened-known all talk h (heardRead 1 a) (fits-read 1 a)
+  known-step (reading b) talk a h = filled-known b talk h (heardRead (mostToRead size b) a) (fits-read (mostToRead size b) a)
+  known-step (printing b lines) talk a h = printed-known b lines talk h (heardDone a)
+  known-step (ending lines) talk a h = ended-known lines talk h (heardDone a)
+  known-step (failing text) talk a h = failed-known text talk h Done
+  known-step stopped talk a h = stopped-known talk h Failed
+
+  -- What follows for the state that was reached.
+  isRead : Request → Bool
+  isRead Count = false
+  isRead (Argument i k) = false
+  isRead (Open path) = false
+  isRead (Read k) = true
+  isRead (Write text) = false
+  isRead (Say text) = false
+  isRead (Fail text) = false
+  isRead Stop = false
+
+  isStop : Request → Bool
+  isStop Count = false
+  isStop (Argument i k) = false
+  isStop (Open path) = false
+  isStop (Read k) = false
+  isStop (Write text) = false
+  isStop (Say text) = false
+  isStop (Fail text) = false
+  isStop Stop = true
+
+  readMost : Request → ℕ
+  readMost Count = 0
+  readMost (Argument i k) = 0
+  readMost (Open path) = 0
+  readMost (Read k) = k
+  readMost (Write text) = 0
+  readMost (Say text) = 0
+  readMost (Fail text) = 0
+  readMost Stop = 0
+
+  -- What was asked for, with the request that is not answered yet.
+  record Comes (s : State) (talk : List Exchange) : Type 0 where
+    so-far : (unread : List ℕ) → MayFollow talk unread → (rest : List ℕ) × (listing (wayOf talk) (readOf talk ++ unread) ≡ (writtenOf (requestsOf talk) ++ m.written (asks size s)) ++ rest)
+    before-reading : (most : ℕ) → asks size s ≡ Read most → writtenOf (requestsOf talk) ++ m.written (asks size s) ≡ linesOf (wayOf talk) (readOf talk)
+    at-the-stop : asks size s ≡ Stop → errorTextOf (requestsOf talk) ++ m.errorText (asks size s) ≡ [] → (unread : List ℕ) → MayFollow talk unread
+        → writtenOf (requestsOf talk) ++ m.written (asks size s) ≡ listing (wayOf talk) (readOf talk ++ unread)
+    no-further : (most : ℕ) → asks size s ≡ Read most
+        → (hasEnded talk ≡ false) × (goesOnAfter (wayOf talk) (readOf talk) ≡ true) × (length (readOf talk) + most ≤ 1 + 4 * mostRecords)
+
+  not-read : {P : Type 0} (r : Request) (most : ℕ) → isRead r ≡ false → r ≡ Read most → P
+  unfolding isRead
+  not-read r most f e = absurd (false≢true (sym f ∙ ap isRead e))
+
+  not-stop : {P : Type 0} (r : Request) → isStop r ≡ false → r ≡ Stop → P
+  unfolding isStop
+  not-stop r f e = absurd (false≢true (sym f ∙ ap isStop e))
+
+  module _ (all : Bool) (read written : List ℕ) (ended : Bool) (talk : List Exchange) (account : Account all read written ended talk) where
+    way-now : wayOf talk ≡ all
+    way-now = ap wayOf (sym (append-nil talk)) ∙ account .way []
+
+    front-now : (lines : List ℕ) → Front all read (written ++ lines) ended
+        → (unread : List ℕ) → MayFollow talk unread → (rest : List ℕ) × (listing (wayOf talk) (readOf talk ++ unread) ≡ (writtenOf (requestsOf talk) ++ lines) ++ rest)
+    front-now lines front unread f = rw (way-now, account .is-read, account .is-written) (front unread (rw (account .is-ended) at f))
+
+    front-silent : Front all read written ended → (unread : List ℕ) → MayFollow talk unread → (rest : List ℕ) × (listing (wayOf talk) (readOf talk ++ unread) ≡ (writtenOf (requestsOf talk) ++ []) ++ rest)
+    front-silent front = front-now [] (rw (append-nil written) front)
+
+  starting-comes : (talk : List Exchange) → talk ≡ [] → Comes starting talk
+  unfolding asks m.written readOf writtenOf requestsOf isRead isStop
+  starting-comes talk h = record {
+    so-far = λ unread f. rw h (listing (wayOf []) unread, refl);
+    before-reading = λ most e. not-read Count most refl e;
+    at-the-stop = λ e. not-stop Count refl e;
+    no-further = λ most e. not-read Count most refl e;
+  }
+
+  counted-comes : (single : Bool) (talk : List Exchange) (a : Answer) → talk ≡ one Count (heardCount a) ∷ [] → Comes (counted single) talk
+  unfolding asks m.written readOf readBy writtenOf requestsOf isRead isStop
+  counted-comes single talk a h = record {
+    so-far = λ unread f. rw h (listing (wayOf (one Count (heardCount a) ∷ [])) unread, refl);
+    before-reading = λ most e. not-read (Argument 1 4) most refl e;
+    at-the-stop = λ e. not-stop (Argument 1 4) refl e;
+    no-further = λ most e. not-read (Argument 1 4) most refl e;
+  }
+
+  opening-comes : (all : Bool) (talk : List Exchange) → Account all [] [] false talk → Comes (opening all) talk
+  unfolding asks m.written isStop readMost linesOf goesOnAfter
+  opening-comes all talk account = record {
+    so-far = front-silent all [] [] false talk account (λ unread f. (listing all unread, refl));
+    before-reading = λ most e. rw (account .is-read, account .is-written);
+    at-the-stop = λ e. not-stop (Read 1) refl e;
+    no-further = λ most e. (account .is-ended, rw (account .is-read), omega (arith, ap length (account .is-read), ap readMost e));
+  }
+
+  reading-comes : (b : Between) (talk : List Exchange) → Known-reading b talk → Comes (reading b) talk
+  unfolding asks m.written isStop readMost mostToRead
+  reading-comes b talk h = record {
+    so-far = front-silent (b .all) (h .read) (h .written) false talk (h .account) (λ unread f. (records (b .all) (b .done) (b .run) (b .buffered ++ unread), owed (h .read) (h .written) b (h .going) unread));
+    before-reading = λ most e. rw (way-now (b .all) (h .read) (h .written) false talk (h .account), h .account .is-read, h .account .is-written, append-nil (h .written)) (lines-so-far (h .read) (h .written) b (h .going) (h .few));
+    at-the-stop = λ e. not-stop (Read (mostToRead size b)) refl e;
+    no-further = λ most e. (
+      h .account .is-ended,
+      rw (way-now (b .all) (h .read) (h .written) false talk (h .account), h .account .is-read) (goes-on-after (h .read) (h .written) b (h .going) (h .few)),
+      omega (arith, ap length (h .account .is-read), ap readMost e, read-length (h .read) (h .written) b (h .going), h .going .less, h .few),
+    );
+  }
+
+  printing-comes : (b : Between) (lines : List ℕ) (talk : List Exchange) → Known-printing b lines talk → Comes (printing b lines) talk
+  unfolding asks m.written isRead isStop
+  printing-comes b lines talk h = record {
+    so-far = front-now (b .all) (h .read) (h .written) false talk (h .account) lines (λ unread f. (records (b .all) (b .done) (b .run) (b .buffered ++ unread), owed (h .read) (h .written ++ lines) b (h .going) unread));
+    before-reading = λ most e. not-read (Write lines) most refl e;
+    at-the-stop = λ e. not-stop (Write lines) refl e;
+    no-further = λ most e. not-read (Write lines) most refl e;
+  }
+
+  ending-comes : (lines : List ℕ) (talk : List Exchange) → Known-ending lines talk → Comes (ending lines) talk
+  unfolding asks m.written isRead isStop
+  ending-comes lines talk h = record {
+    so-far = front-now (h .all) (h .read) (h .written) (h .ended) talk (h .account) lines (whole-front (h .all) (h .read) (h .written ++ lines) (h .ended) (h .whole));
+    before-reading = λ most e. not-read (Write lines) most refl e;
+    at-the-stop = λ e. not-stop (Write lines) refl e;
+    no-further = λ most e. not-read (Write lines) most refl e;
+  }
+
+  failing-comes : (text : List ℕ) (talk : List Exchange) → Known-failing text talk → Comes (failing text) talk
+  unfolding asks m.written isRead isStop
+  failing-comes text talk h = record {
+    so-far = front-silent (h .all) (h .read) (h .written) (h .ended) talk (h .account) (h .front);
+    before-reading = λ most e. not-read (Fail text) most refl e;
+    at-the-stop = λ e. not-stop (Fail text) refl e;
+    no-further = λ most e. not-read (Fail text) most refl e;
+  }
+
+  stopped-comes : (talk : List Exchange) → Known-stopped talk → Comes stopped talk
+  unfolding asks m.written m.errorText isRead
+  stopped-comes talk h = record {
+    so-far = front-silent (h .all) (h .read) (h .written) (h .ended) talk (h .account) (h .front);
+    before-reading = λ most e. not-read Stop most refl e;
+    at-the-stop = λ e silent unread f. rw (way-now (h .all) (h .read) (h .written) (h .ended) talk (h .account), h .account .is-read, h .account .is-written, append-nil (h .written))
+        (sym (h .whole (sym (append-nil (errorTextOf (requestsOf talk))) ∙ silent) unread (rw (h .account .is-ended) at f)));
+    no-further = λ most e. not-read Stop most refl e;
+  }
+
+  comes : (s : State) (talk : List Exchange) → Known s talk → Comes s talk
+  unfolding Known
+  comes starting talk h = starting-comes talk h
+  comes (counted single) talk h = counted-comes single talk (h .0) (h .1)
+  comes (opening all) talk h = opening-comes all talk h
+  comes (reading b) talk h = reading-comes b talk h
+  comes (printing b lines) talk h = printing-comes b lines talk h
+  comes (ending lines) talk h = ending-comes lines talk h
+  comes (failing text) talk h = failing-comes text talk h
+  comes stopped talk h = stopped-comes talk h
+
+  known-first : Known starting []
+  unfolding Known
+  known-first = refl
+
+  module _ (answers : List Answer) where
+    abbrev machine : Machine State
+    machine = replaying size room
+
+    abbrev all-account : Comes (stateAfter machine answers) (exchanges machine answers)
+    all-account = comes (stateAfter machine answers) (exchanges machine answers) (throughout machine Known known-step known-first answers)
+
+    error-text-is : errorTextOf (asked machine answers) ≡ errorTextOf (requestsOf (exchanges machine answers)) ++ m.errorText (asks size (stateAfter machine answers))
+    error-text-is =
+        ap errorTextOf (asked-is machine answers)
+        ∙ error-text-then (requestsOf (exchanges machine answers)) (asks size (stateAfter machine answers) ∷ [])
+        ∙ ap (λ (l : List ℕ). errorTextOf (requestsOf (exchanges machine answers)) ++ l) (error-text-one (asks size (stateAfter machine answers)))
+
+    pub prints-the-listing : PrintsTheListing size room answers
+    prints-the-listing = record {
+      so-far = rw (written-is machine answers) (all-account .so-far);
+      before-reading = rw (written-is machine answers) (all-account .before-reading);
+      at-the-stop = rw (written-is machine answers, error-text-is) (all-account .at-the-stop);
+      no-further = all-account .no-further;
+    }

@@ -1,0 +1,94 @@
+-- The first byte: the start in place, and what was read.
+-- Assumes nothing.
+use mathlib.Core.Path.{_≡_, refl, sym, _∙_, ap}
+use mathlib.Core.Bool.{Bool, true, false, _&&_}
+use mathlib.Core.List.{List, [], _∷_, _++_}
+use mathlib.Core.Option.{Option, none, some}
+use Prim.Native.Nat.{ℕ, zero, suc, _+_, _-_, _*_, _≤_, _<_, min}
+use native.Mathlib.Omega.{arith}
+use lib.Dec.{leb}
+use lib.ListN.{length, take, drop, getD, length-drop}
+use lib.Seq.{length-take-le, take-add}
+use borrow.Author.Tests.{leb-true}
+use Rattle.laws.specs.Choice.{by-bool}
+use Rattle.laws.specs.Truth.{and-no-right}
+use Rattle.model.specs.declared.Run.{Run}
+use Rattle.model.specs.declared.Refusal.{Refusal}
+use Rattle.model.specs.declared.StartAnswer.{StartAnswer}
+use Rattle.model.specs.declared.StartAnswer.the-variants as start-answer
+use Rattle.model.specs.Words.{ones}
+use Rattle.model.specs.Refusals.{startRefusal, firstOf}
+use Rattle.model.specs.Steps.{startState}
+use Rattle.whole_runs.specs.Outcomes.{Outcome, startOutcome}
+use Rattle.whole_runs.specs.Listing.{mostRecords}
+use Rattle.words.specs.Layout.{stateSize, runOf}
+use Rattle.in_place.specs.Starting.{startRefusalIn, startOutcomeIn, StartsTheSame}
+use Rattle.in_place.proofs.Judging.{starts-the-same}
+use Rattle.machine_replay.specs.declared.place.Place.{Place}
+use Rattle.machine_replay.specs.Replaying.{Between, State, reading, ending, begun, mostToRead}
+use Rattle.machine_replay.specs.Standing.{betweenIn, holding}
+
+by-refusal : {P : Type 0} (o : Option Refusal) → (o ≡ none → P) → ((x : Refusal) → o ≡ some x → P) → P
+by-refusal none a b = a refl
+by-refusal (some x) a b = b x refl
+
+started-not-refused : (w : Refusal) {P : Type 0} → start-answer.Started ≡ start-answer.Refused w → P
+started-not-refused w e = absurd (let z : _≡_ {A = ℕ} 0 1 = cc in omega arith)
+
+refusal-same : (w x : Refusal) → start-answer.Refused w ≡ start-answer.Refused x → w ≡ x
+refusal-same w x e = cc
+
+module _ (many n : ℕ) (whole : many ≡ stateSize) where
+  same-start : startOutcomeIn many n ones ≡ startOutcome n ones
+  unfolding StartsTheSame startOutcomeIn startRefusalIn startOutcome startRefusal firstOf
+  same-start = by-bool (leb n 16)
+      (λ e. rw whole (starts-the-same n ones (leb-true n 16 e)))
+      (λ e. rw (whole, e, and-no-right (leb 1 n) false refl))
+
+  module _ (a : StartAnswer) (is-a : a ≡ startOutcomeIn many n ones .answer) where
+    answer-same : a ≡ startOutcome n ones .answer
+    answer-same = is-a ∙ ap (λ (o : Outcome StartAnswer). o .answer) same-start
+
+    pub start-refuses : (w : Refusal) → a ≡ start-answer.Refused w → startRefusal n ones ≡ some w
+    unfolding startOutcome
+    start-refuses w e = by-refusal (startRefusal n ones)
+        (λ h. started-not-refused w (sym (rw h at answer-same) ∙ e))
+        (λ x h. h ∙ ap some (sym (refusal-same w x (sym e ∙ (rw h at answer-same)))))
+
+    pub start-none : a ≡ start-answer.Started → startRefusal n ones ≡ none
+    unfolding startOutcome
+    start-none e = by-refusal (startRefusal n ones)
+        (λ h. h)
+        (λ x h. started-not-refused x (sym e ∙ (rw h at answer-same)))
+
+    pub start-run : (run : Run) → run ≡ startOutcomeIn many n ones .run → a ≡ start-answer.Started → run ≡ startState n ones
+    unfolding startOutcome
+    start-run run is-run e =
+        let same = is-run ∙ ap (λ (o : Outcome StartAnswer). o .run) same-start in
+        rw (start-none e) at same
+
+-- The byte that was read.
+pub first-byte : (k at : ℕ) (l : List ℕ) → 1 ≤ k → getD (take k (drop at l)) 0 0 ≡ getD l at 0
+first-byte k zero l h = first-of k l h
+  where
+    first-of : (k : ℕ) (l : List ℕ) → 1 ≤ k → getD (take k l) 0 0 ≡ getD l 0 0
+    first-of zero l h = absurd (omega arith)
+    first-of (suc k) [] h = refl
+    first-of (suc k) (x ∷ l) h = refl
+first-byte k (suc at) [] h = nothing-of k
+  where
+    nothing-of : (k : ℕ) → _≡_ {A = ℕ} (getD (take k []) 0 0) 0
+    nothing-of zero = refl
+    nothing-of (suc k) = refl
+first-byte k (suc at) (x ∷ l) h = first-byte k at l h
+
+-- The bytes that are read after those that are held at the front.
+module _ (p : Place) (words input : List ℕ) (front : p .from ≡ 0) (fits : p .buffered ≤ length input) where
+  pub most-same : min (length input) (4 * (mostRecords - p .count)) - p .buffered ≡ mostToRead (length input) (betweenIn p words input)
+  unfolding mostToRead betweenIn
+  most-same = rw (front, length-take-le (p .buffered) input fits)
+
+  pub more-buffered : (more : ℕ) → betweenIn (holding p more) words input
+      ≡ record { all = betweenIn p words input .all; done = betweenIn p words input .done; run = betweenIn p words input .run; buffered = betweenIn p words input .buffered ++ take more (drop (p .buffered) input) }
+  unfolding betweenIn holding
+  more-buffered more = rw (front, take-add (p .buffered) more input)

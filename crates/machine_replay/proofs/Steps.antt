@@ -1,0 +1,118 @@
+-- A step on lent lists: the state that stands in them, and that calls from a start led to its run.
+-- Assumes nothing.
+use mathlib.Core.Path.{_≡_, refl, sym, _∙_, ap, subst}
+use mathlib.Core.Bool.{Bool, true, false, _&&_}
+use mathlib.Core.List.{List}
+use mathlib.Core.Option.{Option, none, some}
+use Prim.Native.Nat.{ℕ, _+_, _≤_, _<_}
+use native.Mathlib.Omega.{arith}
+use lib.Dec.{eqb, ltb, leb}
+use lib.ListN.{length, take, getD}
+use borrow.Author.Tests.{le-leb, lt-leb}
+use Rattle.laws.specs.Choice.{pick, by-bool}
+use Rattle.model.specs.declared.Refusal.{Refusal}
+use Rattle.model.specs.Words.{ones}
+use Rattle.model.specs.Refusals.{startRefusal}
+use Rattle.whole_runs.specs.Outcomes.{startOutcome}
+use Rattle.whole_runs.specs.WholeRuns.{Reachable}
+use Rattle.whole_runs.proofs.WholeRuns.{reachable-start}
+use Rattle.library_replay.specs.Taken.{BlockOutcome, blockOutcome}
+use Rattle.library_replay.proofs.Iterations.{block-reachable}
+use Rattle.machines.specs.declared.Answer as answers
+use Rattle.machines.specs.declared.Request as requests
+use Rattle.machines.specs.declared.Request.the-variants as request
+use Rattle.machines.specs.Machines.{Answer, Number, Bytes, End, Done, Failed, stepped, heard}
+use Rattle.machines.specs.Forms.{requestOf, answerOf, Placed, GoesTo, Asks}
+use Rattle.machine_replay.specs.declared.place.Place.{Place}
+use Rattle.machine_replay.specs.Replaying.{Between, State, starting, counted, opening, reading, printing, ending, failing, stopped, asks, taking, onward, begun, opened, filled, wrote, next, replaying}
+use Rattle.machine_replay.specs.Standing.{placeIn, placeOf, stateIn, stateOf, FromStart}
+
+module _ (words memory input out : List ℕ) where
+  pub state-of : 6 ≤ length memory → (p : Place) → p ≡ placeIn memory → stateOf words memory input out ≡ stateIn p words input out
+  unfolding stateOf
+  state-of h p e = rw (le-leb 6 (length memory) h, e)
+
+  pub too-short : length memory < 6 → stateOf words memory input out ≡ stopped
+  unfolding stateOf
+  too-short h = rw (lt-leb 6 (length memory) h)
+
+  -- Where a state stands, its place is that of the numbers.
+  module _ (p : Place) (is-p : p ≡ placeIn memory) (stands : stateOf words memory input out ≡ stateIn p words input out) where
+    pub stepped-there : (size room : ℕ) (form : answers.Answer)
+        → stepped (replaying size room) (stateIn p words input out) (answerOf form (p .buffered) input) ≡ stepped (replaying size room) (stateOf words memory input out) (answerOf form (placeOf memory) input)
+    unfolding placeOf
+    stepped-there size room form = rw stands (ap (λ (q : Place). stepped (replaying size room) (stateIn p words input out) (answerOf form (q .buffered) input)) is-p)
+
+    pub asks-there : (r : requests.Request) (size : ℕ) → Asks r (p .buffered) input out (asks size (stateIn p words input out)) → Asks r (placeOf memory) input out (asks size (stateOf words memory input out))
+    unfolding placeOf
+    asks-there r size h = rw stands (subst (λ (q : Place). Asks r (q .buffered) input out (asks size (stateIn p words input out))) is-p h)
+
+  -- Lists in which no state stands.
+  module _ (none-stands : stateOf words memory input out ≡ stopped) where
+    pub stays : (size room : ℕ) (a : Answer) → stateOf words memory input out ≡ stepped (replaying size room) (stateOf words memory input out) a
+    unfolding stepped next
+    stays size room a = rw none-stands
+
+    pub asks-stop : (place size : ℕ) → Asks request.Stop place input out (asks size (stateOf words memory input out))
+    unfolding requestOf asks Placed GoesTo
+    asks-stop place size = record { stands = rw none-stands; inside = tt; there = tt }
+
+-- Calls from a start lead on.
+by-refusal : {P : Type 0} (o : Option Refusal) → (o ≡ none → P) → ((x : Refusal) → o ≡ some x → P) → P
+by-refusal none a b = a refl
+by-refusal (some x) a b = b x refl
+
+begun-from-start : (all : Bool) (n : ℕ) → FromStart (begun all n (startRefusal n ones))
+unfolding begun FromStart startOutcome
+begun-from-start all n = by-refusal (startRefusal n ones)
+    (λ ok. rw ok (rw ok at (reachable-start n ones ok)))
+    (λ why e. rw e tt)
+
+onward-from-start : (room : ℕ) (b : Between) → Reachable (b .run) → FromStart (onward room b)
+unfolding onward taking FromStart
+onward-from-start room b v =
+    let o = blockOutcome (b .all) (b .done) (b .run) (b .buffered) room in
+    by-bool (eqb (o .taken) 0)
+    (λ e. rw e v)
+    (λ e. by-bool (o .going && ltb (b .done + o .taken) 1_000_000_000)
+    (λ g. rw (e, g) (block-reachable (b .run) v (b .all) (b .done) (b .buffered) room (o .run) refl))
+    (λ g. rw (e, g) tt))
+
+opened-from-start : (all : Bool) (a : Answer) → FromStart (opened all a)
+unfolding opened FromStart
+opened-from-start all (Bytes l) = begun-from-start all (getD l 0 0)
+opened-from-start all End = tt
+opened-from-start all (Number k) = tt
+opened-from-start all Done = tt
+opened-from-start all Failed = tt
+
+filled-from-start : (room : ℕ) (b : Between) (a : Answer) → Reachable (b .run) → FromStart (filled room b a)
+unfolding filled FromStart
+filled-from-start room b (Bytes l) v = onward-from-start room _ v
+filled-from-start room b End v = tt
+filled-from-start room b (Number k) v = tt
+filled-from-start room b Done v = tt
+filled-from-start room b Failed v = tt
+
+wrote-from-start : (then : State) (a : Answer) → FromStart then → FromStart (wrote then a)
+unfolding wrote FromStart
+wrote-from-start then Done v = v
+wrote-from-start then (Number k) v = tt
+wrote-from-start then (Bytes l) v = tt
+wrote-from-start then End v = tt
+wrote-from-start then Failed v = tt
+
+next-from-start : (room : ℕ) (s : State) (a : Answer) → FromStart s → FromStart (next room s a)
+unfolding next FromStart
+next-from-start room starting a v = tt
+next-from-start room (counted single) a v = tt
+next-from-start room (opening all) a v = opened-from-start all a
+next-from-start room (reading b) a v = filled-from-start room b a v
+next-from-start room (printing b lines) a v = wrote-from-start (onward room b) a (onward-from-start room b v)
+next-from-start room (ending lines) a v = wrote-from-start stopped a tt
+next-from-start room (failing text) a v = tt
+next-from-start room stopped a v = tt
+
+pub from-start-on : (size room : ℕ) (s : State) (a : Answer) → FromStart s → FromStart (stepped (replaying size room) s a)
+unfolding stepped
+from-start-on size room s a v = next-from-start room s (heard (asks size s) a) v

@@ -1,0 +1,23 @@
+-- `machine_replay::step::begin` meets its contract.
+-- Assumes nothing.
+use borrow.Author.Needs.{needs}
+use mathlib.Core.Path.{_≡_, refl, sym, _∙_, ap}
+use native.Mathlib.Omega.{arith}
+use denote.Ref.{now}
+use lib.ListN.{length}
+use Rattle.machines.specs.Forms.{requestOf, Placed, GoesTo}
+use Rattle.machine_replay.specs.Replaying.{starting, asks}
+use Rattle.machine_replay.specs.Standing.{stateOf}
+use Rattle.machine_replay.proofs.Places.{text-starting}
+use Rattle.machine_replay.proofs.Steps.{state-of}
+use Rattle.machine_replay.proofs.step.begin.Statement.{statement}
+use Rattle.machine_replay.proofs.step.begin.Tie as tie
+
+returns : tie.Need-returns
+unfolding requestOf asks Placed GoesTo
+returns c = let a = c .before .before .before .before .before .before .before .before .before .args in let then-memory = c .before .before .store .last .0 in
+    let begins = state-of (now (a .words)) then-memory (now (a .input)) (now (a .out)) (omega (arith, c .before .before .store .kept .0, c .before .before .before .before .before .before .before .before .before .pre .0)) _ (sym (c .before .before .store .ensures ∙ c .before .before .before .before .with-text .ensures)) ∙ text-starting 0 (now (a .words)) (now (a .input)) (now (a .out)) (c .before .before .before .before .before .before .before .before .before .pre .1) (omega arith) in
+    (begins, record { stands = rw begins; inside = tt; there = tt })
+
+pub begin-spec : {M : Type 1} → statement M
+begin-spec = tie.close (tie.spec (λ c κs. search needs) (λ c κs. search needs) (λ c. search needs) returns)

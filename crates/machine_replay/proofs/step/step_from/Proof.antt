@@ -1,0 +1,57 @@
+-- `machine_replay::step::step_from` meets its contract.
+-- Assumes nothing.
+use borrow.Author.Needs.{needs}
+use mathlib.Core.Path.{_≡_, refl, sym, _∙_}
+use native.Mathlib.Omega.{arith}
+use borrow.Author.Tests.{not-true, not-false}
+use Rattle.machine_replay.specs.declared.place.Place.{Place}
+use Rattle.machine_replay.specs.Standing.{Holds, stateIn, stateOf}
+use Rattle.machine_replay.proofs.Places.{narrow-stopped, outside-stopped}
+use Rattle.machine_replay.proofs.Steps.{state-of, stepped-there, asks-there, too-short, stays, asks-stop}
+use Rattle.machine_replay.proofs.step.step_from.Statement.{statement}
+use Rattle.machine_replay.proofs.step.step_from.Tie as tie
+
+-- Where a state stands in the lists.
+module _ (c : tie.Else3) where
+  abbrev start : tie.Start
+  start = c .before .before .before .before .before .before .before .before .before .before .before
+
+  abbrev place : Place
+  place = c .before .before .load .result
+
+  holds : Holds place (start .args .words .now) (start .args .input .now) (start .args .out .now)
+  holds = (sym (c .before .before .before .before .before .is-room-enough .ensures) ∙ not-false (c .before .before .before .before .before .is-room-enough .result) (c .before .before .before .before .if2 .left), sym (c .before .is-inside .ensures) ∙ not-false (c .before .is-inside .result) (c .if3 .left))
+
+  stands : stateOf (start .args .words .now) (start .args .memory .now) (start .args .input .now) (start .args .out .now) ≡ stateIn place (start .args .words .now) (start .args .input .now) (start .args .out .now)
+  stands = state-of (start .args .words .now) (start .args .memory .now) (start .args .input .now) (start .args .out .now) (c .before .before .before .before .before .before .if1 .left) place (c .before .before .load .ensures)
+
+returns : tie.Need-returns
+returns c = let a = c .before .before .before .before .before .args in let ended = too-short (a .words .now) (a .memory .now) (a .input .now) (a .out .now) (c .if1 .taken) in
+    (stays (a .words .now) (a .memory .now) (a .input .now) (a .out .now) ended _ _ _, asks-stop (a .words .now) (a .memory .now) (a .input .now) (a .out .now) ended _ _)
+
+returns-2 : tie.Need-returns-2
+returns-2 c = let a = c .before .before .before .before .before .before .before .args in let ended = state-of (a .words .now) (a .memory .now) (a .input .now) (a .out .now) (c .before .before .if1 .left) _ refl ∙ narrow-stopped _ (a .words .now) (a .input .now) (a .out .now) (sym (c .before .is-room-enough .ensures) ∙ not-true (c .before .is-room-enough .result) (c .if2 .taken)) in
+    (stays (a .words .now) (a .memory .now) (a .input .now) (a .out .now) ended _ _ _, asks-stop (a .words .now) (a .memory .now) (a .input .now) (a .out .now) ended _ _)
+
+returns-3 : tie.Need-returns-3
+returns-3 c = let a = c .before .before .before .before .before .before .before .before .before .before .before .args in let ended = state-of (a .words .now) (a .memory .now) (a .input .now) (a .out .now) (c .before .before .before .before .before .before .if1 .left) (c .before .before .load .result) (c .before .before .load .ensures) ∙ outside-stopped (c .before .before .load .result) (a .words .now) (a .input .now) (a .out .now) (sym (c .before .is-inside .ensures) ∙ not-true (c .before .is-inside .result) (c .if3 .taken)) in
+    (stays (a .words .now) (a .memory .now) (a .input .now) (a .out .now) ended _ _ _, asks-stop (a .words .now) (a .memory .now) (a .input .now) (a .out .now) ended _ _)
+
+after-requires : tie.Need-after-requires
+after-requires c κs = (holds (c .before .before .before), λ e. rw (stands (c .before .before .before)) at (c .before .before .before .before .before .before .before .before .before .before .before .before .before .before .pre e))
+
+request-of-requires : tie.Need-request-of-requires
+request-of-requires c κs = rw (c .before .before .before .before .before .before .before .before .before .before .before .before .before .after .kept .1 .0, c .before .before .before .before .before .before .before .before .before .before .before .before .before .after .kept .1 .1 .0, c .before .before .before .before .before .before .before .before .before .before .before .before .before .after .kept .1 .1 .1 .0) (holds (c .before .before .before .before .before .before .before .before .before .before .before .before .before .before .before .before .before) .0)
+
+returns-4 : tie.Need-returns-4
+returns-4 c = let q = sym (c .before .before .before .before .before .before .store .ensures) in let then = state-of (c .before .before .before .before .before .before .before .before .before .before .before .before .before .before .after .last .1 .0) (c .before .before .before .before .before .before .store .last .0) (c .before .before .before .before .before .before .before .before .before .before .before .before .before .before .after .last .1 .1 .0) (c .before .before .before .before .before .before .before .before .before .before .before .before .before .before .after .last .1 .1 .1 .0) (omega (arith, c .before .before .before .before .before .before .store .kept .0, c .before .before .before .before .before .before .before .before .before .before .before .before .before .before .before .before .before .before .before .before .before .before .before .before .if1 .left)) (c .before .before .before .before .before .before .before .before .before .before .before .before .before .before .after .result) q in
+    let s = c .before .before .before .before .before .before .before .before .before .before .before .before .before .before .before .before .before .before .before .before .before .before .before .before .before .before .before .before .before in (
+      then ∙ c .before .before .before .before .before .before .before .before .before .before .before .before .before .before .after .ensures ∙ stepped-there (s .args .words .now) (s .args .memory .now) (s .args .input .now) (s .args .out .now) (c .before .before .before .before .before .before .before .before .before .before .before .before .before .before .before .before .before .before .before .before .load .result) (c .before .before .before .before .before .before .before .before .before .before .before .before .before .before .before .before .before .before .before .before .load .ensures) (stands (c .before .before .before .before .before .before .before .before .before .before .before .before .before .before .before .before .before .before)) _ _ (s .args .answer),
+      asks-there (c .before .before .before .before .before .before .before .before .before .before .before .before .before .before .after .last .1 .0) (c .before .before .before .before .before .before .store .last .0) (c .before .before .before .before .before .before .before .before .before .before .before .before .before .before .after .last .1 .1 .0) (c .before .before .before .before .before .before .before .before .before .before .before .before .before .before .after .last .1 .1 .1 .0) (c .before .before .before .before .before .before .before .before .before .before .before .before .before .before .after .result) q then _ _ (c .request-of .ensures),
+    )
+
+pub step-from-spec : {M : Type 1} → statement M
+step-from-spec =
+    tie.close
+    (tie.spec returns (λ c κs. search needs) returns-2 (λ c κs. search needs) (λ c κs. search needs) (λ c. search needs) returns-3 after-requires (λ c κs. search needs)
+    request-of-requires (λ c. search needs) (λ c. search needs) (λ c. search needs) (λ c. search needs) returns-4)

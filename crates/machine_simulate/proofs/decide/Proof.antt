@@ -1,0 +1,28 @@
+-- `machine_simulate::decide` meets its contract.
+-- Assumes nothing.
+use mathlib.Core.Path.{sym, _∙_}
+use Rattle.machine_simulate.proofs.Standing.{stands-as}
+use Rattle.machine_simulate.proofs.Stepping.{decided-wrong, decided-right}
+use borrow.Author.Needs.{needs}
+use Rattle.machine_simulate.proofs.decide.Statement.{statement}
+use Rattle.machine_simulate.proofs.decide.Tie as tie
+
+returns : tie.Need-returns
+returns c =
+    let at-is-wrong = c .before .before .before .before .before .before .before .before .is-wrong in
+    let at-if1 = c .before .before .before .before .before .before .before .if1 in
+    let at-report-usage = c .before .before .before .before .report-usage in
+    stands-as _ _ _ _ _ _ (decided-wrong (c .before .before .before .before .before .before .before .before .before .before .before .before .before .args .k) (sym (at-is-wrong .ensures) ∙ at-if1 .taken)) (at-report-usage .ensures)
+
+returns-2 : tie.Need-returns-2
+returns-2 c =
+    let at-is-wrong = c .before .before .before .before .before .before .before .before .is-wrong in
+    let at-if1 = c .before .before .before .before .before .before .before .if1 in
+    let at-answer-with = c .before .before .before .before .answer-with in
+    stands-as _ _ _ _ _ _ (decided-right (c .before .before .before .before .before .before .before .before .before .before .before .before .before .args .k) (sym (at-is-wrong .ensures) ∙ at-if1 .left)) (at-answer-with .ensures)
+
+pub decide-spec : {M : Type 1} → statement M
+decide-spec =
+    tie.close
+    (tie.spec (λ c κs. search needs) (λ c κs. search needs) (λ c. search needs) (λ c. search needs) returns (λ c κs. search needs) (λ c. search needs)
+    (λ c. search needs) returns-2)

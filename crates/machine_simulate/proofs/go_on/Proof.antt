@@ -1,0 +1,29 @@
+-- `machine_simulate::go_on` meets its contract.
+-- Assumes nothing.
+use denote.Ref.{now}
+use Rattle.machine_simulate.proofs.Standing.{stands-as}
+use Rattle.machine_simulate.proofs.Stepping.{steps-as, tabled-too-far, is-tabling}
+use borrow.Author.Needs.{needs}
+use Rattle.machine_simulate.proofs.go_on.Statement.{statement}
+use Rattle.machine_simulate.proofs.go_on.Tie as tie
+
+returns : tie.Need-returns
+returns c =
+    let start = c .before .before .before .before .before .before .before .before .before .before .before .before in
+    let at-kept = c .before .before .before .before .before .before .before .kept in
+    let at-if1 = c .before .before .before .before .if1 in
+    let at-stop = c .before .before .stop in
+    stands-as _ _ _ _ _ _ (tabled-too-far (now (start .args .memory)) (now (start .args .input)) (now (start .args .out)) (start .pre .0) _ (start .pre .1) (at-kept .result) (at-kept .ensures) (at-if1 .taken)) (at-stop .ensures _ _)
+
+returns-2 : tie.Need-returns-2
+returns-2 c =
+    let start = c .before .before .before .before .before .before .before .before .before .before .before .before .before .before .before in
+    let at-kept = c .before .before .before .before .before .before .before .before .before .before .kept in
+    let at-if1 = c .before .before .before .before .before .before .before .if1 in
+    let at-after-line = c .before .before .before .before .after-line in
+    steps-as _ _ _ _ _ _ _ (is-tabling (now (start .args .memory)) (now (start .args .input)) (now (start .args .out)) (start .pre .0) (start .pre .1) (at-kept .result) (at-kept .ensures) (at-if1 .left)) (at-after-line .ensures _)
+
+pub go-on-spec : {M : Type 1} → statement M
+go-on-spec =
+    tie.close
+    (tie.spec (λ c κs. search needs) (λ c κs. search needs) (λ c. search needs) returns (λ c κs. search needs) (λ c. search needs) (λ c. search needs) returns-2)

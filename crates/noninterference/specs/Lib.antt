@@ -1,2 +1,0 @@
-pub mod Learned
-pub mod Real

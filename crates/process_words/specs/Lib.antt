@@ -1,5 +1,0 @@
-pub mod Kept
-pub mod Moves
-pub mod Pins
-pub mod Steps
-pub mod TakingIn

@@ -1,4 +1,0 @@
-pub mod Recorded
-pub mod Records
-pub mod Machine
-pub mod Promised

@@ -1,1 +1,0 @@
-// No function: the program `record` as a machine, in definitions, with its theorem over every list of answers of the system.

@@ -1,9 +1,0 @@
-pub mod Taking
-pub mod Blocks
-pub mod Arriving
-pub mod Stepping
-pub mod Marking
-pub mod Leading
-pub mod Kept
-pub mod Starting
-pub mod Driving

@@ -1,8 +1,0 @@
--- `record_steps::marks::at` meets its contract. Assumes nothing.
-use mathlib.Core.Path.{refl}
-use borrow.Author.Needs.{needs}
-use Rattle.record_steps.proofs.marks.at.Statement.{statement}
-use Rattle.record_steps.proofs.marks.at.Tie as tie
-
-pub at-spec : {M : Type 1} → statement M
-at-spec = tie.close (tie.spec (λ c. refl))

@@ -1,2 +1,0 @@
-pub mod Played
-pub mod Lent

@@ -1,2 +1,0 @@
-// Notes 9 and 10 of document 02: events with their records, what a recorder writes, and what a replay of it gives. The definitions are in specs/, the theorems
-// about them in proofs/.

@@ -1,6 +1,0 @@
-pub mod Console
-pub mod Denials
-pub mod Isolation
-pub mod Runs
-pub mod Shown
-pub mod Table

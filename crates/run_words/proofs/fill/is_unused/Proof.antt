@@ -1,9 +1,0 @@
--- `run_words::fill::is_unused` meets its contract. Assumes nothing.
-use Rattle.model.specs.Sound.{unusedCheckpoint}
-use borrow.Author.Needs.{needs}
-use Rattle.run_words.proofs.fill.is_unused.Statement.{statement}
-use Rattle.run_words.proofs.fill.is_unused.Tie as tie
-
-pub is-unused-spec : {M : Type 1} → statement M
-unfolding unusedCheckpoint
-is-unused-spec = tie.close (tie.spec (λ c κs. search needs) (λ c. rw (c .before .before .before .is-zero .ensures)))

@@ -1,8 +1,0 @@
--- `spacing::figures::greater` meets its contract.
--- Assumes nothing.
-use native.Mathlib.Omega.{arith}
-use Rattle.spacing.proofs.figures.greater.Statement.{statement}
-use Rattle.spacing.proofs.figures.greater.Tie as tie
-
-pub greater-spec : {M : Type 1} → statement M
-greater-spec = tie.close (tie.spec (λ c. omega (arith, c .if1 .taken)) (λ c. omega (arith, c .if1 .left)))

@@ -1,0 +1,172 @@
+-- A trace that is read to its end leaves a pattern whose processes are among n and whose messages have the numbers 1 to the number of sends.
+-- Assumes nothing.
+use mathlib.Core.Path.{_≡_, refl, sym, _∙_, ap}
+use mathlib.Core.Bool.{Bool, true, false, not, false≢true}
+use mathlib.Core.Logic.{inl, inr}
+use mathlib.Core.List.{List, [], _∷_}
+use mathlib.Core.Option.{Option, none, some}
+use Prim.Native.Nat.{ℕ, zero, suc, _+_, _/_, _<_}
+use native.Mathlib.Omega.{arith}
+use lib.Dec.{ltb, leb}
+use lib.ListN.{length}
+use borrow.Author.Tests.{leb-false}
+use Rattle.laws.specs.Choice.{by-bool, by-eq}
+use Rattle.laws.specs.Truth.{or-none}
+use Rattle.laws.specs.Update.{upd, upd-same, upd-other}
+use Rattle.model.specs.declared.Event.{Event}
+use Rattle.model.specs.declared.Event.the-variants.{Checkpoint, Send, Deliver, Lose, Recover}
+use Rattle.model.specs.declared.Refusal.{Refusal}
+use Rattle.model.specs.Words.{ones}
+use Rattle.model.specs.Refusals.{startRefusal}
+use Rattle.model.specs.laws.Refusals.{no-rule, by-refusal}
+use Rattle.model.specs.Trace.{decoded}
+use Rattle.histories.specs.History.{HistoryEvent, stored, sent, received}
+use Rattle.theory_patterns.specs.Paths.{eventAt}
+use Rattle.theory_patterns.specs.Patterns.{Pattern, empty, recordRefusal, taken, refused, whole, mostJudged, readFrom, reading}
+use Rattle.theory_patterns.proofs.Adding.{event-cases}
+use Rattle.theory_patterns.proofs.Tested.{Numbered}
+
+-- Kinds of events differ.
+stored-sent : {P : Type 0} (m : ℕ) → stored ≡ sent m → P
+stored-sent m e = absurd (let z : _≡_ {A = ℕ} 0 1 = cc in omega arith)
+
+stored-received : {P : Type 0} (m : ℕ) → stored ≡ received m → P
+stored-received m e = absurd (let z : _≡_ {A = ℕ} 0 1 = cc in omega arith)
+
+sent-received : {P : Type 0} (m k : ℕ) → sent m ≡ received k → P
+sent-received m k e = absurd (let z : _≡_ {A = ℕ} 0 1 = cc in omega arith)
+
+same-sent : (m k : ℕ) → sent m ≡ sent k → m ≡ k
+same-sent m k e = cc
+
+same-received : (m k : ℕ) → received m ≡ received k → m ≡ k
+same-received m k e = cc
+
+same-event : {x y : HistoryEvent} → some x ≡ some y → x ≡ y
+same-event e = cc
+
+never : {P : Type 0} {x : HistoryEvent} → none ≡ some x → P
+never e = absurd (let z : _≡_ {A = ℕ} 0 1 = cc in omega arith)
+
+not-refused : {P : Type 0} (r : Refusal) (t : Pattern) → refused r ≡ whole t → P
+not-refused r t e = absurd (let z : _≡_ {A = ℕ} 0 1 = cc in omega arith)
+
+not-some : {P : Type 0} (r : Refusal) → some r ≡ none → P
+not-some r e = absurd (let z : _≡_ {A = ℕ} 0 1 = cc in omega arith)
+
+same-whole : (t u : Pattern) → whole t ≡ whole u → t ≡ u
+same-whole t u e = cc
+
+-- The events, and the messages under way.
+record Placed (n : ℕ) (t : Pattern) : Type 0 where
+  events : Numbered n (t .sends) (t .lists)
+  waiting : (m : ℕ) → t .underway m ≡ true → (t .receiver m < n) × (m < suc (t .sends))
+
+first-event : (i : ℕ) (e : HistoryEvent) → eventAt (stored ∷ []) i ≡ some e → stored ≡ e
+unfolding eventAt
+first-event zero e h = same-event h
+first-event (suc i) e h = never h
+
+placed-empty : (n : ℕ) → Placed n empty
+unfolding empty
+placed-empty n = record {
+  events = record {
+    sent-by = λ p i m e. stored-sent m (first-event i (sent m) e);
+    received-by = λ p i m e. stored-received m (first-event i (received m) e);
+  };
+  waiting = λ m e. absurd (false≢true e);
+}
+
+on : (b : Bool) → not b ≡ false → b ≡ true
+on true e = refl
+on false e = absurd (false≢true (sym e))
+
+module _ (n : ℕ) (t : Pattern) (h : Placed n t) where
+  abbrev Place : ℕ → ℕ → Type 0
+  Place p m = (p < n) × (m < suc (t .sends))
+
+  placed-checkpoint : (i : ℕ) → Placed n (taken t (some (Checkpoint i)))
+  unfolding taken
+  placed-checkpoint i = record {
+    events = record {
+      sent-by = λ p j m e. elim (event-cases (t .lists) i stored p j (sent m) e) [ inl u ↦ h .events .sent-by p j m u | inr u ↦ stored-sent m (u .2) ];
+      received-by = λ p j m e. elim (event-cases (t .lists) i stored p j (received m) e) [ inl u ↦ h .events .received-by p j m u | inr u ↦ stored-received m (u .2) ];
+    };
+    waiting = h .waiting;
+  }
+
+  placed-send : (i j : ℕ) → i < n → j < n → Placed n (taken t (some (Send i j)))
+  unfolding taken
+  placed-send i j hi hj = record {
+    events = record {
+      sent-by = λ p k m e. elim (event-cases (t .lists) i (sent (t .sends + 1)) p k (sent m) e) [
+        | inl u ↦ let w = h .events .sent-by p k m u in (w .0, omega (arith, w .1))
+        | inr u ↦ (omega (arith, u .0), omega (arith, same-sent (t .sends + 1) m (u .2)))
+      ];
+      received-by = λ p k m e. elim (event-cases (t .lists) i (sent (t .sends + 1)) p k (received m) e) [
+        | inl u ↦ let w = h .events .received-by p k m u in (w .0, omega (arith, w .1))
+        | inr u ↦ sent-received (t .sends + 1) m (u .2)
+      ];
+    };
+    waiting = λ m e. by-eq m (t .sends + 1)
+        (λ c. (omega (arith, ap (upd (t .receiver) (t .sends + 1) j) c, upd-same (t .receiver) (t .sends + 1) j), omega arith))
+        (λ ne.
+        let w = h .waiting m (sym (upd-other (t .underway) (t .sends + 1) true m ne) ∙ e) in
+        (omega (arith, upd-other (t .receiver) (t .sends + 1) j m ne, w .0), omega (arith, w .1)));
+  }
+
+  dropped : (m x : ℕ) → upd (t .underway) m false x ≡ true → t .underway x ≡ true
+  dropped m x e = by-eq x m
+      (λ c. absurd (false≢true (sym (upd-same (t .underway) m false) ∙ sym (ap (upd (t .underway) m false) c) ∙ e)))
+      (λ ne. sym (upd-other (t .underway) m false x ne) ∙ e)
+
+  placed-deliver : (m : ℕ) → t .underway m ≡ true → Placed n (taken t (some (Deliver m)))
+  unfolding taken
+  placed-deliver m there = record {
+    events = record {
+      sent-by = λ p k x e. elim (event-cases (t .lists) (t .receiver m) (received m) p k (sent x) e) [
+        | inl u ↦ h .events .sent-by p k x u
+        | inr u ↦ sent-received x m (sym (u .2))
+      ];
+      received-by = λ p k x e. elim (event-cases (t .lists) (t .receiver m) (received m) p k (received x) e) [
+        | inl u ↦ h .events .received-by p k x u
+        | inr u ↦ let w = h .waiting m there in (omega (arith, u .0, w .0), omega (arith, same-received m x (u .2), w .1))
+      ];
+    };
+    waiting = λ x e. h .waiting x (dropped m x e);
+  }
+
+  placed-lose : (m : ℕ) → Placed n (taken t (some (Lose m)))
+  unfolding taken
+  placed-lose m = record { events = h .events; waiting = λ x e. h .waiting x (dropped m x e) }
+
+  placed-taken : (e : Option Event) → recordRefusal n t e ≡ none → Placed n (taken t e)
+  unfolding recordRefusal
+  placed-taken none free = not-some _ free
+  placed-taken (some (Checkpoint i)) free = placed-checkpoint i
+  placed-taken (some (Send i j)) free =
+      let w = or-none (leb n i) (leb n j) (no-rule _ free 0) in
+      placed-send i j (leb-false n i (w .0)) (leb-false n j (w .1))
+  placed-taken (some (Deliver m)) free = placed-deliver m (on (t .underway m) (no-rule _ free 0))
+  placed-taken (some (Lose m)) free = placed-lose m
+  placed-taken (some (Recover F)) free = not-some _ free
+
+placed-read : (n : ℕ) (t : Pattern) (l : List ℕ) (u : Pattern) → Placed n t → readFrom n t l ≡ whole u → Placed n u
+unfolding readFrom
+placed-read n t [] u h e = rw (same-whole t u e) at h
+placed-read n t (a ∷ []) u h e = not-refused _ u e
+placed-read n t (a ∷ b ∷ []) u h e = not-refused _ u e
+placed-read n t (a ∷ b ∷ c ∷ []) u h e = not-refused _ u e
+placed-read n t (a ∷ b ∷ c ∷ d ∷ l) u h e =
+    let x = decoded (a ∷ b ∷ c ∷ d ∷ []) in
+    by-refusal (recordRefusal n t x)
+    (λ q. placed-read n (taken t x) l u (placed-taken n t h x q) (rw q at e))
+    (λ r q. not-refused r u (rw q at e))
+
+pub numbered : (n : ℕ) (l : List ℕ) (u : Pattern) → reading (n ∷ l) ≡ whole u → Numbered n (u .sends) (u .lists)
+unfolding reading
+numbered n l u e = by-refusal (startRefusal n ones)
+    (λ q. by-bool (ltb mostJudged (length l / 4))
+    (λ d. not-refused _ u (rw (q, d) at e))
+    (λ d. placed-read n empty l u (placed-empty n) (rw (q, d) at e) .events))
+    (λ r q. not-refused r u (rw q at e))

@@ -1,0 +1,16 @@
+pub mod Alike
+pub mod Bound
+pub mod Denials
+pub mod Far
+pub mod Isolation
+pub mod Kept
+pub mod Learned
+pub mod Lists
+pub mod Numbers
+pub mod Own
+pub mod Real
+pub mod Restarts
+pub mod Runs
+pub mod Shown
+pub mod Steps
+pub mod Table

@@ -1,0 +1,45 @@
+-- The owner of a set is its owner. Lists of console calls put together: the state after them, what they expose, what the tenant of specs/Real sees. And two lists of answers that differ in the last one.
+-- Assumes nothing.
+use mathlib.Core.Path.{_≡_, refl, sym, _∙_, ap}
+use mathlib.Core.Bool.{true}
+use mathlib.Core.List.{List, [], _∷_, _++_, append-assoc}
+use mathlib.Core.Option.{Option, some}
+use Prim.Native.Nat.{ℕ}
+use Rattle.laws.specs.Choice.{by-bool}
+use Rattle.laws.specs.Lists.{lastOf}
+use Rattle.laws.specs.Search.{all-in}
+use Rattle.model.specs.declared.Run.{Run}
+use Rattle.model.specs.Words.{inSet}
+use Rattle.whole_runs.specs.Calls.{Reply}
+use Rattle.theory_roles.specs.Runs.{ConsoleCall, consoleCall, stateAfterConsole}
+use Rattle.theory_roles.specs.Isolation.{owner}
+use Rattle.theory_roles.specs.Learned.{isOwnerBy, isOwner, sees, seen, Exposed, exposes, exposed}
+
+pub owner-itself : (owned n : ℕ) → isOwner owned n (owner owned) ≡ true
+unfolding isOwner isOwnerBy
+owner-itself owned n = all-in n _ (λ p lt. by-bool (inSet owned p) (λ e. rw e) (λ e. rw e))
+
+pub after-append : (s : Run) (l m : List ConsoleCall) → stateAfterConsole s (l ++ m) ≡ stateAfterConsole (stateAfterConsole s l) m
+unfolding stateAfterConsole
+after-append s [] m = refl
+after-append s (k ∷ l) m = after-append (consoleCall s k .run) l m
+
+pub exposed-append : (owned : ℕ) (s : Run) (l m : List ConsoleCall) → exposed owned s (l ++ m) ≡ exposed owned s l ++ exposed owned (stateAfterConsole s l) m
+unfolding exposed stateAfterConsole
+exposed-append owned s [] m = refl
+exposed-append owned s (k ∷ l) m =
+    ap (λ (z : List Exposed). exposes owned s k ++ z) (exposed-append owned (consoleCall s k .run) l m)
+    ∙ sym (append-assoc (exposes owned s k) _ _)
+
+pub seen-append : (owned : ℕ) (s : Run) (l m : List ConsoleCall) → seen owned s (l ++ m) ≡ seen owned s l ++ seen owned (stateAfterConsole s l) m
+unfolding seen stateAfterConsole
+seen-append owned s [] m = refl
+seen-append owned s (k ∷ l) m =
+    ap (λ (z : List Reply). sees owned s k ++ z) (seen-append owned (consoleCall s k .run) l m)
+    ∙ sym (append-assoc (sees owned s k) _ _)
+
+same-reply : (x y : Reply) → _≡_ {A = Option Reply} (some x) (some y) → x ≡ y
+same-reply x y e = cc
+
+pub differing : (a b : ℕ) (x y : Reply) (l m : List Reply) → (a ≡ b → ⊥) → lastOf l ≡ some x → lastOf m ≡ some y → x .report .refused ≡ a → y .report .refused ≡ b → l ≡ m → ⊥
+differing a b x y l m ne p q c d e = ne (sym c ∙ ap (λ (z : Reply). z .report .refused) (same-reply x y (sym p ∙ ap lastOf e ∙ q)) ∙ d)

@@ -1,8 +1,0 @@
--- `trials::nothing` meets its contract.
--- Assumes nothing.
-use mathlib.Core.Path.{refl}
-use Rattle.trials.proofs.nothing.Statement.{statement}
-use Rattle.trials.proofs.nothing.Tie as tie
-
-pub nothing-spec : {M : Type 1} → statement M
-nothing-spec = tie.close (tie.spec (λ c. refl))

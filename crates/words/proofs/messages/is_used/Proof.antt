@@ -1,0 +1,13 @@
+-- `words::messages::is_used` meets its contract. Assumes nothing.
+use mathlib.Core.Path.{_≡_, refl, sym, _∙_, ap}
+use mathlib.Core.Bool.{Bool, not}
+use Prim.Native.Nat.{ℕ}
+use lib.Dec.{eqb}
+use borrow.Author.Needs.{needs}
+use Rattle.words.specs.Layout.{isMessage}
+use Rattle.words.proofs.messages.is_used.Statement.{statement}
+use Rattle.words.proofs.messages.is_used.Tie as tie
+
+pub is-used-spec : {M : Type 1} → statement M
+unfolding isMessage
+is-used-spec = tie.close (tie.spec (λ c κs. search needs) (λ c. ap (λ (n : ℕ). not (eqb n 0)) (c .number-at .ensures)))

@@ -1,0 +1,59 @@
+-- Where the words stand for a sound state and the indexes are those of the line for a failed set, the messages that are lost are those of Steps.
+-- Assumes nothing.
+use mathlib.Core.Path.{_≡_, sym, _∙_, ap}
+use mathlib.Core.Bool.{Bool, true, false, not}
+use mathlib.Core.List.{List}
+use Prim.Native.Nat.{ℕ, _<_}
+use native.Mathlib.Omega.{arith}
+use lib.Dec.{ltb}
+use lib.ListN.{length, getD}
+use Rattle.laws.specs.Lists.{select}
+use Rattle.laws.specs.Prefixes.{select-same-on}
+use Rattle.model.specs.declared.CheckpointIndex.{CheckpointIndex}
+use Rattle.model.specs.declared.Message.{Message}
+use Rattle.model.specs.declared.Run.{Run}
+use Rattle.model.specs.Words.{entry, underWay}
+use Rattle.model.specs.Sound.{messageSound, sound}
+use Rattle.model.specs.Steps.{member, lostBy, stillUnderWay}
+use Rattle.model.specs.Refusals.{noMember}
+use Rattle.model.specs.laws.Sound.{sound-state, sound-message}
+use Rattle.words.specs.Layout.{countOf, endOf, messageIn, messagesIn, runOf}
+use Rattle.words.proofs.View.{count-is}
+use Rattle.words.proofs.ViewSound.{SoundWords, sound-words}
+use Rattle.words_line.specs.Line.{limitsIn, pastsIn, indexesIn}
+use Rattle.words_line.proofs.LineRule.{indexes-at}
+use Rattle.words_line.specs.Sifted.{lostTo, SendersPresent}
+
+-- The indexes of the members of the line for the failed set F.
+abbrev pub lineIndexes : List ℕ → ℕ → List CheckpointIndex
+lineIndexes w F = indexesIn w (countOf w) (pastsIn w (countOf w) (limitsIn w (countOf w) F))
+
+module _ (w : List ℕ) (h : sound (runOf w) ≡ true) where
+  abbrev s : Run
+  s = runOf w
+
+  known : SoundWords w
+  known = sound-words w h
+
+  pub senders-present : SendersPresent (endOf w) w
+  unfolding messageIn
+  senders-present k lt is = let m = known .message k lt is in omega (arith, m .from, known .few)
+
+  module _ (F : ℕ) (there : noMember s F ≡ false) where
+    pub lost-is : (x : Message) → messageSound s x ≡ true → lostTo (lineIndexes w F) x ≡ lostBy s F x
+    unfolding lostTo lostBy
+    lost-is x fine =
+        let from : x .sender < countOf w = omega (arith, sound-message s x fine .from, count-is w (known .fit)) in
+        ap (λ (a : CheckpointIndex). ltb (a .0) (entry (x .vector) (x .sender) .0)) (indexes-at w h F there (x .sender) from)
+
+    -- those that are lost, and those that remain
+    pub lost-are : select (lostTo (lineIndexes w F)) (messagesIn w) ≡ select (lostBy s F) (underWay s)
+    lost-are =
+        ap (select (lostTo (lineIndexes w F))) (sym (known .under-way))
+        ∙ select-same-on (messageSound s) _ _ (underWay s) (sound-state s h .messages-sound) lost-is
+
+    pub still-are : select (λ x. not (lostTo (lineIndexes w F) x)) (messagesIn w) ≡ stillUnderWay s F
+    unfolding stillUnderWay
+    still-are =
+        ap (select (λ x. not (lostTo (lineIndexes w F) x))) (sym (known .under-way))
+        ∙ select-same-on (messageSound s) _ _ (underWay s) (sound-state s h .messages-sound) (λ x fine. ap not (lost-is x fine))

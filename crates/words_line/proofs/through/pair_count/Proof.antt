@@ -1,0 +1,12 @@
+-- `words_line::through::pair_count` meets its contract. Assumes nothing.
+use Prim.Native.Nat.{_%_}
+use borrow.Author.Tests.{eq-eqb, ne-eqb}
+use Rattle.words_line.specs.Through.{pairCount}
+use Rattle.words_line.proofs.through.pair_count.Statement.{statement}
+use Rattle.words_line.proofs.through.pair_count.Tie as tie
+
+pub pair-count-spec : {M : Type 1} → statement M
+unfolding pairCount
+pair-count-spec =
+    tie.close
+    (tie.spec (λ c. rw (eq-eqb (c .before .args .length % 2) 1 (c .if1 .taken))) (λ c. rw (ne-eqb (c .before .args .length % 2) 1 (c .if1 .left))))

@@ -1,0 +1,5 @@
+pub mod Line
+pub mod Restored
+pub mod Sifted
+pub mod Through
+pub mod earliest

@@ -1,0 +1,16 @@
+-- `words_process::kept::clear` meets its contract. Assumes nothing.
+use mathlib.Core.Path.{_∙_}
+use native.Mathlib.Omega.{arith}
+use lib.ListN.{length-set}
+use Rattle.words.proofs.Reading.{set-is-put}
+use borrow.Author.Needs.{needs}
+use Rattle.words_process.proofs.kept.clear.Statement.{statement}
+use Rattle.words_process.proofs.kept.clear.Tie as tie
+
+pub clear-spec : {M : Type 1} → statement M
+clear-spec =
+    tie.close
+    (tie.spec (λ c. search needs) (λ c. search needs) (λ c. search needs) (λ c. search needs) (λ c. search needs) (λ c. search needs) (λ c. search needs)
+    (λ c. search needs) (λ c. search needs) (λ c. simp length-set (omega arith)) (λ c. search needs) (λ c. search needs) (λ c. search needs) (λ c. search needs)
+    (λ c κs. simp length-set (omega arith)) (λ c. c .before .before .clear-row .kept .0 ∙ simp length-set)
+    (λ c. c .before .before .clear-row .ensures ∙ simp set-is-put))

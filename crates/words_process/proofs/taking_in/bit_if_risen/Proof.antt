@@ -1,0 +1,17 @@
+-- `words_process::taking_in::bit_if_risen` meets its contract. Assumes nothing.
+use mathlib.Core.Path.{_∙_}
+use native.Mathlib.Omega.{arith}
+use native.Mathlib.Nat.{one-mul}
+use lib.Pow.{shl-exact}
+use borrow.Author.Tests.{lt-ltb, le-ltb}
+use borrow.Author.Needs.{needs}
+use Rattle.words_process.proofs.taking_in.bit_if_risen.Statement.{statement}
+use Rattle.words_process.proofs.taking_in.bit_if_risen.Tie as tie
+
+returns : tie.Need-returns
+returns c =
+    let u = c .before .before .before in
+    rw (lt-ltb _ _ (c .if1 .taken)) (shl-exact {a = 1} 1 (u .args .f) 16 (omega arith) (omega (arith, u .pre)) ∙ one-mul _)
+
+pub bit-if-risen-spec : {M : Type 1} → statement M
+bit-if-risen-spec = tie.close (tie.spec (λ c. search needs) (λ c. search needs) returns (λ c. rw (le-ltb _ _ (c .if1 .left))))
