@@ -1,19 +1,10 @@
 -- The verdict on a send: what an accepted one has, and that it is the first of the rules that holds.
 -- Assumes nothing.
-use mathlib.Core.Path.{_≡_, refl}
-use mathlib.Core.Bool.{Bool, true, false, _||_}
-use mathlib.Core.List.{[], _∷_}
-use Prim.Native.Nat.{ℕ, _<_}
-use native.Mathlib.Omega.{arith}
-use lib.Dec.{eqb, leb}
-use borrow.Author.Tests.{leb-false}
-use Rattle.laws.specs.Choice.{pick, by-bool}
+use Rattle.laws.specs.Basics.{_≡_, refl, Bool, true, false, _||_, [], _∷_, ℕ, _<_, arith, eqb, leb, leb-false, pick, by-bool}
 use Rattle.model.specs.declared.Refusal.{Refusal}
 use Rattle.model.specs.declared.Refusal.the-variants.{NoSuchProcess, SenderIsReceiver, TooManyUnderWay, MessageNumbersUsed}
-use Rattle.model.specs.Words.{mostUnderWay, mostMessages}
-use Rattle.model.specs.Refusals.{firstOf}
-use Rattle.admissions.specs.declared.Admission.{Admission}
-use Rattle.admissions.specs.declared.Admission.the-variants.{Accepted, Refused}
+use Rattle.model.specs.{Words.mostUnderWay, Words.mostMessages, Refusals.firstOf}
+use Rattle.admissions.specs.declared.{Admission.Admission, Admission.the-variants.Accepted, Admission.the-variants.Refused}
 use Rattle.admissions.specs.Admissions.{refusalOf, sendAdmission}
 
 -- An accepted send is from one process of the run to another; it has room in the table, and a number is left.

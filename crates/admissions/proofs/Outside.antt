@@ -1,13 +1,7 @@
 -- A failed set's bits at n and above: what is left once the lowest n are gone, and that an accepted set has none.
 -- Assumes nothing.
-use mathlib.Core.Path.{_≡_, sym, _∙_}
-use mathlib.Core.Bool.{false≢true}
-use Prim.Native.Nat.{ℕ, _/_, _^_, _≤_, _<_}
+use Rattle.laws.specs.Basics.{_≡_, sym, _∙_, false≢true, ℕ, _/_, _^_, _≤_, _<_, arith, leb, le-leb, lt-leb, leb-true, leb-false, by-bool}
 use native.Mathlib.Nat.{div-eq-of-lt, le-div-iff-mul-le, pow-le-pow-right, one-mul}
-use native.Mathlib.Omega.{arith}
-use lib.Dec.{leb}
-use borrow.Author.Tests.{le-leb, lt-leb, leb-true, leb-false}
-use Rattle.laws.specs.Choice.{by-bool}
 use Rattle.admissions.specs.declared.Admission.the-variants.{Accepted, Refused}
 use Rattle.admissions.specs.Admissions.{recoveryAdmission}
 

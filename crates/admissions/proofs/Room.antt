@@ -1,8 +1,7 @@
 -- The room that a deletion list needs.
 -- Assumes nothing.
-use Prim.Native.Nat.{ℕ, _*_, _≤_}
+use Rattle.laws.specs.Basics.{ℕ, _*_, _≤_, arith}
 use native.Mathlib.Nat.{mul-le-mul-right}
-use native.Mathlib.Omega.{arith}
 
 -- It is a number that fits, for at most 16 processes.
 pub twice-square : (n : ℕ) → n ≤ 16 → 2 * n * n ≤ 512

@@ -1,16 +1,11 @@
 -- Whether a call is refused, and why, as the functions of this crate decide it. Each follows the tests of specs/Refusals of the model in their order, but for a state
 -- that is not sound and for lent lists that are too short.
 -- Assumes nothing.
-use mathlib.Core.Bool.{Bool}
-use mathlib.Core.Option.{Option, none, some}
-use Prim.Native.Nat.{ℕ, _+_, _^_}
-use lib.Dec.{eqb, ltb, leb}
-use Rattle.laws.specs.Choice.{pick}
+use Rattle.laws.specs.Basics.{Bool, Option, none, some, ℕ, _+_, _^_, eqb, ltb, leb, pick}
 use Rattle.model.specs.declared.Refusal.{Refusal}
 use Rattle.model.specs.declared.Refusal.the-variants.{NoSuchProcess, SenderIsReceiver, NoSuchFailedProcess, TooManyUnderWay, MessageNumbersUsed}
 use Rattle.model.specs.Words.{mostBlocks, mostUnderWay, mostMessages}
-use Rattle.admissions.specs.declared.Admission.{Admission}
-use Rattle.admissions.specs.declared.Admission.the-variants.{Accepted, Refused}
+use Rattle.admissions.specs.declared.{Admission.Admission, Admission.the-variants.Accepted, Admission.the-variants.Refused}
 
 -- A verdict is a refusal or none.
 unfoldable pub refusalOf : Admission → Option Refusal

@@ -6,10 +6,7 @@ use model::LAST_MESSAGE;
 use model::MESSAGES;
 use model::MOST_BLOCKS;
 use model::Refusal;
-ghost use mathlib.Core.Path.{_≡_};
-ghost use mathlib.Core.Bool.{_||_};
-ghost use Prim.Native.Nat.{_*_, _≤_, _^_};
-ghost use lib.Dec.{leb, ltb};
+ghost use Rattle.laws.specs.Basics.{_≡_, _||_, _*_, _^_, _≤_, ltb, leb};
 ghost use Rattle.model.specs.Words.{mostInterval, mostProcesses};
 ghost use Rattle.admissions.specs.Admissions.{pastMost, sendAdmission, recoveryAdmission};
 
@@ -33,7 +30,13 @@ pub fn is_past_bound(written: u64, blocks: u16) -> bool
 }
 
 // Whether a send is refused, and why, where `underway` messages are under way and `last` is the last number used.
-pub fn send_admission(sender: usize, receiver: usize, n: usize, underway: usize, last: u32) -> Admission
+pub fn send_admission(
+    sender: usize,
+    receiver: usize,
+    n: usize,
+    underway: usize,
+    last: u32,
+) -> Admission
     ensures { λ r. ⌜ r ≡ sendAdmission sender receiver n underway last ⌝ }
 {
     if n <= sender {

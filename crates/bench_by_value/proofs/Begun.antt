@@ -1,21 +1,8 @@
 -- Whether a start is refused, by whether its answer is that of an accepted call; and what a trace then comes to.
 -- Assumes nothing.
-use mathlib.Core.Path.{_≡_, refl, sym, _∙_, ap}
-use mathlib.Core.Bool.{Bool, true, false, not, false≢true}
-use mathlib.Core.List.{List, []}
-use mathlib.Core.Option.{Option, none, some}
-use Prim.Native.Nat.{ℕ}
-use native.Mathlib.Omega.{arith}
-use lib.Dec.{eqb}
-use borrow.Author.Tests.{eqb-true}
-use Rattle.model.specs.declared.Refusal.{Refusal}
-use Rattle.model.specs.declared.Run.{Run}
-use Rattle.model.specs.declared.StartAnswer.{StartAnswer}
-use Rattle.model.specs.declared.StartAnswer.the-variants.{Refused, Started}
-use Rattle.model.specs.Refusals.{number}
-use Rattle.model.specs.laws.Refusals.{by-refusal, number-range}
-use Rattle.model.specs.Words.{blank, ones}
-use Rattle.model.specs.Steps.{startState}
+use Rattle.laws.specs.Basics.{_≡_, refl, sym, _∙_, ap, Bool, true, false, not, false≢true, List, [], Option, none, some, ℕ, arith, eqb, eqb-true}
+use Rattle.model.specs.declared.{Refusal.Refusal, Run.Run, StartAnswer.StartAnswer, StartAnswer.the-variants.Refused, StartAnswer.the-variants.Started}
+use Rattle.model.specs.{Refusals.number, laws.Refusals.by-refusal, laws.Refusals.number-range, Words.blank, Words.ones, Steps.startState}
 use Rattle.whole_runs.specs.Outcomes.{Outcome, judged, startReport}
 use Rattle.bench_by_value.specs.Timed.{Timed, recordsTaken, timedRecords, timedTrace}
 

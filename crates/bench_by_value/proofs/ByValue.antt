@@ -1,29 +1,14 @@
 -- A record as a call by value, whose lent lists hold zeros: the state after it, and whether it is accepted.
 -- Assumes nothing.
-use mathlib.Core.Path.{_≡_, refl, sym, _∙_, ap}
-use mathlib.Core.Bool.{Bool, false}
-use mathlib.Core.List.{List}
-use mathlib.Core.Option.{some}
-use Prim.Native.Nat.{ℕ, _^_, _≤_, _<_}
+use Rattle.laws.specs.Basics.{_≡_, refl, sym, _∙_, ap, Bool, false, List, some, ℕ, _^_, _≤_, _<_, arith, eqb, replicate, ne-eqb}
 use native.Mathlib.Nat.{pow-le-pow-right}
-use native.Mathlib.Omega.{arith}
-use lib.Dec.{eqb}
-use lib.ListN.{replicate}
-use borrow.Author.Tests.{ne-eqb}
-use Rattle.model.specs.declared.Event.{Event}
+use Rattle.model.specs.declared.{Event.Event, Run.Run, CheckpointAnswer.CheckpointAnswer, SendAnswer.SendAnswer, DeliverAnswer.DeliverAnswer}
 use Rattle.model.specs.declared.Event.the-variants.{Checkpoint, Send, Deliver, Lose, Recover}
-use Rattle.model.specs.declared.Run.{Run}
-use Rattle.model.specs.declared.CheckpointAnswer.{CheckpointAnswer}
-use Rattle.model.specs.declared.SendAnswer.{SendAnswer}
-use Rattle.model.specs.declared.DeliverAnswer.{DeliverAnswer}
-use Rattle.model.specs.declared.LoseAnswer.{LoseAnswer}
-use Rattle.model.specs.declared.RecoverAnswer.{RecoverAnswer}
-use Rattle.model.specs.Refusals.{number, recoverRefusal}
-use Rattle.model.specs.laws.Refusals.{by-refusal, number-range}
+use Rattle.model.specs.declared.{LoseAnswer.LoseAnswer, RecoverAnswer.RecoverAnswer}
+use Rattle.model.specs.{Refusals.number, Refusals.recoverRefusal, laws.Refusals.by-refusal, laws.Refusals.number-range}
 use Rattle.model.proofs.simulation.Accepted.{recover-out}
 use Rattle.whole_runs.specs.Outcomes.{Report, Outcome, checkpointOutcome, checkpointReport, sendOutcome, sendReport, deliverOutcome, deliverReport, loseOutcome, loseReport, recoverOutcome, recoverReport}
-use Rattle.whole_runs.specs.Calls.{answered, call}
-use Rattle.whole_runs.specs.Listing.{callOf, perform}
+use Rattle.whole_runs.specs.{Calls.answered, Calls.call, Listing.callOf, Listing.perform}
 use Rattle.whole_runs.proofs.Sizes.{few-processes}
 
 -- What is said of a record: the state after it, and whether it is accepted.

@@ -1,27 +1,14 @@
 -- The iterations of a loop over the records of a trace: nothing taken yet, one record more, and where it stops.
 -- Assumes nothing.
-use mathlib.Core.Path.{_≡_, refl, sym, _∙_, ap}
-use mathlib.Core.Bool.{Bool, true, false, _&&_}
-use mathlib.Core.List.{List, [], _∷_, _++_, append-nil}
-use mathlib.Core.Option.{Option}
-use Prim.Native.Nat.{ℕ, zero, suc, _+_, _*_, _≤_, _<_}
-use native.Mathlib.Omega.{arith}
-use lib.Dec.{eqb, ltb}
-use lib.ListN.{length, take, drop, length-append, length-drop, take-append-drop}
-use lib.Seq.{drop-drop, length-take-le, take-add, take-all}
-use borrow.Author.Tests.{ltb-true, ltb-false, leb-true, leb-false, le-leb, eq-eqb}
-use Rattle.laws.specs.Choice.{pick, by-bool}
-use Rattle.laws.specs.Lists.{select}
-use Rattle.laws.specs.Select.{select-append}
-use Rattle.laws.specs.Truth.{and-left, and-right}
-use Rattle.model.specs.declared.Event.{Event}
-use Rattle.model.specs.declared.Run.{Run}
+use Rattle.laws.specs.Basics.{_≡_, refl, sym, _∙_, ap, Bool, true, false, _&&_, List, [], _∷_, _++_, append-nil, Option, ℕ, zero, suc, _+_, _*_, _≤_, _<_, arith, eqb, ltb, length, take, drop, length-append, length-drop, length-take-le, eq-eqb, ltb-true, ltb-false, le-leb, leb-true, leb-false, pick, by-bool}
+use lib.ListN.{take-append-drop}
+use lib.Seq.{drop-drop, take-add, take-all}
+use Rattle.laws.specs.{Lists.select, Select.select-append, Truth.and-left, Truth.and-right}
+use Rattle.model.specs.declared.{Event.Event, Run.Run}
 use Rattle.model.specs.Trace.{decoded}
-use Rattle.whole_runs.specs.Calls.{Reply}
-use Rattle.whole_runs.specs.Listing.{mostRecords, perform, stateAfterRecords}
+use Rattle.whole_runs.specs.{Calls.Reply, Listing.mostRecords, Listing.perform, Listing.stateAfterRecords}
 use Rattle.whole_runs.proofs.Blocks.{states-by-block, next-length, next-state}
-use Rattle.trace.specs.Answers.{recordAt, eventIn}
-use Rattle.trace.specs.reader.Reading.{recordAfter, recordLeft}
+use Rattle.trace.specs.{Answers.recordAt, Answers.eventIn, reader.Reading.recordAfter, reader.Reading.recordLeft}
 use Rattle.theory_recording.specs.Replay.{repliesOf}
 use Rattle.theory_recording.proofs.Replay.{first-reply}
 use Rattle.bench_by_value.specs.Timed.{Timed, recordsTaken, acceptedOf, timedRecords}

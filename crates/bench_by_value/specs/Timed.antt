@@ -1,18 +1,10 @@
 -- What the records of a trace come to when each is made as a call after a start of n processes: how many are accepted, and the state after them.
 -- Assumes nothing.
-use mathlib.Core.List.{List}
-use mathlib.Core.Option.{Option}
-use Prim.Native.Nat.{ℕ, _*_}
-use lib.Dec.{eqb}
-use lib.ListN.{length, take, drop}
+use Rattle.laws.specs.Basics.{List, Option, ℕ, _*_, eqb, length, take, drop}
 use Rattle.laws.specs.Lists.{select}
-use Rattle.model.specs.declared.Refusal.{Refusal}
-use Rattle.model.specs.declared.Run.{Run}
-use Rattle.model.specs.Words.{blank, ones}
-use Rattle.model.specs.Steps.{startState}
-use Rattle.whole_runs.specs.Outcomes.{judged}
-use Rattle.whole_runs.specs.Calls.{Reply}
-use Rattle.whole_runs.specs.Listing.{mostRecords, stateAfterRecords}
+use Rattle.model.specs.declared.{Refusal.Refusal, Run.Run}
+use Rattle.model.specs.{Words.blank, Words.ones, Steps.startState}
+use Rattle.whole_runs.specs.{Outcomes.judged, Calls.Reply, Listing.mostRecords, Listing.stateAfterRecords}
 use Rattle.theory_recording.specs.Replay.{repliesOf}
 
 pub record Timed : Type 0 where

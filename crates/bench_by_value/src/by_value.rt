@@ -1,17 +1,14 @@
 // A record on a state by value: the call that it stands for.
+use library_recorder::record::accepted;
 use model::DELETIONS;
 use model::Event;
 use model::PROCESSES;
 use model::Run;
-use library_recorder::record::accepted;
 use trace::Decoded;
-ghost use mathlib.Core.Path.{_≡_};
-ghost use mathlib.Core.Option.{some};
-ghost use lib.Dec.{eqb};
-ghost use lib.ListN.{replicate};
-ghost use Rattle.model.specs.declared.Event.the-variants as event;
+ghost use Rattle.laws.specs.Basics.{_≡_, some, eqb, replicate};
 ghost use Rattle.whole_runs.specs.Listing.{perform};
 ghost use Rattle.trace.specs.Answers.{eventRead};
+ghost use Rattle.model.specs.declared.Event.the-variants as event;
 
 // "The failed set is a number of 16 bits"
 const LARGEST_SET: u32 = 65535;

@@ -1,14 +1,10 @@
 // The records of a trace as calls by value, for bench/run to time. They are apart from `timing_in_place`: the calls by value are made of the calls in place, and a
 // function with callers in both is compiled otherwise than it is for either.
+use library_recorder::record::accepted;
 use model::PROCESSES;
 use model::Run;
-use library_recorder::record::accepted;
-ghost use mathlib.Core.Path.{_≡_};
-ghost use mathlib.Core.Bool.{_&&_};
-ghost use lib.Dec.{ltb};
-ghost use Rattle.laws.specs.Choice.{pick};
-ghost use Rattle.model.specs.Words.{ones};
-ghost use Rattle.model.specs.Refusals.{startRefusal};
+ghost use Rattle.laws.specs.Basics.{_≡_, _&&_, ltb, pick};
+ghost use Rattle.model.specs.{Words.ones, Refusals.startRefusal};
 ghost use Rattle.whole_runs.specs.Listing.{mostRecords};
 ghost use Rattle.trace.specs.reader.Reading.{recordLeft};
 ghost use Rattle.bench_by_value.specs.Timed.{recordsTaken, timedRecords, timedTrace};

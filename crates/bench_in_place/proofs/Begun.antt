@@ -1,23 +1,12 @@
 -- A start that is accepted leads to a state that calls from a start lead to.
 -- Assumes nothing.
-use mathlib.Core.Path.{_≡_, sym, _∙_, ap}
-use mathlib.Core.List.{List}
-use mathlib.Core.Bool.{false≢true}
-use mathlib.Core.Option.{Option, none, some}
-use Prim.Native.Nat.{ℕ}
-use native.Mathlib.Omega.{arith}
-use Rattle.model.specs.declared.Refusal.{Refusal}
-use Rattle.model.specs.declared.Run.{Run}
-use Rattle.model.specs.declared.StartAnswer.{StartAnswer}
-use Rattle.model.specs.declared.StartAnswer.the-variants.{Refused, Started}
-use Rattle.model.specs.Refusals.{startRefusal}
-use Rattle.model.specs.laws.Refusals.{by-refusal}
-use Rattle.whole_runs.specs.Outcomes.{Outcome, startOutcome}
-use Rattle.whole_runs.specs.WholeRuns.{Reachable}
+use Rattle.laws.specs.Basics.{_≡_, sym, _∙_, ap, false≢true, List, Option, none, some, ℕ, arith}
+use Rattle.model.specs.declared.{Refusal.Refusal, Run.Run, StartAnswer.StartAnswer, StartAnswer.the-variants.Refused, StartAnswer.the-variants.Started}
+use Rattle.model.specs.{Refusals.startRefusal, laws.Refusals.by-refusal}
+use Rattle.whole_runs.specs.{Outcomes.Outcome, Outcomes.startOutcome, WholeRuns.Reachable}
 use Rattle.whole_runs.proofs.WholeRuns.{reachable-start}
 use Rattle.in_place.specs.Starting.{startRefusalIn, startOutcomeIn, StartsTheSame}
-use Rattle.in_place.proofs.Judging.{starts-the-same}
-use Rattle.in_place.proofs.Starting.{accepted-size, accepted-long}
+use Rattle.in_place.proofs.{Judging.starts-the-same, Starting.accepted-size, Starting.accepted-long}
 
 accepted : (n : ℕ) (blockCounts : List ℕ) → startOutcome n blockCounts .answer ≡ Started → startRefusal n blockCounts ≡ none
 unfolding startOutcome

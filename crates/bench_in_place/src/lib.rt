@@ -1,17 +1,14 @@
 // What bench/in_place links besides the exported calls: the records of a trace as calls in place without the test. Text is left out. The result says how many records were
 // accepted, which the driver compares.
+use library_recorder::record::accepted;
 use model::DELETIONS;
 use model::PROCESSES;
-use library_recorder::record::accepted;
-ghost use mathlib.Core.Path.{_≡_};
-ghost use mathlib.Core.Option.{some};
-ghost use lib.ListN.{length};
+ghost use Rattle.laws.specs.Basics.{_≡_, some, length};
 ghost use Rattle.model.specs.declared.Refusal.{Refusal};
 ghost use Rattle.model.specs.Words.{ones, mostProcesses, mostDeletions};
 ghost use Rattle.whole_runs.specs.WholeRuns.{Reachable};
 ghost use Rattle.words.specs.Layout.{runOf};
-ghost use Rattle.in_place.specs.Left.{Leaves};
-ghost use Rattle.in_place.specs.Starting.{startRefusalIn, startWords};
+ghost use Rattle.in_place.specs.{Left.Leaves, Starting.startRefusalIn, Starting.startWords};
 ghost use Rattle.bench_by_value.specs.Timed.{recordsTaken, timedRecords, timedTrace};
 
 // Every record of a trace, on words to which calls from a start led.

@@ -1,11 +1,7 @@
 -- The program's buffers are large enough.
 -- Assumes nothing.
-use mathlib.Core.Path.{_≡_, refl}
-use mathlib.Core.Bool.{true}
-use Prim.Native.Nat.{ℕ, _≤_}
-use borrow.Author.Tests.{le-leb, eq-eqb}
-use Rattle.machine_console.specs.Replied.{longestLine}
-use Rattle.machine_console.specs.Lent.{hasRoom}
+use Rattle.laws.specs.Basics.{_≡_, refl, true, ℕ, _≤_, eq-eqb, le-leb}
+use Rattle.machine_console.specs.{Replied.longestLine, Lent.hasRoom}
 
 pub has-room : (memory words input out : ℕ) → 4 ≤ memory → words ≡ 6464 → 8 ≤ input → longestLine ≤ out → hasRoom memory words input out ≡ true
 unfolding hasRoom

@@ -3,12 +3,9 @@
 
 use machines::Request;
 use words::WORDS;
-ghost use mathlib.Core.Path.{_≡_};
-ghost use mathlib.Core.Bool.{true};
-ghost use lib.ListN.{length};
+ghost use Rattle.laws.specs.Basics.{_≡_, true, length};
 ghost use Rattle.machines.specs.Machines.{Ended};
-ghost use Rattle.machine_console.specs.Consoling.{consoling};
-ghost use Rattle.machine_console.specs.Lent.{hasRoom, stateOf};
+ghost use Rattle.machine_console.specs.{Consoling.consoling, Lent.hasRoom, Lent.stateOf};
 
 // Each request is obeyed, and what came of it handed back, until the machine stops.
 fn drive(memory: &mut [u64], words: &mut [u16], input: &mut [u8], out: &mut [u8]) -> Request

@@ -4,9 +4,7 @@ use model::DELETIONS;
 use model::Disk;
 use model::PROCESSES;
 use model::Run;
-ghost use Prim.Native.Nat.{_≤_};
-ghost use mathlib.Core.Path.{_≡_};
-ghost use lib.ListN.{replicate, take};
+ghost use Rattle.laws.specs.Basics.{_≡_, _≤_, take, replicate};
 ghost use Rattle.model.specs.Words.{ones, mostDeletions, mostProcesses};
 ghost use Rattle.whole_runs.specs.Outcomes.{startOutcome, checkpointOutcome, sendOutcome, deliverOutcome, recoverOutcome, startReport, checkpointReport, sendReport, deliverReport, recoverReport};
 

@@ -6,7 +6,7 @@ use crate::facts;
 use crate::say;
 use model::DELETIONS;
 use model::PROCESSES;
-ghost use Prim.Native.Nat.{_<_, _≤_};
+ghost use Rattle.laws.specs.Basics.{_≤_, _<_};
 ghost use Rattle.model.specs.Words.{mostProcesses};
 
 fn step(number: u64, after: After) -> After {

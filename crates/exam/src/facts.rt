@@ -14,7 +14,7 @@ use model::Pins;
 use model::RecoverAnswer;
 use model::Run;
 use model::Vectors;
-ghost use Prim.Native.Nat.{_<_, _≤_};
+ghost use Rattle.laws.specs.Basics.{_≤_, _<_};
 ghost use Rattle.model.specs.Words.{mostProcesses, keptPlaces};
 
 // A count, where there are places for that many: nothing is printed past them.

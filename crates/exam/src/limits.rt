@@ -4,7 +4,7 @@ use crate::act::After;
 use crate::say;
 use model::DELETIONS;
 use model::PROCESSES;
-ghost use Prim.Native.Nat.{_≤_};
+ghost use Rattle.laws.specs.Basics.{_≤_};
 ghost use Rattle.model.specs.Words.{mostDeletions, mostProcesses};
 
 // "Count 0 and 17: 1. Count 1 and 16: accepted."

@@ -8,7 +8,7 @@ use model::CheckpointIndex;
 use model::DELETIONS;
 use model::Named;
 use model::PROCESSES;
-ghost use Prim.Native.Nat.{_≤_};
+ghost use Rattle.laws.specs.Basics.{_≤_};
 
 // A list of named checkpoints at the front of an array, and its length.
 pub struct NamedList {

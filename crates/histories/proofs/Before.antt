@@ -1,14 +1,7 @@
 -- The part of a list before a send: what stands in it, and that steps leave it alone.
 -- Assumes nothing.
-use mathlib.Core.Path.{_≡_, refl, sym, ap}
-use mathlib.Core.Bool.{false}
-use mathlib.Core.Logic.{_⊎_, inl, inr}
-use mathlib.Core.List.{List, [], _∷_, _++_, List·Memᴰ, List·Memᴰ·head, List·Memᴰ·tail, List·Memᴰ·cases-cons, List·Memᴰ·not-nil}
-use Prim.Native.Nat.{ℕ, zero, suc, _≤_}
-use native.Mathlib.Omega.{arith}
-use lib.Dec.{eqb}
-use borrow.Author.Tests.{eq-eqb, eqb-true}
-use Rattle.laws.specs.Choice.{by-bool}
+use Rattle.laws.specs.Basics.{_≡_, refl, sym, ap, false, List, [], _∷_, _++_, _⊎_, inl, inr, ℕ, zero, suc, _≤_, arith, eqb, eq-eqb, eqb-true, by-bool}
+use mathlib.Core.List.{List·Memᴰ, List·Memᴰ·head, List·Memᴰ·tail, List·Memᴰ·cases-cons, List·Memᴰ·not-nil}
 use Rattle.laws.specs.Truth.{never-both}
 use Rattle.histories.specs.History.{HistoryEvent, stored, sent, received, checkpoints, upTo, before}
 use Rattle.histories.proofs.Places.{Stands, first, stands-cases}

@@ -1,18 +1,9 @@
 -- The start has what the invariant says.
-use mathlib.Core.Path.{_≡_, refl, sym, _∙_, ap}
-use mathlib.Core.Bool.{true, false, false≢true}
-use mathlib.Core.List.{[]}
-use mathlib.Core.Option.{Option, none, some}
-use Prim.Native.Nat.{ℕ, suc, _≤_, _<_}
-use native.Mathlib.Omega.{arith}
-use lib.Dec.{eqb}
-use borrow.Author.Tests.{eq-eqb, ne-eqb}
-use Rattle.laws.specs.Choice.{by-eq, pick-same}
+use Rattle.laws.specs.Basics.{_≡_, refl, sym, _∙_, ap, true, false, false≢true, [], Option, none, some, ℕ, suc, _≤_, _<_, arith, eqb, eq-eqb, ne-eqb, by-eq}
+use Rattle.laws.specs.Choice.{pick-same}
 use Rattle.histories.specs.History.{HistoryEvent, stored, sent, received, checkpoints}
-use Rattle.histories.proofs.Places.{Stands, stands-nil, sent-before-stored, received-before-stored}
-use Rattle.histories.proofs.Times.{times, times-none, single-end}
-use Rattle.histories.proofs.Run.{begin}
-use Rattle.histories.proofs.Invariant.{Inv, Pinned}
+use Rattle.histories.proofs.{Places.Stands, Places.stands-nil, Places.sent-before-stored, Places.received-before-stored, Run.begin}
+use Rattle.histories.proofs.{Times.times, Times.times-none, Times.single-end, Invariant.Inv, Invariant.Pinned}
 
 module _ (n : ℕ) where
   -- Views of the start.

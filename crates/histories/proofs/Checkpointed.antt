@@ -1,18 +1,8 @@
 -- A checkpoint keeps the invariant: the live state of i becomes a stored one, and the new live state differs at the own entry alone.
-use mathlib.Core.Path.{_≡_, sym, _∙_, ap}
-use mathlib.Core.Logic.{inl, inr}
-use mathlib.Core.Bool.{true}
-use mathlib.Core.Option.{some}
-use Prim.Native.Nat.{ℕ, suc, _≤_, _<_}
-use native.Mathlib.Omega.{arith}
-use Rattle.laws.specs.Choice.{by-eq}
+use Rattle.laws.specs.Basics.{_≡_, sym, _∙_, ap, true, some, inl, inr, ℕ, suc, _≤_, _<_, arith, by-eq}
 use Rattle.histories.specs.History.{HistoryEvent, stored, sent, received, checkpoints}
-use Rattle.histories.proofs.Places.{Stands, checkpoints-stored}
-use Rattle.histories.proofs.Times.{times, single-end}
-use Rattle.histories.proofs.Run.{Ideal, checkpointed}
-use Rattle.histories.proofs.Invariant.{Inv, Proper, SentOf, Informed, Pinned}
-use Rattle.histories.proofs.Rule.{same-some}
-use Rattle.histories.proofs.Line.{interval}
+use Rattle.histories.proofs.{Places.Stands, Places.checkpoints-stored, Times.times, Times.single-end, Run.Ideal, Run.checkpointed, Rule.same-some}
+use Rattle.histories.proofs.{Invariant.Inv, Invariant.Proper, Invariant.SentOf, Invariant.Informed, Invariant.Pinned, Line.interval}
 use Rattle.histories.proofs.CheckpointedViews.{checkpointed-own, checkpointed-own-other, checkpointed-own-le, checkpointed-live-own, checkpointed-live, checkpointed-vector, checkpointed-row, checkpointed-row-other, checkpointed-mark-other, checkpointed-pin, checkpointed-pin-row, checkpointed-pin-column, checkpointed-events, checkpointed-events-other, checkpointed-state, checkpointed-still, checkpointed-sent, checkpointed-received}
 
 module _ (r : Ideal) (i : ℕ) (v : Inv r) where

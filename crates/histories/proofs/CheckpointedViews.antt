@@ -1,17 +1,9 @@
 -- How a checkpoint changes the run: one lemma for each view, and what it does to kept checkpoints and to the lists.
-use mathlib.Core.Path.{_≡_, refl, sym, _∙_, ap}
-use mathlib.Core.Logic.{_⊎_, inl, inr}
-use mathlib.Core.Bool.{true, false}
-use mathlib.Core.List.{[], _∷_, _++_}
-use mathlib.Core.Option.{some}
-use Prim.Native.Nat.{ℕ, suc, _≤_, _<_}
-use native.Mathlib.Omega.{arith}
-use Rattle.laws.specs.Choice.{by-eq}
+use Rattle.laws.specs.Basics.{_≡_, refl, sym, _∙_, ap, true, false, [], _∷_, _++_, some, _⊎_, inl, inr, ℕ, suc, _≤_, _<_, arith, by-eq}
 use Rattle.laws.specs.Update.{upds}
 use Rattle.histories.specs.History.{HistoryEvent, stored, sent, received}
 use Rattle.histories.proofs.Places.{Stands, stands-still, sent-before-stored, received-before-stored}
-use Rattle.histories.proofs.Run.{Ideal, checkpointed, keeps}
-use Rattle.histories.proofs.Rule.{keeps-in, keeps-out, same-some}
+use Rattle.histories.proofs.{Run.Ideal, Run.checkpointed, Run.keeps, Rule.keeps-in, Rule.keeps-out, Rule.same-some}
 
 module _ (r : Ideal) (i : ℕ) where
   -- Views of the checkpoint.

@@ -1,21 +1,12 @@
 -- Blocks over a step: those of the kept checkpoints and of those that the step stores are those of the checkpoints kept after it and of those that go.
-use mathlib.Core.Path.{_≡_, refl, sym, _∙_, ap}
-use mathlib.Core.Logic.{inl, inr}
-use mathlib.Core.Bool.{true, false, _&&_, not}
-use Prim.Native.Nat.{ℕ, suc, _+_, _-_, _*_, _≤_, _<_}
+use Rattle.laws.specs.Basics.{_≡_, refl, sym, _∙_, ap, true, false, not, _&&_, inl, inr, ℕ, suc, _+_, _-_, _*_, _≤_, _<_, arith, pick, by-bool}
 use native.Mathlib.Nat.{add-mul}
-use native.Mathlib.Omega.{arith}
-use Rattle.laws.specs.Choice.{pick, by-bool}
-use Rattle.laws.specs.Counting.{count-none, count-split, count-wider}
-use Rattle.laws.specs.Sums.{sumBelow, sum-none, sum-only, sum-both}
+use Rattle.laws.specs.{Counting.count-none, Counting.count-split, Counting.count-wider, Sums.sumBelow, Sums.sum-none, Sums.sum-only, Sums.sum-both}
 use Rattle.laws.specs.Tests.{countBelow}
 use Rattle.histories.proofs.Run.{Ideal, Ledger, Failed, keeps, stores, checkpointed, sending, forces, takenBy, takenIn, delivered, lost, recovered}
-use Rattle.histories.proofs.Invariant.{Inv}
-use Rattle.histories.proofs.Line.{keeps-below}
-use Rattle.histories.proofs.Keeping.{Moved, moved-new}
+use Rattle.histories.proofs.{Invariant.Inv, Line.keeps-below, Keeping.Moved, Keeping.moved-new, RecoveredStates.recovered-own-le}
 use Rattle.histories.proofs.CheckpointedViews.{checkpointed-own, checkpointed-own-other}
 use Rattle.histories.proofs.DeliveredViews.{delivered-own-forced, delivered-own-plain, delivered-own-other}
-use Rattle.histories.proofs.RecoveredStates.{recovered-own-le}
 
 -- The blocks of all kept checkpoints; of those that are kept in one run and not in another; of those that a step stores.
 unfoldable pub keptIn : Ideal → ℕ

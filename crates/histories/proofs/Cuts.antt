@@ -1,11 +1,8 @@
 -- The parts of a list up to a state and after it, by intervals: an event stands up to state k where at most k checkpoints stand before it,
 -- and after state k where more do.
-use mathlib.Core.Path.{_≡_, refl, ap}
-use mathlib.Core.Logic.{inl, inr}
-use mathlib.Core.List.{List, [], _∷_, List·Memᴰ, List·Memᴰ·head, List·Memᴰ·tail, List·Memᴰ·cases-cons, List·Memᴰ·not-nil}
-use Prim.Native.Nat.{ℕ, zero, suc, _+_, _≤_, _<_}
+use Rattle.laws.specs.Basics.{_≡_, refl, ap, List, [], _∷_, inl, inr, ℕ, zero, suc, _+_, _≤_, _<_, arith}
+use mathlib.Core.List.{List·Memᴰ, List·Memᴰ·head, List·Memᴰ·tail, List·Memᴰ·cases-cons, List·Memᴰ·not-nil}
 use native.Mathlib.Nat.{not-suc-le-zero}
-use native.Mathlib.Omega.{arith}
 use Rattle.histories.specs.History.{HistoryEvent, stored, sent, received, checkpoints, upTo, afterState}
 use Rattle.histories.proofs.Places.{Stands, first, later, weight, stands-cons, stands-nil}
 

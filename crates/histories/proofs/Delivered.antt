@@ -1,16 +1,8 @@
 -- A delivery keeps the invariant: the forced checkpoint, where there is one, and then the message is taken in.
-use mathlib.Core.Path.{_≡_, _∙_}
-use mathlib.Core.Bool.{true, false}
-use Prim.Native.Nat.{ℕ, _≤_, _<_}
-use borrow.Author.Tests.{lt-ltb, ltb-true, ltb-false}
-use Rattle.laws.specs.Choice.{by-bool}
-use Rattle.laws.specs.Search.{any-out, any-in, any-none}
-use Rattle.laws.specs.Truth.{never-both, and-left, and-right, and-both}
-use Rattle.histories.proofs.Run.{Ideal, newer, forces, checkpointed, takenIn, delivered}
-use Rattle.histories.proofs.Invariant.{Inv}
-use Rattle.histories.proofs.CheckpointedViews.{checkpointed-mark, checkpointed-transit}
-use Rattle.histories.proofs.Checkpointed.{checkpointed-inv}
-use Rattle.histories.proofs.TakenIn.{takenIn-inv}
+use Rattle.laws.specs.Basics.{_≡_, _∙_, true, false, ℕ, _≤_, _<_, lt-ltb, ltb-true, ltb-false, by-bool}
+use Rattle.laws.specs.{Search.any-out, Search.any-in, Search.any-none, Truth.never-both, Truth.and-left, Truth.and-right, Truth.and-both}
+use Rattle.histories.proofs.{Run.Ideal, Run.newer, Run.forces, Run.checkpointed, Run.takenIn, Run.delivered, Invariant.Inv, TakenIn.takenIn-inv}
+use Rattle.histories.proofs.{CheckpointedViews.checkpointed-mark, CheckpointedViews.checkpointed-transit, Checkpointed.checkpointed-inv}
 
 module _ (r : Ideal) (m : ℕ) where
   -- What a delivery that forces a checkpoint finds, and when it is forced.

@@ -1,10 +1,5 @@
 -- How a delivery changes the run: one lemma for each view. Where no checkpoint is forced the delivery is `takenIn`, whose views are in TakenInViews.
-use mathlib.Core.Path.{_≡_, sym, _∙_, ap}
-use mathlib.Core.Bool.{true, false}
-use mathlib.Core.List.{[]}
-use Prim.Native.Nat.{ℕ, suc, _≤_, _<_, max}
-use native.Mathlib.Omega.{arith}
-use Rattle.laws.specs.Choice.{by-bool, by-eq}
+use Rattle.laws.specs.Basics.{_≡_, sym, _∙_, ap, true, false, [], ℕ, suc, _≤_, _<_, max, arith, by-bool, by-eq}
 use Rattle.histories.proofs.Run.{Ideal, forces, checkpointed, takenIn, delivered, keeps}
 use Rattle.histories.proofs.CheckpointedViews.{checkpointed-n, checkpointed-own, checkpointed-own-other, checkpointed-live, checkpointed-vector-other, checkpointed-transit, checkpointed-receiver, checkpointed-last, checkpointed-keeps-old}
 use Rattle.histories.proofs.TakenInViews.{takenIn-n, takenIn-own, takenIn-live, takenIn-vector, takenIn-mark, takenIn-transit, takenIn-transit-other, takenIn-receiver, takenIn-last, takenIn-keeps-old}

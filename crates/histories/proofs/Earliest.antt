@@ -1,14 +1,8 @@
 -- Note 8 of a run as functions: the earliest line through some states none of which comes before another. At each process it has their greatest entry.
-use mathlib.Core.Path.{_≡_}
-use Prim.Native.Nat.{ℕ, _≤_, _<_}
-use native.Mathlib.Omega.{arith}
+use Rattle.laws.specs.Basics.{_≡_, ℕ, _≤_, _<_, arith}
 use Rattle.histories.specs.History.{sent, received, Line, Consistent}
-use Rattle.histories.proofs.Places.{Stands}
-use Rattle.histories.proofs.Cuts.{member-stands, upTo-out, after-state-out}
-use Rattle.histories.proofs.Run.{Ideal}
-use Rattle.histories.proofs.Invariant.{Inv}
+use Rattle.histories.proofs.{Places.Stands, Cuts.member-stands, Cuts.upTo-out, Cuts.after-state-out, Run.Ideal, Invariant.Inv, Maximal.consistent-knows}
 use Rattle.histories.proofs.Line.{rising, interval}
-use Rattle.histories.proofs.Maximal.{consistent-knows}
 
 module _ (r : Ideal) (v : Inv r) where
   -- Some states, each a process and an index, and a line N of their greatest entries.

@@ -1,12 +1,7 @@
 -- What holds after every list of accepted calls. The proofs of the line's facts use these clauses alone.
-use mathlib.Core.Path.{_≡_}
-use mathlib.Core.Bool.{true}
-use mathlib.Core.Option.{some}
-use Prim.Native.Nat.{ℕ, suc, _≤_, _<_}
+use Rattle.laws.specs.Basics.{_≡_, true, some, ℕ, suc, _≤_, _<_}
 use Rattle.histories.specs.History.{HistoryEvent, stored, sent, received, checkpoints}
-use Rattle.histories.proofs.Places.{Stands}
-use Rattle.histories.proofs.Times.{times}
-use Rattle.histories.proofs.Run.{Ideal}
+use Rattle.histories.proofs.{Places.Stands, Times.times, Run.Ideal}
 
 -- Message m is sent in its sender's list, in some interval.
 abbrev pub SentOf : Ideal → ℕ → Type 0

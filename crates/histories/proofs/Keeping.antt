@@ -1,20 +1,10 @@
 -- What each step does to the kept checkpoints: nothing that was not kept comes back, and a newly stored checkpoint is kept.
-use mathlib.Core.Path.{_≡_, sym, _∙_}
-use mathlib.Core.Logic.{_⊎_, inl, inr}
-use mathlib.Core.Bool.{true}
-use Prim.Native.Nat.{ℕ, suc, _≤_, _<_}
-use native.Mathlib.Omega.{arith}
-use Rattle.laws.specs.Choice.{by-bool, by-eq}
+use Rattle.laws.specs.Basics.{_≡_, sym, _∙_, true, _⊎_, inl, inr, ℕ, suc, _≤_, _<_, arith, by-bool, by-eq}
 use Rattle.histories.proofs.Run.{Ideal, Failed, keeps, forces, checkpointed, sending, delivered, lost, recovered}
-use Rattle.histories.proofs.Invariant.{Inv}
-use Rattle.histories.proofs.Line.{last-kept}
-use Rattle.histories.proofs.Messages.{underway-proper}
-use Rattle.histories.proofs.Lost.{lost-n, lost-own, lost-keeps}
-use Rattle.histories.proofs.Sending.{sending-n, sending-own, sending-keeps}
+use Rattle.histories.proofs.{Invariant.Inv, Line.last-kept, Messages.underway-proper, Lost.lost-n, Lost.lost-own, Lost.lost-keeps}
+use Rattle.histories.proofs.{Sending.sending-n, Sending.sending-own, Sending.sending-keeps, RecoveredViews.recovered-n, RecoveredStates.recovered-own-le}
 use Rattle.histories.proofs.CheckpointedViews.{checkpointed-n, checkpointed-own, checkpointed-own-other, checkpointed-keeps-old}
 use Rattle.histories.proofs.DeliveredViews.{delivered-n, delivered-own-forced, delivered-own-plain, delivered-own-other, delivered-keeps-old}
-use Rattle.histories.proofs.RecoveredViews.{recovered-n}
-use Rattle.histories.proofs.RecoveredStates.{recovered-own-le}
 use Rattle.histories.proofs.Recovered.{recovered-keeps-old}
 
 -- A step from r to s: as many processes, nothing comes back, and each process gets at most one checkpoint.

@@ -1,24 +1,12 @@
 -- The vectors say what messages alone say: entry f of a live state, of a checkpoint or of a message, is above a exactly if checkpoint a of f comes before it.
 -- So a delivery forces a checkpoint exactly if the lists say so.
 -- Assumes nothing.
-use mathlib.Core.Path.{_≡_}
-use mathlib.Core.Bool.{true}
-use mathlib.Core.List.{List, List·Memᴰ}
-use Prim.Native.Nat.{ℕ, zero, suc, _-_, _≤_, _<_}
-use native.Mathlib.Omega.{arith}
-use lib.Dec.{ltb}
-use borrow.Author.Tests.{ltb-true, ltb-false}
-use Rattle.laws.specs.Choice.{by-bool, by-eq}
+use Rattle.laws.specs.Basics.{_≡_, true, List, ℕ, zero, suc, _-_, _≤_, _<_, arith, ltb, ltb-true, ltb-false, by-bool, by-eq}
+use mathlib.Core.List.{List·Memᴰ}
 use Rattle.histories.specs.History.{HistoryEvent, sent, received, checkpoints, afterState, beforeCheckpoint, before, ComesBefore, within, message}
-use Rattle.histories.proofs.Places.{Stands, stands-le}
-use Rattle.histories.proofs.Cuts.{stands-member, member-stands, after-state-out, after-state-in}
-use Rattle.histories.proofs.Run.{Ideal, forces}
-use Rattle.histories.proofs.Invariant.{Inv}
-use Rattle.histories.proofs.Line.{rising, interval}
-use Rattle.histories.proofs.Delivered.{forces-in, forces-out}
-use Rattle.histories.proofs.Before.{before-stands, before-out}
-use Rattle.histories.proofs.Pasts.{past-checkpoints, past-out, past-in}
-use Rattle.histories.proofs.Memory.{Memory}
+use Rattle.histories.proofs.{Places.Stands, Places.stands-le, Cuts.stands-member, Cuts.member-stands, Cuts.after-state-out, Cuts.after-state-in}
+use Rattle.histories.proofs.{Run.Ideal, Run.forces, Invariant.Inv, Line.rising, Line.interval, Delivered.forces-in, Delivered.forces-out, Memory.Memory}
+use Rattle.histories.proofs.{Before.before-stands, Before.before-out, Pasts.past-checkpoints, Pasts.past-out, Pasts.past-in}
 
 -- A part of p's list up to a place: what stands in it stands in the list, in an interval up to the one where it ends.
 pub record Place (r : Ideal) (p : ℕ) (past : List HistoryEvent) : Type 0 where

@@ -1,8 +1,6 @@
 -- The ledger of a run changes nothing else: the invariant and what is kept are the same whatever it says.
-use mathlib.Core.Path.{_≡_, refl}
-use Prim.Native.Nat.{ℕ}
-use Rattle.histories.proofs.Run.{Ideal, Ledger, withLedger, keeps}
-use Rattle.histories.proofs.Invariant.{Inv}
+use Rattle.laws.specs.Basics.{_≡_, refl, ℕ}
+use Rattle.histories.proofs.{Run.Ideal, Run.Ledger, Run.withLedger, Run.keeps, Invariant.Inv}
 
 module _ (r : Ideal) (l : Ledger) where
   pub ledger-keeps : (p k : ℕ) → keeps (withLedger r l) p k ≡ keeps r p k

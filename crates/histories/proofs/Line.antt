@@ -1,21 +1,11 @@
 -- The line of the rule: it has a state at each process, which is the latest of all states that pass the rule, deleted or not;
 -- it is consistent by messages.
-use mathlib.Core.Path.{_≡_, refl, sym, _∙_, ap}
-use mathlib.Core.Bool.{true, false, _||_}
-use mathlib.Core.Option.{some}
-use Prim.Native.Nat.{ℕ, zero, suc, _≤_, _<_}
-use native.Mathlib.Omega.{arith}
-use lib.Dec.{eqb, leb, ltb}
-use borrow.Author.Tests.{leb-true, leb-false, lt-ltb, le-ltb, eq-eqb, ne-eqb}
-use Rattle.laws.specs.Choice.{by-bool, by-eq}
-use Rattle.laws.specs.Search.{latest-is, latest-out, latest-of}
-use Rattle.laws.specs.Truth.{and-both, and-no-right}
+use Rattle.laws.specs.Basics.{_≡_, refl, sym, _∙_, ap, true, false, _||_, some, ℕ, zero, suc, _≤_, _<_, arith, eqb, ltb, leb, eq-eqb, ne-eqb, lt-ltb, le-ltb, leb-true, leb-false, by-bool, by-eq}
+use Rattle.laws.specs.{Search.latest-is, Search.latest-out, Search.latest-of, Truth.and-both, Truth.and-no-right}
 use Rattle.histories.specs.History.{HistoryEvent, sent, received, checkpoints, Consistent}
-use Rattle.histories.proofs.Places.{Stands, stands-le}
-use Rattle.histories.proofs.Cuts.{member-stands, upTo-out, after-state-out}
+use Rattle.histories.proofs.{Places.Stands, Places.stands-le, Cuts.member-stands, Cuts.upTo-out, Cuts.after-state-out, Invariant.Inv}
 use Rattle.histories.proofs.Run.{Ideal, Failed, safe, keeps, member, line, rolled}
 use Rattle.histories.proofs.Rule.{safe-out, safe-in, unsafe-out, rolled-out, stays-out, keeps-in, keeps-out}
-use Rattle.histories.proofs.Invariant.{Inv}
 
 module _ (r : Ideal) (v : Inv r) where
   -- States of one process know more and more.

@@ -1,13 +1,7 @@
 -- One process's part of the run as functions, and what its own events make of it: a checkpoint, a send, a receipt of a carried vector.
 -- Nothing else in the run matters to it.
-use mathlib.Core.Path.{_≡_, refl, sym, _∙_, ap}
-use mathlib.Core.Bool.{Bool, true, false, _&&_}
-use mathlib.Core.Option.{Option, some}
-use Prim.Native.Nat.{ℕ, suc, max}
-use lib.Dec.{ltb}
-use Rattle.laws.specs.Choice.{pick, by-bool}
-use Rattle.laws.specs.Search.{anyBelow}
-use Rattle.laws.specs.Update.{upd, upd-same, upd-other}
+use Rattle.laws.specs.Basics.{_≡_, refl, sym, _∙_, ap, Bool, true, false, _&&_, Option, some, ℕ, suc, max, ltb, pick, by-bool}
+use Rattle.laws.specs.{Search.anyBelow, Update.upd, Update.upd-same, Update.upd-other}
 use Rattle.histories.proofs.Run.{Ideal, checkpointed, sending, newer, forces, takenBy, takenIn, delivered, lost}
 
 pub record Local : Type 0 where

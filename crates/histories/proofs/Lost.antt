@@ -1,12 +1,7 @@
 -- A loss keeps the invariant: fewer messages are under way, and nothing else changes.
-use mathlib.Core.Path.{_≡_, refl, sym, _∙_}
-use mathlib.Core.Bool.{true, false}
-use Prim.Native.Nat.{ℕ}
-use Rattle.laws.specs.Choice.{by-eq}
-use Rattle.laws.specs.Truth.{never-both}
-use Rattle.laws.specs.Update.{upds}
-use Rattle.histories.proofs.Run.{Ideal, lost, keeps}
-use Rattle.histories.proofs.Invariant.{Inv}
+use Rattle.laws.specs.Basics.{_≡_, refl, sym, _∙_, true, false, ℕ, by-eq}
+use Rattle.laws.specs.{Truth.never-both, Update.upds}
+use Rattle.histories.proofs.{Run.Ideal, Run.lost, Run.keeps, Invariant.Inv}
 
 module _ (r : Ideal) (m : ℕ) where
   -- Views of the loss: all that is not listed is as before by definition.

@@ -1,18 +1,13 @@
 -- The other half of what a sent mark says: where it is set, a send stands in the live interval, after the last checkpoint. Each step keeps this.
 -- Assumes nothing.
-use mathlib.Core.Path.{_≡_, refl, sym, _∙_}
-use mathlib.Core.Bool.{true}
-use Prim.Native.Nat.{ℕ, suc}
-use Rattle.laws.specs.Choice.{by-bool, by-eq}
+use Rattle.laws.specs.Basics.{_≡_, refl, sym, _∙_, true, ℕ, suc, by-bool, by-eq}
 use Rattle.laws.specs.Truth.{never-both}
 use Rattle.histories.specs.History.{sent}
-use Rattle.histories.proofs.Places.{Stands, stands-end}
+use Rattle.histories.proofs.{Places.Stands, Places.stands-end, Invariant.Inv, Delivered.delivered-forced, Delivered.delivered-plain}
 use Rattle.histories.proofs.Run.{Ideal, Failed, begin, checkpointed, sending, forces, takenIn, delivered, lost, rolled, recovered}
-use Rattle.histories.proofs.Invariant.{Inv}
 use Rattle.histories.proofs.Sending.{sending-own, sending-mark-other, sending-events, sending-events-other}
 use Rattle.histories.proofs.CheckpointedViews.{checkpointed-own-other, checkpointed-mark, checkpointed-mark-other, checkpointed-still}
 use Rattle.histories.proofs.TakenInViews.{takenIn-own, takenIn-mark, takenIn-still}
-use Rattle.histories.proofs.Delivered.{delivered-forced, delivered-plain}
 use Rattle.histories.proofs.RecoveredViews.{recovered-own-stays, recovered-mark-back, recovered-mark-stays, recovered-events-stays}
 
 -- A process whose mark is set has sent since its last checkpoint.

@@ -1,19 +1,10 @@
 -- No consistent line that gives up the live state of each failed process is later than the line of the rule, at any process. So the line follows from
 -- the history.
-use mathlib.Core.Path.{_≡_, sym, ap}
-use mathlib.Core.Bool.{true}
-use Prim.Native.Nat.{ℕ, zero, suc, _≤_, _<_}
+use Rattle.laws.specs.Basics.{_≡_, sym, ap, true, ℕ, zero, suc, _≤_, _<_, arith, leb, leb-true, leb-false, by-bool, by-eq}
 use native.Mathlib.Nat.{not-suc-le-zero}
-use native.Mathlib.Omega.{arith}
-use lib.Dec.{leb}
-use borrow.Author.Tests.{leb-true, leb-false}
-use Rattle.laws.specs.Choice.{by-bool, by-eq}
 use Rattle.histories.specs.History.{Lists, sent, received, checkpoints, Line, Consistent}
-use Rattle.histories.proofs.Places.{Stands}
-use Rattle.histories.proofs.Cuts.{stands-member, upTo-in, after-state-in}
-use Rattle.histories.proofs.Run.{Ideal, Failed, line, rolled}
-use Rattle.histories.proofs.Invariant.{Inv}
-use Rattle.histories.proofs.Line.{rising, line-back, line-live, line-le, failed-back, line-consistent}
+use Rattle.histories.proofs.{Places.Stands, Cuts.stands-member, Cuts.upTo-in, Cuts.after-state-in, Run.Ideal, Run.Failed, Run.line, Run.rolled}
+use Rattle.histories.proofs.{Invariant.Inv, Line.rising, Line.line-back, Line.line-live, Line.line-le, Line.failed-back, Line.line-consistent}
 
 module _ (r : Ideal) (v : Inv r) where
   -- A line M that is consistent, with a state of each process.

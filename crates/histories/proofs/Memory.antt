@@ -1,8 +1,7 @@
 -- What the proofs about answers need of a run besides the invariant: what a set mark says, and where carried knowledge came from. Each step keeps it.
 -- Assumes nothing.
-use Prim.Native.Nat.{ℕ}
-use Rattle.histories.proofs.Run.{Ideal, Failed, begin, checkpointed, sending, delivered, lost, recovered}
-use Rattle.histories.proofs.Invariant.{Inv}
+use Rattle.laws.specs.Basics.{ℕ}
+use Rattle.histories.proofs.{Run.Ideal, Run.Failed, Run.begin, Run.checkpointed, Run.sending, Run.delivered, Run.lost, Run.recovered, Invariant.Inv}
 use Rattle.histories.proofs.Marks.{Marks, begin-marks, checkpointed-marks, sending-marks, delivered-marks, lost-marks, recovered-marks}
 use Rattle.histories.proofs.Sources.{Sources, begin-sources, checkpointed-sources, sending-sources, delivered-sources, lost-sources, recovered-sources}
 

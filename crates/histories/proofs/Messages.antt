@@ -1,14 +1,7 @@
 -- What the invariant says of messages: each is sent and received at one place, and one under way carries what its sender knew.
-use mathlib.Core.Path.{_≡_, sym, _∙_}
-use mathlib.Core.Bool.{true}
-use Prim.Native.Nat.{ℕ, _≤_, _<_}
-use native.Mathlib.Omega.{arith}
+use Rattle.laws.specs.Basics.{_≡_, sym, _∙_, true, ℕ, _≤_, _<_, arith}
 use Rattle.histories.specs.History.{stored, sent}
-use Rattle.histories.proofs.Places.{Stands}
-use Rattle.histories.proofs.Times.{times, one-place}
-use Rattle.histories.proofs.Run.{Ideal}
-use Rattle.histories.proofs.Invariant.{Inv, Proper}
-use Rattle.histories.proofs.Line.{interval}
+use Rattle.histories.proofs.{Places.Stands, Times.times, Times.one-place, Run.Ideal, Invariant.Inv, Invariant.Proper, Line.interval}
 
 -- A send is no checkpoint.
 sent-not-stored : (m : ℕ) → sent m ≡ stored → ⊥

@@ -1,23 +1,11 @@
 -- Which messages outlive a recovery, by the lists: those that were under way and whose send still stands in the list of its sender.
 -- Assumes nothing.
-use mathlib.Core.Path.{_≡_, refl}
-use mathlib.Core.Bool.{Bool, true, false, _&&_, _||_, false≢true}
-use mathlib.Core.Logic.{inl, inr}
-use mathlib.Core.List.{List, [], _∷_}
-use Prim.Native.Nat.{ℕ, _≤_, _<_}
-use native.Mathlib.Omega.{arith}
-use lib.Dec.{eqb, leb}
-use borrow.Author.Tests.{eqb-true, eq-eqb, leb-true, leb-false}
-use Rattle.laws.specs.Choice.{by-bool}
-use Rattle.laws.specs.Search.{anyBelow, any-in, any-out}
-use Rattle.laws.specs.Truth.{or-left, or-in-right}
+use Rattle.laws.specs.Basics.{_≡_, refl, Bool, true, false, _&&_, _||_, false≢true, List, [], _∷_, inl, inr, ℕ, _≤_, _<_, arith, eqb, leb, eq-eqb, eqb-true, leb-true, leb-false, by-bool}
+use Rattle.laws.specs.{Search.anyBelow, Search.any-in, Search.any-out, Truth.or-left, Truth.or-in-right}
 use Rattle.histories.specs.History.{HistoryEvent, stored, sent, received, isSent, stillSent}
-use Rattle.histories.proofs.Places.{Stands, first, stands-cons, stands-nil}
-use Rattle.histories.proofs.Cuts.{past-stored, past-sent, past-received}
-use Rattle.histories.proofs.Run.{Ideal, Failed, line, outlives, recovered}
-use Rattle.histories.proofs.Invariant.{Inv}
+use Rattle.histories.proofs.{Places.Stands, Places.first, Places.stands-cons, Places.stands-nil, Cuts.past-stored, Cuts.past-sent, Cuts.past-received}
+use Rattle.histories.proofs.{Run.Ideal, Run.Failed, Run.line, Run.outlives, Run.recovered, Invariant.Inv, RecoveredStates.before, RecoveredStates.after}
 use Rattle.histories.proofs.Messages.{sentIn, sentIn-stands, underway-proper, underway-sent, sent-once}
-use Rattle.histories.proofs.RecoveredStates.{before, after}
 
 -- A send is no other event; two sends are of one message.
 sent-stored : (m : ℕ) → sent m ≡ stored → ⊥

@@ -1,11 +1,8 @@
 -- The part of a list before a checkpoint, by intervals: what stands in it stands in the list with at most that many checkpoints before it.
 -- Assumes nothing.
-use mathlib.Core.Path.{_≡_, refl, ap}
-use mathlib.Core.Logic.{inl, inr}
-use mathlib.Core.List.{List, [], _∷_, List·Memᴰ, List·Memᴰ·head, List·Memᴰ·tail, List·Memᴰ·cases-cons, List·Memᴰ·not-nil}
-use Prim.Native.Nat.{ℕ, zero, suc, _≤_, _<_}
+use Rattle.laws.specs.Basics.{_≡_, refl, ap, List, [], _∷_, inl, inr, ℕ, zero, suc, _≤_, _<_, arith}
+use mathlib.Core.List.{List·Memᴰ, List·Memᴰ·head, List·Memᴰ·tail, List·Memᴰ·cases-cons, List·Memᴰ·not-nil}
 use native.Mathlib.Nat.{not-suc-le-zero}
-use native.Mathlib.Omega.{arith}
 use Rattle.histories.specs.History.{HistoryEvent, stored, sent, received, checkpoints, beforeCheckpoint}
 use Rattle.histories.proofs.Places.{Stands, first, weight, stands-cons, stands-nil}
 use Rattle.histories.proofs.Cuts.{past-stored, past-sent, past-received}

@@ -1,10 +1,6 @@
 -- Places in one list of the surviving history. The interval of an event is the number of checkpoints that stand before it in its list;
 -- with it "before" and "after" a state are comparisons of numbers.
-use mathlib.Core.Path.{_≡_, refl, sym, _∙_}
-use mathlib.Core.Logic.{_⊎_, inl, inr}
-use mathlib.Core.List.{List, [], _∷_, _++_}
-use Prim.Native.Nat.{ℕ, suc, _+_, _≤_}
-use native.Mathlib.Omega.{arith}
+use Rattle.laws.specs.Basics.{_≡_, refl, sym, _∙_, List, [], _∷_, _++_, _⊎_, inl, inr, ℕ, suc, _+_, _≤_, arith}
 use Rattle.histories.specs.History.{HistoryEvent, stored, sent, received, checkpoints}
 
 -- The number of checkpoints that one event is: 1 for a checkpoint, else 0.

@@ -1,18 +1,8 @@
 -- A recovery keeps the invariant: here the pins, and then all clauses together.
-use mathlib.Core.Path.{_≡_, sym, _∙_, ap}
-use mathlib.Core.Bool.{Bool, true, false}
-use mathlib.Core.Option.{Option, none, some}
-use Prim.Native.Nat.{ℕ, suc, _≤_, _<_}
-use native.Mathlib.Omega.{arith}
-use lib.Dec.{leb, ltb}
-use borrow.Author.Tests.{leb-true, leb-false, lt-ltb, le-ltb}
-use Rattle.laws.specs.Choice.{by-eq, by-bool}
-use Rattle.laws.specs.Search.{latest-is}
-use Rattle.laws.specs.Truth.{and-both, and-no-right}
-use Rattle.histories.proofs.Run.{Ideal, Failed, keeps, line, rolled, recovered}
-use Rattle.histories.proofs.Rule.{keeps-in, keeps-out, same-some}
-use Rattle.histories.proofs.Invariant.{Inv, Pinned}
-use Rattle.histories.proofs.Line.{rising, line-back}
+use Rattle.laws.specs.Basics.{_≡_, sym, _∙_, ap, Bool, true, false, Option, none, some, ℕ, suc, _≤_, _<_, arith, ltb, leb, lt-ltb, le-ltb, leb-true, leb-false, by-bool, by-eq}
+use Rattle.laws.specs.{Search.latest-is, Truth.and-both, Truth.and-no-right}
+use Rattle.histories.proofs.{Run.Ideal, Run.Failed, Run.keeps, Run.line, Run.rolled, Run.recovered, Rule.keeps-in, Rule.keeps-out, Rule.same-some}
+use Rattle.histories.proofs.{Invariant.Inv, Invariant.Pinned, Line.rising, Line.line-back}
 use Rattle.histories.proofs.RecoveredViews.{recovered-n, recovered-pin-none, recovered-pin-stays, recovered-pin-back}
 use Rattle.histories.proofs.RecoveredStates.{within, own-back, own-stays, own-ge, old, knows, live-other, underway′, pending′, counted′, positive′, self′, blank′, rises′, present′, knows′, proper′, carries′, arrived′, single′, takes′, marked′, known′, source′, learnt′}
 

@@ -1,19 +1,11 @@
 -- The states and the messages after a recovery: what a surviving state knows of another process is at most that one's member,
 -- so all that it cites survives.
-use mathlib.Core.Path.{_≡_, sym, _∙_, ap}
-use mathlib.Core.Logic.{_⊎_, inl, inr}
-use mathlib.Core.Bool.{Bool, true, false}
-use Prim.Native.Nat.{ℕ, suc, _≤_, _<_}
-use native.Mathlib.Omega.{arith}
-use Rattle.laws.specs.Choice.{by-eq, by-bool}
+use Rattle.laws.specs.Basics.{_≡_, sym, _∙_, ap, Bool, true, false, _⊎_, inl, inr, ℕ, suc, _≤_, _<_, arith, by-bool, by-eq}
 use Rattle.histories.specs.History.{HistoryEvent, stored, sent, received, checkpoints}
-use Rattle.histories.proofs.Places.{Stands}
-use Rattle.histories.proofs.Times.{times, times-upTo}
-use Rattle.histories.proofs.Cuts.{upTo-out, upTo-in, checkpoints-upTo}
-use Rattle.histories.proofs.Run.{Ideal, Failed, line, rolled, recovered}
+use Rattle.histories.proofs.{Places.Stands, Times.times, Times.times-upTo, Cuts.upTo-out, Cuts.upTo-in, Cuts.checkpoints-upTo}
+use Rattle.histories.proofs.{Run.Ideal, Run.Failed, Run.line, Run.rolled, Run.recovered, Messages.sentIn, Messages.sentIn-stands, Messages.underway-sent}
 use Rattle.histories.proofs.Invariant.{Inv, Proper, SentOf, Informed}
 use Rattle.histories.proofs.Line.{rising, interval, line-back, line-live, line-le, line-knows, line-sent}
-use Rattle.histories.proofs.Messages.{sentIn, sentIn-stands, underway-sent}
 use Rattle.histories.proofs.RecoveredViews.{recovered-own-back, recovered-own-stays, recovered-live-own, recovered-live, recovered-vector, recovered-mark-stays, recovered-transit, recovered-events-back, recovered-events-stays}
 
 module _ (r : Ideal) (v : Inv r) (F : Failed) where

@@ -1,15 +1,6 @@
 -- How a recovery changes the run: one lemma for each view.
-use mathlib.Core.Path.{_≡_, refl}
-use mathlib.Core.Bool.{true, false, _&&_}
-use mathlib.Core.Option.{none}
-use Prim.Native.Nat.{ℕ, suc, _≤_}
-use native.Mathlib.Omega.{arith}
-use lib.Dec.{ltb}
-use borrow.Author.Tests.{eq-eqb, ne-eqb, leb-true}
-use Rattle.laws.specs.Choice.{by-bool}
-use Rattle.laws.specs.Search.{latest}
-use Rattle.laws.specs.Truth.{and-left, and-right}
-use Rattle.laws.specs.Update.{upds}
+use Rattle.laws.specs.Basics.{_≡_, refl, true, false, _&&_, none, ℕ, suc, _≤_, arith, ltb, eq-eqb, ne-eqb, leb-true, by-bool}
+use Rattle.laws.specs.{Search.latest, Truth.and-left, Truth.and-right, Update.upds}
 use Rattle.histories.specs.History.{upTo}
 use Rattle.histories.proofs.Run.{Ideal, Failed, keeps, line, rolled, ownAfter, vectorAfter, pinAfter, outlives, recovered}
 

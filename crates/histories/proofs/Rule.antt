@@ -1,13 +1,5 @@
 -- What the tests of the run say: a state passes the rule of the line, a process rolls back, a checkpoint is kept.
-use mathlib.Core.Path.{_≡_, refl, ap}
-use mathlib.Core.Bool.{true, false, _||_}
-use mathlib.Core.Logic.{_⊎_, inl, inr}
-use mathlib.Core.Option.{Option, none, some}
-use Prim.Native.Nat.{ℕ, suc, _≤_, _<_}
-use native.Mathlib.Omega.{arith}
-use lib.Dec.{eqb}
-use borrow.Author.Tests.{lt-ltb, ltb-true, ltb-false, eq-eqb, eqb-true, not-true, not-false}
-use Rattle.laws.specs.Choice.{by-bool}
+use Rattle.laws.specs.Basics.{_≡_, refl, ap, true, false, _||_, Option, none, some, _⊎_, inl, inr, ℕ, suc, _≤_, _<_, arith, eqb, eq-eqb, eqb-true, lt-ltb, ltb-true, ltb-false, not-true, not-false, by-bool}
 use Rattle.laws.specs.Search.{any-out, any-in, all-out, all-in, all-fails, latest-is}
 use Rattle.laws.specs.Truth.{never-both, and-both, and-no-right, or-left, or-right, or-in-right}
 use Rattle.histories.proofs.Run.{Ideal, Failed, safe, names, keeps, member, rolled}

@@ -1,16 +1,8 @@
 -- The run as functions of process, state, message and so on: what the proofs about the whole run speak of. Beside what the state of the run holds it keeps
 -- the vectors of all checkpoints of the surviving history, deleted or not, what each message carried, and the surviving history itself.
 -- Each step is a total function; a proof uses it for accepted calls alone.
-use mathlib.Core.Bool.{Bool, true, false, _&&_, _||_, not}
-use mathlib.Core.List.{List, [], _∷_, _++_}
-use mathlib.Core.Option.{Option, none, some}
-use Prim.Native.Nat.{ℕ, suc, _+_, max}
-use lib.Dec.{eqb, ltb, leb}
-use lib.ListN.{getD}
-use Rattle.laws.specs.Choice.{pick}
-use Rattle.laws.specs.Search.{anyBelow, allBelow, latest}
-use Rattle.laws.specs.Sums.{sumBelow}
-use Rattle.laws.specs.Update.{upd}
+use Rattle.laws.specs.Basics.{Bool, true, false, not, _&&_, _||_, List, [], _∷_, _++_, Option, none, some, ℕ, suc, _+_, max, eqb, ltb, leb, getD, pick}
+use Rattle.laws.specs.{Search.anyBelow, Search.allBelow, Search.latest, Sums.sumBelow, Update.upd}
 use Rattle.histories.specs.History.{HistoryEvent, stored, sent, received, upTo}
 
 -- What Note 5 of document 02 adds to a run: the cause of each checkpoint, each process's block count, the blocks written. And why the next checkpoint

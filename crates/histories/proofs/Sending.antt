@@ -1,17 +1,9 @@
 -- A send keeps the invariant: the new message carries the vector of the live state, and the sent mark is set.
-use mathlib.Core.Path.{_≡_, refl, sym, _∙_, ap}
-use mathlib.Core.Logic.{_⊎_, inl, inr}
-use mathlib.Core.Bool.{true}
-use mathlib.Core.List.{[], _∷_, _++_}
-use mathlib.Core.Option.{some}
-use Prim.Native.Nat.{ℕ, suc, _≤_, _<_}
-use native.Mathlib.Omega.{arith}
-use Rattle.laws.specs.Choice.{by-eq}
+use Rattle.laws.specs.Basics.{_≡_, refl, sym, _∙_, ap, true, [], _∷_, _++_, some, _⊎_, inl, inr, ℕ, suc, _≤_, _<_, arith, by-eq}
 use Rattle.laws.specs.Update.{upds}
 use Rattle.histories.specs.History.{HistoryEvent, stored, sent, received, checkpoints}
 use Rattle.histories.proofs.Places.{Stands, stands-still, stands-end, sent-or-before, received-before-sent, checkpoints-sent}
-use Rattle.histories.proofs.Times.{times, single-end}
-use Rattle.histories.proofs.Run.{Ideal, sending, keeps}
+use Rattle.histories.proofs.{Times.times, Times.single-end, Run.Ideal, Run.sending, Run.keeps}
 use Rattle.histories.proofs.Invariant.{Inv, Proper, SentOf, Informed, Pinned}
 
 module _ (r : Ideal) (i j : ℕ) where

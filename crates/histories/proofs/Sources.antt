@@ -1,20 +1,14 @@
 -- Where the knowledge that a message carries came from, by place: a message received before that send, which carried as much. Each step keeps this.
 -- Assumes nothing.
-use mathlib.Core.Path.{_≡_}
-use mathlib.Core.Logic.{inl, inr}
-use mathlib.Core.List.{List, [], _∷_, _++_, List·Memᴰ, List·Memᴰ·cases-cons, List·Memᴰ·not-nil}
-use Prim.Native.Nat.{ℕ, suc, _≤_, _<_}
-use native.Mathlib.Omega.{arith}
-use Rattle.laws.specs.Choice.{by-bool, by-eq}
+use Rattle.laws.specs.Basics.{_≡_, List, [], _∷_, _++_, inl, inr, ℕ, suc, _≤_, _<_, arith, by-bool, by-eq}
+use mathlib.Core.List.{List·Memᴰ, List·Memᴰ·cases-cons, List·Memᴰ·not-nil}
 use Rattle.histories.specs.History.{HistoryEvent, stored, sent, received, upTo, before}
 use Rattle.histories.proofs.Run.{Ideal, Failed, begin, checkpointed, sending, forces, takenIn, delivered, lost, line, rolled, recovered}
-use Rattle.histories.proofs.Invariant.{Inv}
-use Rattle.histories.proofs.Cuts.{stands-member, member-stands, upTo-out}
+use Rattle.histories.proofs.{Invariant.Inv, Cuts.stands-member, Cuts.member-stands, Cuts.upTo-out, Delivered.delivered-forced, Delivered.delivered-plain}
 use Rattle.histories.proofs.Before.{same-sent, sent-stored, sent-received, before-end, before-new, before-upTo, member-end}
 use Rattle.histories.proofs.Sending.{sending-n, sending-carried, sending-carried-other, sending-events, sending-events-other}
 use Rattle.histories.proofs.CheckpointedViews.{checkpointed-n, checkpointed-carried, checkpointed-events, checkpointed-events-other}
 use Rattle.histories.proofs.TakenInViews.{takenIn-n, takenIn-carried, takenIn-events, takenIn-events-other}
-use Rattle.histories.proofs.Delivered.{delivered-forced, delivered-plain}
 use Rattle.histories.proofs.RecoveredViews.{recovered-n, recovered-carried, recovered-events-back, recovered-events-stays}
 
 abbrev pub Sources : Ideal → Type 0

@@ -1,26 +1,14 @@
 -- Which pins name a checkpoint: those of whoever knew the current interval when the run last started or recovered, and those of entries that have risen
 -- since. Each step keeps this.
 -- Assumes nothing.
-use mathlib.Core.Path.{_≡_, refl, sym, _∙_}
-use mathlib.Core.Logic.{_⊎_, inl, inr}
-use mathlib.Core.Option.{Option, none, some}
-use Prim.Native.Nat.{ℕ, _≤_, _<_}
-use native.Mathlib.Omega.{arith}
-use lib.Dec.{ltb}
-use borrow.Author.Tests.{ltb-true, ltb-false}
-use Rattle.laws.specs.Choice.{by-bool, by-eq}
+use Rattle.laws.specs.Basics.{_≡_, refl, sym, _∙_, Option, none, some, _⊎_, inl, inr, ℕ, _≤_, _<_, arith, ltb, ltb-true, ltb-false, by-bool, by-eq}
 use Rattle.histories.proofs.Run.{Ideal, Failed, begin, checkpointed, sending, forces, takenIn, delivered, lost, recovered}
-use Rattle.histories.proofs.Invariant.{Inv}
-use Rattle.histories.proofs.Line.{own-pin}
-use Rattle.histories.proofs.Begin.{begin-inv, begin-own, begin-self, begin-pin-other}
+use Rattle.histories.proofs.{Invariant.Inv, Line.own-pin, Begin.begin-inv, Begin.begin-own, Begin.begin-self, Begin.begin-pin-other}
 use Rattle.histories.proofs.CheckpointedViews.{checkpointed-n, checkpointed-row-own, checkpointed-row-other, checkpointed-row, checkpointed-pin, checkpointed-pin-row, checkpointed-pin-column, checkpointed-receiver}
-use Rattle.histories.proofs.Checkpointed.{checkpointed-inv}
-use Rattle.histories.proofs.Sending.{sending-n, sending-own, sending-vector, sending-pin}
-use Rattle.histories.proofs.Lost.{lost-n, lost-own, lost-vector, lost-pin}
+use Rattle.histories.proofs.{Checkpointed.checkpointed-inv, Sending.sending-n, Sending.sending-own, Sending.sending-vector, Sending.sending-pin}
+use Rattle.histories.proofs.{Lost.lost-n, Lost.lost-own, Lost.lost-vector, Lost.lost-pin, Delivered.delivered-forced, Delivered.delivered-plain}
 use Rattle.histories.proofs.TakenInViews.{takenIn-n, takenIn-row, takenIn-row-other, takenIn-pin-risen, takenIn-pin-same, takenIn-pin-other}
-use Rattle.histories.proofs.Delivered.{delivered-forced, delivered-plain}
-use Rattle.histories.proofs.Recovered.{recovered-inv}
-use Rattle.histories.proofs.RecoveredViews.{recovered-pin-none}
+use Rattle.histories.proofs.{Recovered.recovered-inv, RecoveredViews.recovered-pin-none}
 
 -- Entry f of the live state of p.
 abbrev pub row : Ideal → ℕ → ℕ → ℕ

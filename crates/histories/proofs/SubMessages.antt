@@ -1,18 +1,9 @@
 -- The messages of a run and of a sub-run of it: the sub-run has sent those alone that carry at most g of process f. What is under way in it are these messages,
 -- under numbers of its own.
-use mathlib.Core.Path.{_≡_, refl, sym, _∙_, ap}
-use mathlib.Core.Bool.{Bool, true, false, _&&_}
-use Prim.Native.Nat.{ℕ, suc, _≤_, _<_}
-use native.Mathlib.Omega.{arith}
-use lib.Dec.{leb}
-use borrow.Author.Tests.{le-leb, lt-leb}
-use Rattle.laws.specs.Choice.{by-bool, by-eq}
-use Rattle.laws.specs.Counting.{count-same, count-off}
-use Rattle.laws.specs.Tests.{countBelow}
-use Rattle.laws.specs.Truth.{never-both, and-both}
+use Rattle.laws.specs.Basics.{_≡_, refl, sym, _∙_, ap, Bool, true, false, _&&_, ℕ, suc, _≤_, _<_, arith, leb, le-leb, lt-leb, by-bool, by-eq}
+use Rattle.laws.specs.{Counting.count-same, Counting.count-off, Tests.countBelow, Truth.never-both, Truth.and-both}
 use Rattle.laws.specs.Update.{upd, upd-same, upd-other, upd-same₁, upd-other₁}
-use Rattle.histories.proofs.Run.{Ideal, checkpointed, sending, forces, takenIn, takenBy, delivered, lost}
-use Rattle.histories.proofs.Invariant.{Inv}
+use Rattle.histories.proofs.{Run.Ideal, Run.checkpointed, Run.sending, Run.forces, Run.takenIn, Run.takenBy, Run.delivered, Run.lost, Invariant.Inv}
 use Rattle.histories.proofs.Messages.{underway-proper}
 
 -- Message m is no longer under way; nothing else changed about messages.

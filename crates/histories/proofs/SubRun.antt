@@ -1,22 +1,12 @@
 -- A sub-run: a run without checkpoint g of process f and all that comes causally after it. A call at process b is in it exactly if b knows at most interval g of f after the
 -- call, and then it does there what it does in the run: a process is whole in the sub-run as long as it knows at most g of f; f itself ends in interval g.
-use mathlib.Core.Path.{_≡_, refl, sym, _∙_, ap, subst}
-use mathlib.Core.Bool.{true}
-use mathlib.Core.List.{List}
-use Prim.Native.Nat.{ℕ, suc, _≤_, _<_}
-use native.Mathlib.Omega.{arith}
-use lib.Dec.{leb}
-use borrow.Author.Tests.{leb-true, leb-false}
-use Rattle.laws.specs.Choice.{by-bool, by-eq}
+use Rattle.laws.specs.Basics.{_≡_, refl, sym, _∙_, ap, subst, true, List, ℕ, suc, _≤_, _<_, arith, leb, leb-true, leb-false, by-bool, by-eq}
 use Rattle.histories.proofs.Run.{Ideal, because, begin, begun, newer, checkpointed, sending, forces, delivered}
-use Rattle.histories.proofs.Invariant.{Inv}
-use Rattle.histories.proofs.Messages.{underway-own}
-use Rattle.histories.proofs.Delivered.{delivered-inv}
+use Rattle.histories.proofs.{Invariant.Inv, Messages.underway-own, Delivered.delivered-inv, Sending.sending-n, Sending.sending-own}
 use Rattle.histories.proofs.Local.{Local, localOf, gotAt, forcesAt, local-took-other, local-sent-other, local-got, local-got-other, forces-local}
 use Rattle.histories.proofs.SubMessages.{SubMessages, Without, MessagesStay, messages-begin}
 use Rattle.histories.proofs.CheckpointedViews.{checkpointed-n, checkpointed-own, checkpointed-row-own, checkpointed-row-other, checkpointed-row}
 use Rattle.histories.proofs.DeliveredViews.{delivered-n, delivered-own-forced, delivered-own-plain, delivered-own-le, delivered-row, delivered-row-other}
-use Rattle.histories.proofs.Sending.{sending-n, sending-own}
 
 -- What p knows of f.
 abbrev pub knownOf : Ideal → ℕ → ℕ → ℕ

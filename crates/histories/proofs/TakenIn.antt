@@ -1,19 +1,9 @@
 -- Taking in a message keeps the invariant, where the receiver's sent mark is clear or nothing that is carried is newer.
-use mathlib.Core.Path.{_≡_, refl, sym, _∙_, ap}
-use mathlib.Core.Logic.{_⊎_, inl, inr}
-use mathlib.Core.Bool.{true}
-use Prim.Native.Nat.{ℕ, suc, _≤_, _<_, max}
-use native.Mathlib.Omega.{arith}
-use lib.Dec.{leb}
-use borrow.Author.Tests.{leb-true, leb-false}
-use Rattle.laws.specs.Choice.{by-bool, by-eq}
+use Rattle.laws.specs.Basics.{_≡_, refl, sym, _∙_, ap, true, _⊎_, inl, inr, ℕ, suc, _≤_, _<_, max, arith, leb, leb-true, leb-false, by-bool, by-eq}
 use Rattle.laws.specs.Truth.{never-both}
 use Rattle.histories.specs.History.{HistoryEvent, stored, sent, received, checkpoints}
-use Rattle.histories.proofs.Places.{Stands}
-use Rattle.histories.proofs.Times.{times, single-end}
-use Rattle.histories.proofs.Run.{Ideal, takenBy, takenIn}
+use Rattle.histories.proofs.{Places.Stands, Times.times, Times.single-end, Run.Ideal, Run.takenBy, Run.takenIn, TakenInPins.pinned′, TakenInPins.pins′}
 use Rattle.histories.proofs.Invariant.{Inv, Proper, SentOf, Informed}
-use Rattle.histories.proofs.TakenInPins.{pinned′, pins′}
 use Rattle.histories.proofs.Messages.{sentIn, sentIn-stands, sentIn-le, underway-proper, underway-carries, underway-present}
 use Rattle.histories.proofs.TakenInViews.{takenIn-live, takenIn-vector, takenIn-transit, takenIn-transit-other, takenIn-events, takenIn-events-other, takenIn-state, takenIn-still, takenIn-sent, takenIn-received, takenIn-checkpoints, takenIn-new}
 

@@ -1,17 +1,6 @@
 -- The pins after a message is taken in: what each of them names is still the checkpoint right before its process learnt all that it knows.
-use mathlib.Core.Path.{_≡_, sym, _∙_, ap}
-use mathlib.Core.Logic.{inl, inr}
-use mathlib.Core.Bool.{true}
-use mathlib.Core.Option.{some}
-use Prim.Native.Nat.{ℕ, suc, _≤_, _<_, max}
-use native.Mathlib.Omega.{arith}
-use lib.Dec.{leb}
-use borrow.Author.Tests.{leb-true, leb-false}
-use Rattle.laws.specs.Choice.{by-bool, by-eq}
-use Rattle.histories.proofs.Run.{Ideal, takenBy, takenIn}
-use Rattle.histories.proofs.Invariant.{Inv, Pinned}
-use Rattle.histories.proofs.Line.{rising, own-pin}
-use Rattle.histories.proofs.Messages.{underway-proper}
+use Rattle.laws.specs.Basics.{_≡_, sym, _∙_, ap, true, some, inl, inr, ℕ, suc, _≤_, _<_, max, arith, leb, leb-true, leb-false, by-bool, by-eq}
+use Rattle.histories.proofs.{Run.Ideal, Run.takenBy, Run.takenIn, Invariant.Inv, Invariant.Pinned, Line.rising, Line.own-pin, Messages.underway-proper}
 use Rattle.histories.proofs.TakenInViews.{takenIn-live, takenIn-vector, takenIn-pin-risen, takenIn-pin-same, takenIn-pin-other, takenIn-state}
 
 module _ (r : Ideal) (v : Inv r) (m : ℕ) (under : r .transit m ≡ true) where

@@ -1,19 +1,9 @@
 -- How taking in a message changes the run: one lemma for each view, and what it does to kept checkpoints and to the lists.
-use mathlib.Core.Path.{_≡_, refl, sym, _∙_}
-use mathlib.Core.Logic.{_⊎_, inl, inr}
-use mathlib.Core.Bool.{true, false}
-use mathlib.Core.List.{[], _∷_, _++_}
-use mathlib.Core.Option.{some}
-use Prim.Native.Nat.{ℕ, _≤_, _<_, max}
-use native.Mathlib.Omega.{arith}
-use lib.Dec.{leb}
-use borrow.Author.Tests.{lt-ltb, le-ltb, leb-true, leb-false}
-use Rattle.laws.specs.Choice.{by-bool, by-eq}
+use Rattle.laws.specs.Basics.{_≡_, refl, sym, _∙_, true, false, [], _∷_, _++_, some, _⊎_, inl, inr, ℕ, _≤_, _<_, max, arith, leb, lt-ltb, le-ltb, leb-true, leb-false, by-bool, by-eq}
 use Rattle.laws.specs.Update.{upds}
 use Rattle.histories.specs.History.{HistoryEvent, sent, received, checkpoints}
 use Rattle.histories.proofs.Places.{Stands, stands-still, stands-end, sent-before-received, received-or-before, checkpoints-received}
-use Rattle.histories.proofs.Run.{Ideal, takenBy, takenIn, keeps}
-use Rattle.histories.proofs.Rule.{keeps-in, keeps-out}
+use Rattle.histories.proofs.{Run.Ideal, Run.takenBy, Run.takenIn, Run.keeps, Rule.keeps-in, Rule.keeps-out}
 
 module _ (r : Ideal) (m : ℕ) where
   -- The receiver.

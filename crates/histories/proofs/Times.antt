@@ -1,13 +1,5 @@
 -- How often an event stands in a list, and that it stands there once.
-use mathlib.Core.Path.{_≡_, refl, sym, _∙_, ap}
-use mathlib.Core.Logic.{inl, inr}
-use mathlib.Core.Bool.{Bool, true, false}
-use mathlib.Core.List.{List, [], _∷_, _++_}
-use Prim.Native.Nat.{ℕ, zero, suc, _+_, _≤_}
-use native.Mathlib.Omega.{arith}
-use lib.Dec.{eqb}
-use borrow.Author.Tests.{eq-eqb, eqb-true}
-use Rattle.laws.specs.Choice.{pick, by-bool}
+use Rattle.laws.specs.Basics.{_≡_, refl, sym, _∙_, ap, Bool, true, false, List, [], _∷_, _++_, inl, inr, ℕ, zero, suc, _+_, _≤_, arith, eqb, eq-eqb, eqb-true, pick, by-bool}
 use Rattle.laws.specs.Truth.{never-both}
 use Rattle.histories.specs.History.{HistoryEvent, stored, sent, received, upTo}
 use Rattle.histories.proofs.Places.{Stands, first, later, weight, stands-cons, stands-nil}

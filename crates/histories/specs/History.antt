@@ -1,11 +1,7 @@
 -- Document 01, "The surviving history": the lists, and the places in them. How calls and answers build the lists is in Survival.
 -- Assumes nothing.
-use mathlib.Core.Path.{_≡_}
-use mathlib.Core.Bool.{Bool, false, _||_}
-use mathlib.Core.List.{List, [], _∷_, List·Memᴰ}
-use Prim.Native.Nat.{ℕ, zero, suc, _<_}
-use lib.Dec.{eqb}
-use Rattle.laws.specs.Choice.{pick}
+use Rattle.laws.specs.Basics.{_≡_, Bool, false, _||_, List, [], _∷_, ℕ, zero, suc, _<_, eqb, pick}
+use mathlib.Core.List.{List·Memᴰ}
 use Rattle.laws.specs.Search.{anyBelow}
 
 -- What a process's list holds: checkpoints, "sent m" and "received m". A checkpoint's number is its place among the checkpoints

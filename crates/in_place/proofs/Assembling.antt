@@ -1,11 +1,7 @@
 -- A state of which every clause of document 01's "A sound state" holds is sound.
 -- Assumes nothing.
-use mathlib.Core.Path.{_≡_}
-use mathlib.Core.Bool.{true, _&&_}
-use Prim.Native.Nat.{ℕ, _<_}
-use borrow.Author.Tests.{le-leb, eq-eqb}
-use Rattle.laws.specs.Search.{allBelow, all-in}
-use Rattle.laws.specs.Truth.{and-both}
+use Rattle.laws.specs.Basics.{_≡_, true, _&&_, ℕ, _<_, eq-eqb, le-leb}
+use Rattle.laws.specs.{Search.allBelow, Search.all-in, Truth.and-both}
 use Rattle.model.specs.declared.Run.{Run}
 use Rattle.model.specs.Sound.{countSound, ownSound, within, vectorsSound, keptSound, pinsSound, messagesSound, rowUnused, unusedSound, keptBlocks, diskSound, sound}
 use Rattle.model.specs.laws.Sound.{SoundProcess, SoundState}

@@ -1,14 +1,10 @@
 -- What lists of calls in place leave: the words stand for the state after the calls, and unused places stay zero from a start on.
 -- Assumes nothing.
-use mathlib.Core.Path.{_≡_, _∙_, ap}
-use mathlib.Core.List.{List, [], _∷_}
-use Prim.Native.Nat.{ℕ}
+use Rattle.laws.specs.Basics.{_≡_, _∙_, ap, List, [], _∷_, ℕ}
 use Rattle.model.specs.declared.Run.{Run}
 use Rattle.whole_runs.specs.Calls.{Call, stateAfter}
-use Rattle.words.specs.Clean.{Clean}
-use Rattle.words.specs.Layout.{runOf}
-use Rattle.in_place.specs.Called.{CalledAll, CleanWholeRuns}
-use Rattle.in_place.specs.Starting.{startOutcomeIn, startWords}
+use Rattle.words.specs.{Clean.Clean, Layout.runOf}
+use Rattle.in_place.specs.{Called.CalledAll, Called.CleanWholeRuns, Starting.startOutcomeIn, Starting.startWords}
 use Rattle.in_place.proofs.Starting.{start-run, start-clean}
 
 pub run-after : (w : List ℕ) (calls : List Call) (v : List ℕ) → CalledAll w calls v → runOf v ≡ stateAfter (runOf w) calls

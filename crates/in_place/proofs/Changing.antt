@@ -1,34 +1,15 @@
 -- A sound state stays sound where other messages are under way, and where the part of one process and the blocks written and deleted are others, by what holds of these.
 -- Assumes nothing.
-use mathlib.Core.Path.{_≡_, refl, sym, _∙_, ap, subst}
-use mathlib.Core.Bool.{Bool, true, false}
-use mathlib.Core.List.{List, [], map}
-use Prim.Native.Nat.{ℕ, _+_, _≤_, _<_}
-use native.Mathlib.Omega.{arith}
-use lib.Dec.{eqb, leb}
-use lib.ListN.{length, getD, drop}
-use lib.Seq.{getD-set-same, getD-set-other, drop-set-lt}
-use borrow.Author.Tests.{leb-true, le-leb, eq-eqb, ne-eqb}
-use Rattle.laws.specs.Choice.{pick, by-eq}
-use Rattle.laws.specs.Elements.{every-from}
-use Rattle.laws.specs.Lists.{select, placed}
-use Rattle.laws.specs.Prefixes.{placed-length, every-select}
-use Rattle.laws.specs.Search.{all-in, all-out}
-use Rattle.laws.specs.Select.{select-length}
-use Rattle.laws.specs.Sums.{sumBelow, sum-both, sum-only}
-use Rattle.laws.specs.Tables.{take-placed}
-use Rattle.laws.specs.Tests.{every}
-use Rattle.model.specs.declared.Interval.{Interval}
-use Rattle.model.specs.declared.Message.{Message}
-use Rattle.model.specs.declared.Disk.{Disk}
-use Rattle.model.specs.declared.Run.{Run}
+use Rattle.laws.specs.Basics.{_≡_, refl, sym, _∙_, ap, subst, Bool, true, false, List, [], map, ℕ, _+_, _≤_, _<_, arith, eqb, leb, length, getD, drop, getD-set-same, getD-set-other, eq-eqb, ne-eqb, le-leb, leb-true, pick, by-eq}
+use lib.Seq.{drop-set-lt}
+use Rattle.laws.specs.{Elements.every-from, Lists.select, Lists.placed, Prefixes.placed-length, Prefixes.every-select, Search.all-in, Search.all-out}
+use Rattle.laws.specs.{Select.select-length, Sums.sumBelow, Sums.sum-both, Sums.sum-only, Tables.take-placed, Tests.every}
+use Rattle.model.specs.declared.{Interval.Interval, Message.Message, Disk.Disk, Run.Run}
 use Rattle.model.specs.Words.{mostProcesses, mostUnderWay, mostMessages, mostBlocks, entry, Process, blocksOf, zeroVector, noCheckpoint, noMessage, process, withProcess, own, underWay, withMessages, withDisk}
-use Rattle.model.specs.Steps.{advanced}
+use Rattle.model.specs.{Steps.advanced, laws.Sound.SoundProcess, laws.Sound.SoundState, laws.Sound.sound-state}
 use Rattle.model.specs.Sound.{within, ascending, messageSound, zeroFrom, unusedCheckpoint, unusedMessage, nothingFrom, keptBlocks, sound}
-use Rattle.model.specs.laws.Sound.{SoundProcess, SoundState, sound-state}
 use Rattle.words_process.specs.receipts.Sized.{Sized}
-use Rattle.words_process.proofs.receipts.Facts.{place}
-use Rattle.words_process.proofs.receipts.Filled.{row-many}
+use Rattle.words_process.proofs.{receipts.Facts.place, receipts.Filled.row-many}
 use Rattle.words.proofs.View.{placed-past}
 use Rattle.in_place.proofs.Keeping.{every-then, Fine, ascending-select}
 

@@ -1,40 +1,21 @@
 -- Which checkpoint is refused, test by test, and what an accepted one leaves.
 -- Assumes nothing.
-use mathlib.Core.Path.{_≡_, refl, sym, _∙_, ap}
-use mathlib.Core.Bool.{Bool, true, false, not}
-use mathlib.Core.List.{List}
-use mathlib.Core.Option.{none, some}
-use Prim.Native.Nat.{ℕ, _+_, _*_, _≤_, _<_}
-use native.Mathlib.Omega.{arith}
-use lib.Dec.{ltb, leb}
-use lib.ListN.{length}
-use lib.Seq.{sets}
-use borrow.Author.Tests.{le-leb, lt-leb, leb-false}
-use Rattle.laws.specs.Choice.{pick, by-bool}
-use Rattle.model.specs.declared.CheckpointIndex.{CheckpointIndex}
-use Rattle.model.specs.declared.CheckpointAnswer.{CheckpointAnswer}
+use Rattle.laws.specs.Basics.{_≡_, refl, sym, _∙_, ap, Bool, true, false, not, List, none, some, ℕ, _+_, _*_, _≤_, _<_, arith, ltb, leb, length, sets, le-leb, lt-leb, leb-false, pick, by-bool}
+use Rattle.model.specs.declared.{CheckpointIndex.CheckpointIndex, CheckpointAnswer.CheckpointAnswer, Refusal.Refusal, Run.Run, Interval.Interval}
 use Rattle.model.specs.declared.CheckpointAnswer.the-variants.{Stored, Refused}
-use Rattle.model.specs.declared.Refusal.{Refusal}
 use Rattle.model.specs.declared.Refusal.the-variants.{ListTooShort, NoSuchProcess, IntervalsUsed, BlocksUsed}
-use Rattle.model.specs.declared.Run.{Run}
-use Rattle.model.specs.declared.Interval.{Interval}
 use Rattle.model.specs.Words.{mostBlocks, basic, entry, liveIndex, live, Process, blockCount, blocksOf, process, withProcess, withDisk}
 use Rattle.model.specs.Steps.{settled, gone, deletions, billed, checkpointed, checkpointState, checkpointDeletions}
-use Rattle.model.specs.Sound.{sound}
-use Rattle.model.specs.Refusals.{firstOf, shortDeletions, checkpointRefusal, atLastInterval, pastBlocks}
+use Rattle.model.specs.{Sound.sound, Refusals.firstOf, Refusals.shortDeletions, Refusals.checkpointRefusal, Refusals.atLastInterval, Refusals.pastBlocks}
 use Rattle.whole_runs.specs.Outcomes.{pairs, checkpointOutcome}
-use Rattle.admissions.specs.declared.Admission.the-variants as admission
 use Rattle.admissions.specs.Admissions.{refusalOf, pastMost}
-use Rattle.words.specs.Layout.{word, wide4, countOf, blocksAt, partAt, intervalOf, runOf}
-use Rattle.words.specs.Parts.{processIn}
-use Rattle.words.proofs.View.{count-is, written-is, deleted-is}
-use Rattle.words.proofs.ViewSound.{sound-words, sound-process-is, sound-own-is}
+use Rattle.words.specs.{Layout.word, Layout.wide4, Layout.countOf, Layout.blocksAt, Layout.partAt, Layout.intervalOf, Layout.runOf, Parts.processIn}
+use Rattle.words.proofs.{View.count-is, View.written-is, View.deleted-is, ViewSound.sound-words, ViewSound.sound-process-is, ViewSound.sound-own-is}
 use Rattle.words_process.specs.Moves.{diskIn, Moves}
 use Rattle.words_process.proofs.Stepping.{block-count, own-entry}
-use Rattle.in_place.specs.Left.{Leaves}
-use Rattle.in_place.specs.Storing.{storingAdmission}
-use Rattle.in_place.proofs.Leaving.{same-words}
-use Rattle.in_place.proofs.Moving.{moved-run, moved-leaves}
+use Rattle.in_place.specs.{Left.Leaves, Storing.storingAdmission}
+use Rattle.in_place.proofs.{Leaving.same-words, Moving.moved-run, Moving.moved-leaves}
+use Rattle.admissions.specs.declared.Admission.the-variants as admission
 
 -- The blocks of the run.
 pub disk-is : (w : List ℕ) → sound (runOf w) ≡ true → runOf w .disk ≡ diskIn w

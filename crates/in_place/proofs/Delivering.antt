@@ -1,43 +1,24 @@
 -- A message that reaches its receiver: the receipt changes the receiver's part and the blocks, then the message is taken out of its place.
 -- Assumes nothing.
-use mathlib.Core.Path.{_≡_, sym, _∙_, ap}
-use mathlib.Core.Bool.{Bool, true, false, not}
-use mathlib.Core.List.{List}
-use mathlib.Core.Option.{none, some}
-use Prim.Native.Nat.{ℕ, suc, _*_, _≤_, _<_}
-use native.Mathlib.Omega.{arith}
-use lib.Dec.{eqb, ltb}
-use lib.ListN.{length}
-use Rattle.laws.specs.Choice.{pick, by-bool, by-eq}
-use Rattle.laws.specs.Lists.{select}
-use Rattle.laws.specs.Rows.{by-lt}
-use Rattle.model.specs.declared.Disk.{Disk}
-use Rattle.model.specs.declared.Message.{Message}
-use Rattle.model.specs.declared.Run.{Run}
+use Rattle.laws.specs.Basics.{_≡_, sym, _∙_, ap, Bool, true, false, not, List, none, some, ℕ, suc, _*_, _≤_, _<_, arith, eqb, ltb, length, pick, by-bool, by-eq}
+use Rattle.laws.specs.{Lists.select, Rows.by-lt}
+use Rattle.model.specs.declared.{Disk.Disk, Message.Message, Run.Run}
 use Rattle.model.specs.Words.{forced, Process, blockCount, blocksOf, process, withProcess, withMessages, withDisk}
 use Rattle.model.specs.Steps.{found, others, forces, settled, gone, deletions, billed, checkpointed, takenIn, delivered, deliverState, deliverDeletions}
 use Rattle.model.specs.Sound.{sound}
 use Rattle.model.specs.Refusals.{firstOf, forcesPast, forcesOver, atLastInterval, pastBlocks, deliverRefusal}
 use Rattle.admissions.specs.Admissions.{refusalOf}
-use Rattle.words.specs.Frames.{OnlyMessages}
+use Rattle.words.specs.{Frames.OnlyMessages, messages.Places.placeOf, messages.Places.takenOut, Parts.processIn}
 use Rattle.words.specs.Layout.{word, blocksAt, wide2, countOf, endOf, fits, messageIn, isMessage, messagesIn, runOf}
-use Rattle.words.proofs.Frames.{process-head, process-message-words}
-use Rattle.words.proofs.View.{count-is, last-is, fits-size}
+use Rattle.words.proofs.{Frames.process-head, Frames.process-message-words, View.count-is, View.last-is, View.fits-size, ViewClean.clean-messages}
 use Rattle.words.proofs.ViewChange.{with-messages, process-fits, disk-fits, message-words-same, messages-same}
-use Rattle.words.proofs.ViewClean.{clean-messages}
-use Rattle.words.proofs.ViewSound.{SoundWords, sound-words, sound-process-is}
-use Rattle.words.specs.messages.Places.{placeOf, takenOut}
-use Rattle.words.proofs.messages.Selected.{messageAt, is-one}
+use Rattle.words.proofs.{ViewSound.SoundWords, ViewSound.sound-words, ViewSound.sound-process-is, messages.Selected.messageAt, messages.Selected.is-one}
 use Rattle.words.proofs.messages.Taken.{taken-length, taken-count, taken-rest, taken-fits, taken-others, taken-many}
 use Rattle.words.proofs.messages.Zeros.{clean-taken}
-use Rattle.words_process.specs.Moves.{diskIn, Moves}
-use Rattle.words_process.specs.Steps.{received}
+use Rattle.words_process.specs.{Moves.diskIn, Moves.Moves, Steps.received}
 use Rattle.words_process.proofs.Stepping.{block-count}
-use Rattle.words.specs.Parts.{processIn}
-use Rattle.in_place.specs.Left.{Leaves}
-use Rattle.in_place.specs.Storing.{storingAdmission}
-use Rattle.in_place.proofs.Checkpointing.{disk-is, either-way}
-use Rattle.in_place.proofs.Losing.{found-is, some-number, place-in, its-number}
+use Rattle.in_place.specs.{Left.Leaves, Storing.storingAdmission}
+use Rattle.in_place.proofs.{Checkpointing.disk-is, Checkpointing.either-way, Losing.found-is, Losing.some-number, Losing.place-in, Losing.its-number}
 use Rattle.in_place.proofs.Moving.{moved-run, moved-leaves}
 
 module _ (w : List ℕ) (h : sound (runOf w) ≡ true) (m k : ℕ) (e : placeOf w m ≡ suc k) where

@@ -1,28 +1,11 @@
 -- Which start is refused, test by test.
 -- Assumes nothing.
-use mathlib.Core.Path.{_≡_, refl, sym, _∙_, ap}
-use mathlib.Core.Bool.{Bool, true, false, not}
-use mathlib.Core.List.{List, []}
-use mathlib.Core.Option.{none, some}
-use Prim.Native.Nat.{ℕ, zero, suc, _≤_, _<_}
-use native.Mathlib.Omega.{arith}
-use lib.Dec.{eqb, leb, ltb}
-use lib.ListN.{length, getD}
-use borrow.Author.Tests.{le-leb, lt-leb, lt-ltb, le-ltb, eq-eqb, ne-eqb}
-use Rattle.laws.specs.Choice.{by-bool}
+use Rattle.laws.specs.Basics.{_≡_, refl, sym, _∙_, ap, Bool, true, false, not, List, [], none, some, ℕ, zero, suc, _≤_, _<_, arith, eqb, ltb, leb, length, getD, eq-eqb, ne-eqb, lt-ltb, le-ltb, le-leb, lt-leb, by-bool}
 use Rattle.laws.specs.Search.{anyBelow, allBelow}
-use Rattle.model.specs.declared.Refusal.{Refusal}
+use Rattle.model.specs.declared.{Refusal.Refusal, StartAnswer.the-variants.Refused, StartAnswer.the-variants.Started, Run.Run, StartAnswer.StartAnswer}
 use Rattle.model.specs.declared.Refusal.the-variants.{CountOutsideRange, UnsoundState, ListTooShort, BlockCountOutsideRange}
-use Rattle.model.specs.declared.StartAnswer.the-variants.{Refused, Started}
-use Rattle.model.specs.Words.{blank}
-use Rattle.model.specs.Steps.{startState}
-use Rattle.model.specs.Sound.{isBlockCount}
-use Rattle.model.specs.Refusals.{firstOf, startRefusal}
-use Rattle.model.specs.declared.Run.{Run}
-use Rattle.model.specs.declared.StartAnswer.{StartAnswer}
-use Rattle.model.specs.laws.Refusals.{by-refusal}
-use Rattle.whole_runs.specs.Outcomes.{Outcome, startOutcome}
-use Rattle.whole_runs.specs.WholeRuns.{StartPromise}
+use Rattle.model.specs.{Words.blank, Steps.startState, Sound.isBlockCount, Refusals.firstOf, Refusals.startRefusal, laws.Refusals.by-refusal}
+use Rattle.whole_runs.specs.{Outcomes.Outcome, Outcomes.startOutcome, WholeRuns.StartPromise}
 use Rattle.whole_runs.proofs.WholeRuns.{start-promise}
 use Rattle.words.specs.Layout.{stateSize}
 use Rattle.in_place.specs.Starting.{startRefusalIn, startOutcomeIn, StartsTheSame}

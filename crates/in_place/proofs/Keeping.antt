@@ -1,28 +1,12 @@
 -- One process's part of a sound state: it stays sound where a checkpoint is stored, where a carried vector is taken in, and where what no pin names is deleted.
 -- Assumes nothing.
-use mathlib.Core.Path.{_≡_, refl, sym, _∙_, ap}
-use mathlib.Core.Bool.{Bool, true, false, _&&_, _||_, not}
-use mathlib.Core.List.{List, [], _∷_, _++_, map}
-use mathlib.Core.Option.{Option, none, some}
-use Prim.Native.Nat.{ℕ, zero, suc, _+_, _-_, _≤_, _<_}
-use native.Mathlib.Omega.{arith}
-use lib.Dec.{eqb, leb}
-use lib.ListN.{length, getD, set, take, drop, length-append, length-set, List·getD-eq-default}
-use lib.Seq.{getD-set-same, getD-set-other, length-take-le}
-use borrow.Author.Tests.{le-ltb, leb-true, le-leb, ne-eqb, eq-eqb, eqb-true, not-true}
-use Rattle.laws.specs.Choice.{by-bool, by-eq}
-use Rattle.laws.specs.Lists.{select, orElse, lastOf}
-use Rattle.laws.specs.Elements.{every-append, every-single, every-from, every-table}
-use Rattle.laws.specs.Prefixes.{select-same, every-select}
-use Rattle.laws.specs.Rows.{every-at, every-by, every-beyond, some-at, by-lt}
-use Rattle.laws.specs.Select.{lastOf-snoc, some-append}
-use Rattle.laws.specs.Tables.{getD-table, length-table}
-use Rattle.laws.specs.Tests.{every, some-of}
+use Rattle.laws.specs.Basics.{_≡_, refl, sym, _∙_, ap, Bool, true, false, not, _&&_, _||_, List, [], _∷_, _++_, map, Option, none, some, ℕ, zero, suc, _+_, _-_, _≤_, _<_, arith, eqb, leb, length, getD, take, drop, set, length-set, length-append, getD-set-same, getD-set-other, length-take-le, eq-eqb, ne-eqb, eqb-true, le-ltb, le-leb, leb-true, not-true, by-bool, by-eq}
+use lib.ListN.{List·getD-eq-default}
+use Rattle.laws.specs.{Lists.select, Lists.orElse, Lists.lastOf, Elements.every-append, Elements.every-single, Elements.every-from, Elements.every-table}
+use Rattle.laws.specs.{Prefixes.select-same, Prefixes.every-select, Rows.every-at, Rows.every-by, Rows.every-beyond, Rows.some-at, Rows.by-lt}
+use Rattle.laws.specs.{Select.lastOf-snoc, Select.some-append, Tables.getD-table, Tables.length-table, Tests.every, Tests.some-of}
 use Rattle.laws.specs.Truth.{and-right, and-out, and-both, or-left, or-in-right, never-both}
-use Rattle.model.specs.declared.Interval.{Interval}
-use Rattle.model.specs.declared.CheckpointIndex.{CheckpointIndex}
-use Rattle.model.specs.declared.Pin.{Pin}
-use Rattle.model.specs.declared.Pin.the-variants.{Nothing, At}
+use Rattle.model.specs.declared.{Interval.Interval, CheckpointIndex.CheckpointIndex, Pin.Pin, Pin.the-variants.Nothing, Pin.the-variants.At}
 use Rattle.model.specs.declared.Checkpoint.{Checkpoint}
 use Rattle.model.specs.Words.{mostProcesses, entry, below, liveIndex, lastStored, names, isPinned, Process, noCheckpoint, blockCount}
 use Rattle.model.specs.Steps.{settled, advanced, storing, checkpointed, takenEntry, takenVector, takenPin, takenPins, takenIn}

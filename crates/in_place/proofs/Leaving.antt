@@ -1,8 +1,6 @@
 -- Words that a call leaves as they were.
 -- Assumes nothing.
-use mathlib.Core.Path.{refl}
-use mathlib.Core.List.{List}
-use Prim.Native.Nat.{ℕ}
+use Rattle.laws.specs.Basics.{refl, List, ℕ}
 use Rattle.in_place.specs.Left.{Leaves}
 
 pub same-words : (w : List ℕ) → Leaves w w

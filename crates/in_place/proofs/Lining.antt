@@ -1,36 +1,18 @@
 -- The line call: what its outcome is, by the list's length, the failed set, and whether each process has a member.
 -- Assumes nothing.
-use mathlib.Core.Path.{_≡_, refl, sym, _∙_, ap}
-use mathlib.Core.Bool.{Bool, true, false, false≢true, not}
-use mathlib.Core.List.{List, []}
-use mathlib.Core.Option.{Option, none, some}
-use Prim.Native.Nat.{ℕ, _^_, _≤_}
-use native.Mathlib.Omega.{arith}
-use lib.Dec.{ltb, leb}
-use lib.ListN.{length, getD}
-use lib.Seq.{sets}
-use Rattle.laws.specs.Below.{not-out}
-use Rattle.laws.specs.Choice.{pick, by-bool}
-use Rattle.laws.specs.Lists.{table}
+use Rattle.laws.specs.Basics.{_≡_, refl, sym, _∙_, ap, Bool, true, false, not, false≢true, List, [], Option, none, some, ℕ, _^_, _≤_, arith, ltb, leb, length, getD, sets, pick, by-bool}
+use Rattle.laws.specs.{Below.not-out, Lists.table}
 use Rattle.words_line.specs.Line.{limitsIn, hasMembers, pastsIn, indexesIn, OwnSome, KeptCountMost, AllUsed, AllFound}
 use Rattle.words_line.proofs.LineRule.{pasts-length, all-found, past-at, found-one, line-is}
-use Rattle.model.specs.declared.Interval.{Interval}
-use Rattle.model.specs.declared.CheckpointIndex.{CheckpointIndex}
-use Rattle.model.specs.declared.Refusal.{Refusal}
+use Rattle.model.specs.declared.{Interval.Interval, CheckpointIndex.CheckpointIndex, Refusal.Refusal, Run.Run, LineAnswer.LineAnswer}
 use Rattle.model.specs.declared.Refusal.the-variants.{UnsoundState, ListTooShort, NoSuchFailedProcess}
-use Rattle.model.specs.declared.Run.{Run}
-use Rattle.model.specs.declared.LineAnswer.{LineAnswer}
 use Rattle.model.specs.declared.LineAnswer.the-variants.{Refused, Written}
-use Rattle.model.specs.Sound.{sound}
-use Rattle.model.specs.Steps.{lineOf}
-use Rattle.model.specs.Refusals.{outside, noMember, lineRefusal}
-use Rattle.model.specs.laws.Refusals.{refusal-in}
-use Rattle.admissions.specs.declared.Admission.the-variants as admission
+use Rattle.model.specs.{Sound.sound, Steps.lineOf, Refusals.outside, Refusals.noMember, Refusals.lineRefusal, laws.Refusals.refusal-in}
 use Rattle.admissions.specs.Admissions.{recoveryAdmission}
 use Rattle.whole_runs.specs.Outcomes.{Outcome, lineOutcome}
 use Rattle.words.specs.Layout.{countOf, runOf}
-use Rattle.words.proofs.View.{count-is}
-use Rattle.words.proofs.ViewSound.{sound-fits, sound-few, sound-part}
+use Rattle.words.proofs.{View.count-is, ViewSound.sound-fits, ViewSound.sound-few, ViewSound.sound-part}
+use Rattle.admissions.specs.declared.Admission.the-variants as admission
 
 module _ (w : List ℕ) (h : sound (runOf w) ≡ true) (F : ℕ) (line : List ℕ) where
   abbrev s : Run

@@ -1,42 +1,20 @@
 -- A message looked up in the words is the one that the run has under way; taken out of them it is lost.
 -- Assumes nothing.
-use mathlib.Core.Path.{_≡_, refl, sym, _∙_, ap}
-use mathlib.Core.Bool.{Bool, true, false, not, _&&_}
-use mathlib.Core.List.{List, []}
-use mathlib.Core.Option.{Option, none, some}
-use Prim.Native.Nat.{ℕ, zero, suc, _+_, _-_, _≤_, _<_}
-use native.Mathlib.Omega.{arith}
-use lib.Dec.{eqb}
-use lib.ListN.{length}
-use borrow.Author.Tests.{eqb-true, eq-eqb, ne-eqb}
-use Rattle.laws.specs.Choice.{pick, by-bool, by-eq}
-use Rattle.laws.specs.Lists.{select, lastOf, table}
-use Rattle.laws.specs.Prefixes.{select-none}
-use Rattle.laws.specs.Rows.{by-lt}
-use Rattle.laws.specs.Select.{select-select}
-use Rattle.model.specs.declared.Message.{Message}
-use Rattle.model.specs.declared.Refusal.the-variants.{NotUnderWay}
-use Rattle.model.specs.declared.Run.{Run}
-use Rattle.model.specs.declared.LoseAnswer.{LoseAnswer}
-use Rattle.model.specs.declared.LoseAnswer.the-variants as lose-answer
-use Rattle.model.specs.Words.{underWay, withMessages}
-use Rattle.model.specs.Steps.{found, others, loseState}
-use Rattle.model.specs.Sound.{sound}
-use Rattle.model.specs.Refusals.{missing, loseRefusal}
+use Rattle.laws.specs.Basics.{_≡_, refl, sym, _∙_, ap, Bool, true, false, not, _&&_, List, [], Option, none, some, ℕ, zero, suc, _+_, _-_, _≤_, _<_, arith, eqb, length, eq-eqb, ne-eqb, eqb-true, pick, by-bool, by-eq}
+use Rattle.laws.specs.{Lists.select, Lists.lastOf, Lists.table, Prefixes.select-none, Rows.by-lt, Select.select-select}
+use Rattle.model.specs.declared.{Message.Message, Refusal.the-variants.NotUnderWay, Run.Run, LoseAnswer.LoseAnswer}
+use Rattle.model.specs.{Words.underWay, Words.withMessages, Steps.found, Steps.others, Steps.loseState, Sound.sound, Refusals.missing, Refusals.loseRefusal}
 use Rattle.model.specs.laws.Refusals.{refusal-in}
 use Rattle.whole_runs.specs.Outcomes.{loseOutcome}
-use Rattle.words.specs.Layout.{word, wide2, endOf, messageIn, isMessage, messagesIn, runOf}
-use Rattle.words.specs.Frames.{OnlyMessages}
-use Rattle.words.proofs.View.{last-is}
-use Rattle.words.proofs.ViewChange.{with-messages}
-use Rattle.words.proofs.ViewClean.{clean-messages}
-use Rattle.words.proofs.ViewSound.{SoundWords, sound-words}
+use Rattle.words.specs.{Layout.word, Layout.wide2, Layout.endOf, Layout.messageIn, Layout.isMessage, Layout.messagesIn, Layout.runOf, Frames.OnlyMessages}
+use Rattle.words.proofs.{View.last-is, ViewChange.with-messages, ViewClean.clean-messages, ViewSound.SoundWords, ViewSound.sound-words}
 use Rattle.words.specs.declared.messages.Found.the-variants.{Nothing, At}
 use Rattle.words.specs.messages.Places.{placeBelow, placeOf, foundAt, takenOut}
 use Rattle.words.proofs.messages.Selected.{messageAt, found-below, place-under, place-number, is-one}
 use Rattle.words.proofs.messages.Zeros.{clean-taken}
 use Rattle.in_place.specs.Left.{Leaves}
 use Rattle.words.proofs.messages.Taken.{taken-length, taken-count, taken-rest, taken-fits, taken-others, taken-many}
+use Rattle.model.specs.declared.LoseAnswer.the-variants as lose-answer
 
 -- Where nothing was found, and where something was.
 pub nothing : (k : ℕ) → Nothing ≡ foundAt k → k ≡ 0

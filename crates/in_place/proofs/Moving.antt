@@ -1,14 +1,10 @@
 -- Words in which one process and the blocks have changed: the run that they stand for, and that unused places stay zero.
 -- Assumes nothing.
-use mathlib.Core.Path.{_≡_, _∙_, ap}
-use mathlib.Core.Bool.{true}
-use mathlib.Core.List.{List}
-use Prim.Native.Nat.{ℕ, _≤_, _<_}
+use Rattle.laws.specs.Basics.{_≡_, _∙_, ap, true, List, ℕ, _≤_, _<_}
 use Rattle.model.specs.declared.Disk.{Disk}
 use Rattle.model.specs.Words.{Process, withProcess, withDisk}
 use Rattle.words.specs.Layout.{countOf, fits, runOf}
-use Rattle.words.proofs.ViewChange.{with-process, with-disk, process-fits}
-use Rattle.words.proofs.ViewClean.{clean-process, clean-disk}
+use Rattle.words.proofs.{ViewChange.with-process, ViewChange.with-disk, ViewChange.process-fits, ViewClean.clean-process, ViewClean.clean-disk}
 use Rattle.words_process.specs.Moves.{Moves}
 use Rattle.in_place.specs.Left.{Leaves}
 

@@ -1,32 +1,14 @@
 -- The earliest call: what its outcome is, by its tests in their order.
 -- Assumes nothing.
-use mathlib.Core.Path.{_≡_, refl, sym, _∙_, ap}
-use mathlib.Core.Bool.{true, false, _||_, not}
-use mathlib.Core.List.{List, []}
-use mathlib.Core.Option.{Option, none, some}
-use Prim.Native.Nat.{ℕ, _*_, _≤_}
-use native.Mathlib.Omega.{arith}
-use lib.Dec.{eqb, ltb, leb}
-use lib.ListN.{length}
-use lib.Seq.{sets}
-use borrow.Author.Tests.{ltb-false, le-ltb}
-use Rattle.laws.specs.Lists.{table}
-use Rattle.laws.specs.Search.{anyBelow}
-use Rattle.laws.specs.Tests.{some-of}
-use Rattle.laws.specs.Truth.{or-none}
-use Rattle.model.specs.declared.Refusal.{Refusal}
+use Rattle.laws.specs.Basics.{_≡_, refl, sym, _∙_, ap, true, false, not, _||_, List, [], Option, none, some, ℕ, _*_, _≤_, arith, eqb, ltb, leb, length, sets, le-ltb, ltb-false}
+use Rattle.laws.specs.{Lists.table, Search.anyBelow, Tests.some-of, Truth.or-none}
+use Rattle.model.specs.declared.{Refusal.Refusal, Named.Named, Run.Run, LineAnswer.LineAnswer, LineAnswer.the-variants.Refused, LineAnswer.the-variants.Written}
 use Rattle.model.specs.declared.Refusal.the-variants.{ListTooShort, NoSuchProcess, UnfitNamedList, NotKept, CausallyOrdered}
-use Rattle.model.specs.declared.Named.{Named}
-use Rattle.model.specs.declared.Run.{Run}
-use Rattle.model.specs.declared.LineAnswer.{LineAnswer}
-use Rattle.model.specs.declared.LineAnswer.the-variants.{Refused, Written}
-use Rattle.model.specs.Sound.{sound}
-use Rattle.model.specs.laws.Refusals.{refusal-in}
+use Rattle.model.specs.{Sound.sound, laws.Refusals.refusal-in}
 use Rattle.whole_runs.specs.Outcomes.{Outcome, judged}
 use Rattle.whole_runs.specs.Earliest.{earliestLine, someAbsent, unfit, notKept, someOrdered, earliestRefusal, earliestOutcome}
 use Rattle.words.specs.Layout.{countOf, runOf}
-use Rattle.words.proofs.View.{count-is}
-use Rattle.words.proofs.ViewSound.{sound-fits, sound-few}
+use Rattle.words.proofs.{View.count-is, ViewSound.sound-fits, ViewSound.sound-few}
 use Rattle.words_line.specs.declared.through.Starts.{Starts}
 use Rattle.words_line.specs.Through.{pairCount, processOf, indexOf, namedIn, twiceIn, startsIn, beforeSome, greatestIn, Present, Searched, InWords}
 use Rattle.words_line.proofs.Reaching.{pairs-fit, absent-is, unfit-is, all-present, all-searched, kept-is, all-in-words, ordered-is, line-is}

@@ -1,57 +1,29 @@
 -- A delivery on the words: which one is refused, what one leaves that brings nothing new, and what one leaves that does.
 -- Assumes nothing.
-use mathlib.Core.Path.{_≡_, refl, sym, _∙_, ap, subst}
-use mathlib.Core.Bool.{Bool, true, false, not, _&&_}
-use mathlib.Core.List.{List, []}
-use mathlib.Core.Option.{none, some}
-use Prim.Native.Nat.{ℕ, suc, _+_, _*_, _≤_, _<_}
-use native.Mathlib.Omega.{arith}
-use lib.Dec.{ltb}
-use lib.ListN.{length}
-use lib.Seq.{sets}
-use borrow.Author.Tests.{le-ltb, eqb-true}
-use Rattle.laws.specs.Choice.{pick}
-use Rattle.laws.specs.Rows.{and-true}
-use Rattle.laws.specs.Truth.{and-no-right}
-use Rattle.model.specs.declared.CheckpointIndex.{CheckpointIndex}
-use Rattle.model.specs.declared.Disk.{Disk}
-use Rattle.model.specs.declared.Interval.{Interval}
-use Rattle.model.specs.declared.Message.{Message}
-use Rattle.model.specs.declared.Refusal.{Refusal}
-use Rattle.model.specs.declared.Refusal.the-variants.{ListTooShort, NotUnderWay}
-use Rattle.model.specs.declared.Run.{Run}
-use Rattle.model.specs.declared.DeliverAnswer.{DeliverAnswer}
+use Rattle.laws.specs.Basics.{_≡_, refl, sym, _∙_, ap, subst, Bool, true, false, not, _&&_, List, [], none, some, ℕ, suc, _+_, _*_, _≤_, _<_, arith, ltb, length, sets, eqb-true, le-ltb, pick}
+use Rattle.laws.specs.{Rows.and-true, Truth.and-no-right}
+use Rattle.model.specs.declared.{CheckpointIndex.CheckpointIndex, Disk.Disk, Interval.Interval, Message.Message, Refusal.Refusal, Run.Run}
+use Rattle.model.specs.declared.{Refusal.the-variants.ListTooShort, Refusal.the-variants.NotUnderWay, DeliverAnswer.DeliverAnswer}
 use Rattle.model.specs.declared.DeliverAnswer.the-variants.{Refused, Received, Forced}
 use Rattle.model.specs.Words.{forced, liveIndex, live, Process, blockCount, blocksOf, process, withProcess, withMessages, withDisk}
 use Rattle.model.specs.Steps.{found, others, newer, forces, settled, listed, gone, deletions, billed, advanced, checkpointed, takenIn, risen, delivered, deliverState, deliverRisen, deliverDeletions}
-use Rattle.model.specs.Sound.{sound}
-use Rattle.model.specs.Refusals.{firstOf, deliverRefusal}
+use Rattle.model.specs.{Sound.sound, Refusals.firstOf, Refusals.deliverRefusal}
 use Rattle.model.proofs.Risen.{risen-is-exact}
 use Rattle.whole_runs.specs.Outcomes.{pairs, deliverAnswer, deliverOutcome}
-use Rattle.words_process.specs.receipts.Receipt.{vectorFirst}
+use Rattle.words_process.specs.{receipts.Receipt.vectorFirst, receipts.Sized.Sized, Moves.diskIn, Moves.Moves, Steps.received}
 use Rattle.admissions.specs.declared.Admission.{Admission}
-use Rattle.admissions.specs.declared.Admission.the-variants as admission
 use Rattle.admissions.specs.Admissions.{refusalOf}
-use Rattle.words_process.specs.receipts.Sized.{Sized}
-use Rattle.words_process.proofs.receipts.Billing.{billed-none}
-use Rattle.words_process.proofs.receipts.Parts.{part-back}
+use Rattle.words_process.proofs.{receipts.Billing.billed-none, receipts.Parts.part-back}
 use Rattle.words_process.proofs.receipts.Still.{none-newer, taken-still, settled-still, gone-still}
 use Rattle.words.specs.Layout.{word, countOf, endOf, blocksAt, partAt, pinsAt, receiverAt, intervalOf, vectorIn, markIn, messageIn, runOf}
-use Rattle.words.specs.Parts.{processIn}
-use Rattle.words.proofs.Same.{vector-length, pins-length}
-use Rattle.words.proofs.View.{count-is}
+use Rattle.words.specs.{Parts.processIn, messages.Places.placeOf, messages.Places.takenOut}
+use Rattle.words.proofs.{Same.vector-length, Same.pins-length, View.count-is, ViewSound.sound-words, ViewSound.sound-process-is, messages.Selected.messageAt}
 use Rattle.words.proofs.ViewSizes.{vectors-size, pins-size, sent-size, kept-size, kept-count-size, messages-size, vector-row-size, pin-row-size, kept-row-size, stored-size, carried-size}
-use Rattle.words.proofs.ViewSound.{sound-words, sound-process-is}
-use Rattle.words.specs.messages.Places.{placeOf, takenOut}
-use Rattle.words.proofs.messages.Selected.{messageAt}
-use Rattle.words_process.specs.Moves.{diskIn, Moves}
-use Rattle.words_process.specs.Steps.{received}
-use Rattle.in_place.specs.Left.{Leaves}
-use Rattle.in_place.specs.Storing.{storingAdmission}
-use Rattle.in_place.proofs.Checkpointing.{index-is, accepted-own}
+use Rattle.in_place.specs.{Left.Leaves, Storing.storingAdmission}
+use Rattle.in_place.proofs.{Checkpointing.index-is, Checkpointing.accepted-own, Leaving.same-words}
 use Rattle.in_place.proofs.Delivering.{found-there, receiver-in, delivery-judged, delivered-state, delivered-deletions, delivered-run, delivered-leaves, move-size, move-end, move-one, move-place}
-use Rattle.in_place.proofs.Leaving.{same-words}
 use Rattle.in_place.proofs.Losing.{found-is, place-in, taken-run, taken-leaves}
+use Rattle.admissions.specs.declared.Admission.the-variants as admission
 
 -- What a delivery of message m to words w, with the list l, answers and leaves.
 abbrev pub Left : List ℕ → List ℕ → ℕ → DeliverAnswer → ℕ → List ℕ → List ℕ → Type 0

@@ -1,43 +1,25 @@
 -- A recovery that deletes nothing leaves a sound state sound, whether calls led to it or not: a process that goes back keeps its last stored checkpoint, so no own entry
 -- falls, and every vector stays within the own entries.
 -- Assumes nothing.
-use mathlib.Core.Path.{_≡_, refl, sym, _∙_, ap}
-use mathlib.Core.Bool.{Bool, true, false, _&&_, not}
-use mathlib.Core.List.{List, [], _∷_}
-use Prim.Native.Nat.{ℕ, zero, suc, _+_, _≤_, _<_}
-use native.Mathlib.Omega.{arith}
-use lib.Dec.{eqb, leb, leb·suc-zero}
-use lib.ListN.{length, getD, drop, length-map}
+use Rattle.laws.specs.Basics.{_≡_, refl, sym, _∙_, ap, Bool, true, false, not, _&&_, List, [], _∷_, ℕ, zero, suc, _+_, _≤_, _<_, arith, eqb, leb, length, getD, drop, eq-eqb, eqb-true, lt-ltb, le-ltb, ltb-true, le-leb, leb-true, by-bool, by-eq}
+use lib.Dec.{leb·suc-zero}
+use lib.ListN.{length-map}
 use lib.Seq.{set-getD, getD-take, drop-set-lt}
-use borrow.Author.Tests.{lt-ltb, ltb-true, le-ltb, leb-true, le-leb, eq-eqb, eqb-true}
-use Rattle.laws.specs.Choice.{by-bool, by-eq}
-use Rattle.laws.specs.Elements.{every-append, every-single, every-from, every-table}
-use Rattle.laws.specs.Lists.{select, orElse, lastOf}
-use Rattle.laws.specs.Prefixes.{select-none, every-select, every-last}
-use Rattle.laws.specs.Rows.{every-at, every-by, every-beyond, every-both, some-at}
-use Rattle.laws.specs.Select.{all-chosen}
+use Rattle.laws.specs.{Elements.every-append, Elements.every-single, Elements.every-from, Elements.every-table, Lists.select, Lists.orElse, Lists.lastOf}
+use Rattle.laws.specs.{Prefixes.select-none, Prefixes.every-select, Prefixes.every-last, Select.all-chosen, Tables.getD-table, Tables.length-table, Tests.every}
+use Rattle.laws.specs.{Rows.every-at, Rows.every-by, Rows.every-beyond, Rows.every-both, Rows.some-at, Truth.and-out, Truth.and-both}
 use Rattle.laws.specs.Sums.{sumBelow, sum-none, sum-same, length-gather}
-use Rattle.laws.specs.Tables.{getD-table, length-table}
-use Rattle.laws.specs.Tests.{every}
-use Rattle.laws.specs.Truth.{and-out, and-both}
-use Rattle.model.specs.declared.Interval.{Interval}
-use Rattle.model.specs.declared.CheckpointIndex.{CheckpointIndex}
-use Rattle.model.specs.declared.Pin.the-variants.{Nothing, At}
-use Rattle.model.specs.declared.Checkpoint.{Checkpoint}
-use Rattle.model.specs.declared.Message.{Message}
-use Rattle.model.specs.declared.Disk.{Disk}
-use Rattle.model.specs.declared.Run.{Run}
+use Rattle.model.specs.declared.{Interval.Interval, CheckpointIndex.CheckpointIndex, Pin.the-variants.Nothing, Pin.the-variants.At, Checkpoint.Checkpoint}
+use Rattle.model.specs.declared.{Message.Message, Disk.Disk, Run.Run}
 use Rattle.model.specs.Words.{mostProcesses, entry, below, lastStored, names, isPinned, Process, live, blocksOf, noCheckpoint, blockCount, process, withProcess, own, underWay, withMessages, withDisk}
 use Rattle.model.specs.Steps.{Deletion, listed, advanced, withProcesses, allowed, states, latestAllowed, member, rolledBack, vectorAfter, notLost, ownAfter, latestPin, movedPin, pinAfter, pinsAfter, recovered, lostBy, stillUnderWay, goneAt, deletedAt, billed, recoverState, recoverDeletions}
 use Rattle.model.specs.Sound.{within, pinSound, messageSound, zeroFrom, isNothing, nothingFrom, recordSound, keptBlocks, sound}
 use Rattle.model.specs.laws.Sound.{SoundProcess, SoundState, sound-state}
 use Rattle.model.proofs.simulation.Parts.{Room, process-all, process-disk}
 use Rattle.words_process.specs.receipts.Sized.{Sized}
-use Rattle.words_process.proofs.receipts.Facts.{place}
-use Rattle.words_process.proofs.receipts.Filled.{messages-many, row-filled, row-many}
-use Rattle.in_place.proofs.Assembling.{sound-in}
+use Rattle.words_process.proofs.{receipts.Facts.place, receipts.Filled.messages-many, receipts.Filled.row-filled, receipts.Filled.row-many}
+use Rattle.in_place.proofs.{Assembling.sound-in, Keeping.every-then, Keeping.record-same}
 use Rattle.in_place.proofs.Changing.{within-by, within-at, advanced-own, advanced-within, fewer-stay}
-use Rattle.in_place.proofs.Keeping.{every-then, record-same}
 
 -- Where none fails a test, every one passes.
 none-fails : {A : Type 0} (t : A → Bool) (l : List A) → length (select (λ x. not (t x)) l) ≡ 0 → every t l ≡ true

@@ -1,45 +1,25 @@
 -- What a send leaves of the words stands for the state that document 01 has.
 -- Assumes nothing.
-use mathlib.Core.Path.{_≡_, refl, sym, _∙_, ap}
-use mathlib.Core.Bool.{Bool, true, false, not}
-use mathlib.Core.List.{List, [], _∷_, _++_}
-use mathlib.Core.Option.{none, some}
-use Prim.Native.Nat.{ℕ, zero, suc, _+_, _-_, _*_, _≤_, _<_}
-use native.Mathlib.Omega.{arith}
-use lib.Dec.{eqb}
-use lib.ListN.{length, length-append, take}
-use borrow.Author.Tests.{eqb-true, eqb-false, ne-eqb}
-use Rattle.laws.specs.Choice.{pick, by-bool}
-use Rattle.model.specs.declared.Message.{Message}
-use Rattle.model.specs.declared.Run.{Run}
-use Rattle.model.specs.Words.{Process, process, withProcess, underWay, withMessages}
-use Rattle.model.specs.Steps.{sentMessage, marked, sendState}
-use Rattle.model.specs.Sound.{sound}
-use Rattle.model.specs.declared.Refusal.{Refusal}
-use Rattle.model.specs.declared.SendAnswer.the-variants as send-answer
-use Rattle.model.specs.Refusals.{unsound, sendRefusal}
-use Rattle.model.specs.laws.Refusals.{skipped}
+use Rattle.laws.specs.Basics.{_≡_, refl, sym, _∙_, ap, Bool, true, false, not, List, [], _∷_, _++_, none, some, ℕ, zero, suc, _+_, _-_, _*_, _≤_, _<_, arith, eqb, length, take, length-append, ne-eqb, eqb-true, eqb-false, pick, by-bool}
+use Rattle.model.specs.declared.{Message.Message, Run.Run, Refusal.Refusal}
+use Rattle.model.specs.{Words.Process, Words.process, Words.withProcess, Words.underWay, Words.withMessages, Steps.sentMessage, Steps.marked, Steps.sendState}
+use Rattle.model.specs.{Sound.sound, Refusals.unsound, Refusals.sendRefusal, laws.Refusals.skipped}
 use Rattle.whole_runs.specs.Outcomes.{sendOutcome}
 use Rattle.admissions.specs.declared.Admission.the-variants.{Accepted, Refused}
 use Rattle.admissions.specs.Admissions.{refusalOf, sendAdmission}
 use Rattle.admissions.proofs.Cases.{accepted-send, admission-rules}
 use Rattle.words.specs.Layout.{stateSize, word, wide2, countOf, endOf, keptCountAt, markAt, blocksAt, partAt, pinsAt, vectorIn, pinsIn, markIn, keptIn, messageIn, isMessage, messagesIn, endFits, fits, runOf}
-use Rattle.words.specs.Parts.{processIn}
-use Rattle.words.specs.Frames.{OnlyProcess, OnlyMessages}
-use Rattle.words.specs.Clean.{Clean, CleanMessages}
-use Rattle.words.specs.Puts.{Put, puts, one, puts2}
-use Rattle.words.proofs.Reading.{untouched, touched, puts-length, wide2-back}
-use Rattle.words.proofs.Same.{vector-length, vector-same, pins-same, kept-same}
-use Rattle.words.proofs.View.{process-is, count-is, underway-is, last-is}
+use Rattle.words.specs.{Parts.processIn, Frames.OnlyProcess, Frames.OnlyMessages, Clean.Clean, Clean.CleanMessages, Puts.Put, Puts.puts, Puts.one, Puts.puts2}
+use Rattle.words.proofs.{Reading.untouched, Reading.touched, Reading.puts-length, Reading.wide2-back, ViewSound.SoundWords, ViewSound.sound-words}
+use Rattle.words.proofs.{Same.vector-length, Same.vector-same, Same.pins-same, Same.kept-same, View.process-is, View.count-is, View.underway-is, View.last-is}
 use Rattle.words.proofs.ViewChange.{with-process, with-messages, messages-fit, messages-same, end-same}
 use Rattle.words.proofs.ViewClean.{clean-messages, clean-process, clean-kept-same, clean-messages-same}
-use Rattle.words.proofs.ViewSound.{SoundWords, sound-words}
 use Rattle.words.specs.messages.Places.{withRoom, closedUp, putLast}
 use Rattle.words.proofs.messages.Closed.{closed-length, closed-rest, closed-messages, closed-many}
 use Rattle.words.proofs.messages.Added.{added-length, added-end, added-count, added-rest, added-messages, added-fits}
 use Rattle.words.proofs.messages.Zeros.{clean-closed, clean-added}
-use Rattle.in_place.specs.Left.{Leaves}
-use Rattle.in_place.specs.Sending.{sentIn, sentWords}
+use Rattle.in_place.specs.{Left.Leaves, Sending.sentIn, Sending.sentWords}
+use Rattle.model.specs.declared.SendAnswer.the-variants as send-answer
 
 -- A place is left: the same messages, and nothing else has changed but their places.
 pub record EnoughRoom (w v : List ℕ) : Type 0 where

@@ -1,43 +1,17 @@
 -- What a start leaves of the words stands for the first state of a run, and holds zero in every unused place.
 -- Assumes nothing.
-use mathlib.Core.Path.{_≡_, refl, sym, _∙_, ap}
-use mathlib.Core.Bool.{Bool, true, false, not}
-use mathlib.Core.List.{List, [], _∷_}
-use Prim.Native.Nat.{ℕ, zero, suc, _+_, _-_, _*_, _≤_, _<_}
+use Rattle.laws.specs.Basics.{_≡_, refl, sym, _∙_, ap, Bool, true, false, not, List, [], _∷_, none, some, ℕ, zero, suc, _+_, _-_, _*_, _≤_, _<_, arith, eqb, leb, length, getD, take, set, replicate, length-set, length-replicate, getD-replicate, getD-set-same, getD-set-other, eq-eqb, eqb-true, ltb-false, leb-true, not-false, pick, by-bool, by-eq}
 use native.Mathlib.Numerals.{add-one}
-use native.Mathlib.Omega.{arith}
-use mathlib.Core.Option.{none, some}
-use lib.Dec.{eqb, leb}
-use lib.ListN.{length, getD, set, take, replicate, length-replicate, getD-replicate, length-set}
-use lib.Seq.{getD-set-same, getD-set-other}
-use borrow.Author.Tests.{leb-true, ltb-false, eqb-true, eq-eqb, not-false}
-use Rattle.laws.specs.Choice.{pick, by-bool, by-eq}
-use Rattle.laws.specs.Lists.{table}
-use Rattle.laws.specs.Search.{allBelow, any-none, all-in}
-use Rattle.laws.specs.Sums.{sumBelow}
-use Rattle.laws.specs.Tables.{table-is}
-use Rattle.laws.specs.Truth.{and-right}
-use Rattle.model.specs.declared.Run.{Run}
-use Rattle.model.specs.declared.Interval.{Interval}
-use Rattle.model.specs.declared.Pin.{Pin}
-use Rattle.model.specs.declared.Pin.the-variants.{Nothing, At}
-use Rattle.model.specs.declared.Checkpoint.{Checkpoint}
-use Rattle.model.specs.Words.{Process, zeroVector, noPins, blank, withDisk}
-use Rattle.model.specs.Sound.{isBlockCount}
+use Rattle.laws.specs.{Lists.table, Search.allBelow, Search.any-none, Search.all-in, Sums.sumBelow, Tables.table-is, Truth.and-right}
+use Rattle.model.specs.declared.{Run.Run, Interval.Interval, Pin.Pin, Pin.the-variants.Nothing, Pin.the-variants.At, Checkpoint.Checkpoint}
+use Rattle.model.specs.{Words.Process, Words.zeroVector, Words.noPins, Words.blank, Words.withDisk, Sound.isBlockCount}
 use Rattle.model.specs.Steps.{withProcesses, checkpointZero, started, startState, opening}
 use Rattle.model.specs.laws.Refusals.{no-rule, by-refusal}
 use Rattle.words.specs.Layout.{stateSize, word, wide4, countOf, keptCountAt, markAt, blocksAt, partAt, pinsAt, indexAt, causeAt, storedAt, intervalOf, indexOf, pinOf, vectorIn, pinsIn, markIn, checkpointIn, keptIn, fits, runOf}
-use Rattle.words.specs.Parts.{processIn}
-use Rattle.words.specs.Frames.{OnlyProcess, OnlyDisk}
-use Rattle.words.specs.Clean.{Clean, CleanKept}
-use Rattle.words.specs.Puts.{Put, puts, one, puts4}
-use Rattle.words.proofs.Reading.{untouched, touched, puts-length, wide4-back}
-use Rattle.words.proofs.Same.{vector-is}
-use Rattle.words.proofs.View.{run-unfit, kept-table}
-use Rattle.words.proofs.ViewBlank.{blank-fits, blank-run, blank-clean}
-use Rattle.words.proofs.ViewChange.{process-fits, with-disk}
-use Rattle.words.proofs.ViewClean.{clean-process, clean-disk}
-use Rattle.words.proofs.ViewParts.{process-by, with-processes-step}
+use Rattle.words.specs.{Parts.processIn, Frames.OnlyProcess, Frames.OnlyDisk, Clean.Clean, Clean.CleanKept, Puts.Put, Puts.puts, Puts.one, Puts.puts4}
+use Rattle.words.proofs.{Reading.untouched, Reading.touched, Reading.puts-length, Reading.wide4-back, Same.vector-is, View.run-unfit, View.kept-table}
+use Rattle.words.proofs.{ViewBlank.blank-fits, ViewBlank.blank-run, ViewBlank.blank-clean, ViewChange.process-fits, ViewChange.with-disk}
+use Rattle.words.proofs.{ViewClean.clean-process, ViewClean.clean-disk, ViewParts.process-by, ViewParts.with-processes-step}
 use Rattle.in_place.specs.Starting.{zeros, withCounts, counted, firstPuts, withFirsts, begun, startedWords, startRefusalIn, startOutcomeIn, startWords}
 
 pub zeros-length : length zeros ≡ stateSize

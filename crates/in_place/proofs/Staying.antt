@@ -1,33 +1,14 @@
 -- A checkpoint, a send, a delivery, a loss and a recovery that deletes nothing leave a sound state sound, whether calls led to it or not. So a state needs no test after
 -- them.
 -- Assumes nothing.
-use mathlib.Core.Path.{_≡_, refl, _∙_, ap}
-use mathlib.Core.Bool.{Bool, true, not}
-use mathlib.Core.List.{List, [], _∷_, _++_, map}
-use Prim.Native.Nat.{ℕ, suc, _+_, _≤_, _<_}
-use native.Mathlib.Omega.{arith}
-use lib.Dec.{eqb, ltb, leb}
-use lib.ListN.{length, length-append}
-use borrow.Author.Tests.{lt-ltb, ltb-true, le-ltb, le-leb, ne-eqb}
-use Rattle.laws.specs.Choice.{pick, by-bool}
-use Rattle.laws.specs.Elements.{every-append, every-single}
-use Rattle.laws.specs.Lists.{select}
-use Rattle.laws.specs.Prefixes.{every-select}
-use Rattle.laws.specs.Rows.{every-map}
-use Rattle.laws.specs.Select.{map-append}
-use Rattle.laws.specs.Tables.{getD-table}
-use Rattle.laws.specs.Tests.{every}
-use Rattle.laws.specs.Truth.{and-out, and-both}
-use Rattle.model.specs.declared.Interval.{Interval}
-use Rattle.model.specs.declared.Checkpoint.{Checkpoint}
-use Rattle.model.specs.declared.Message.{Message}
-use Rattle.model.specs.declared.Disk.{Disk}
-use Rattle.model.specs.declared.Run.{Run}
+use Rattle.laws.specs.Basics.{_≡_, refl, _∙_, ap, Bool, true, not, List, [], _∷_, _++_, map, ℕ, suc, _+_, _≤_, _<_, arith, eqb, ltb, leb, length, length-append, ne-eqb, lt-ltb, le-ltb, ltb-true, le-leb, pick, by-bool}
+use Rattle.laws.specs.{Elements.every-append, Elements.every-single, Lists.select, Prefixes.every-select, Rows.every-map, Select.map-append, Tables.getD-table}
+use Rattle.laws.specs.{Tests.every, Truth.and-out, Truth.and-both}
+use Rattle.model.specs.declared.{Interval.Interval, Checkpoint.Checkpoint, Message.Message, Disk.Disk, Run.Run}
 use Rattle.model.specs.Words.{mostProcesses, mostUnderWay, mostMessages, mostBlocks, basic, forced, entry, below, isPinned, Process, blocksOf, blockCount, process, withProcess, own, underWay, withMessages, withDisk}
 use Rattle.model.specs.Steps.{settled, gone, billed, advanced, storing, checkpointed, checkpointState, sentMessage, marked, sendState, found, others, forces, takenEntry, takenVector, takenIn, delivered, deliverState, loseState}
-use Rattle.model.specs.Sound.{within, ascending, messageSound, zeroFrom, recordSound, sound}
+use Rattle.model.specs.{Sound.within, Sound.ascending, Sound.messageSound, Sound.zeroFrom, Sound.recordSound, Sound.sound, laws.Refusals.by-refusal}
 use Rattle.model.specs.Refusals.{checkpointRefusal, sendRefusal, deliverRefusal, loseRefusal, recoverRefusal}
-use Rattle.model.specs.laws.Refusals.{by-refusal}
 use Rattle.model.specs.laws.Sound.{SoundState, sound-state, sound-message}
 use Rattle.model.proofs.simulation.Accepted.{checkpoint-out, send-out, deliver-out}
 use Rattle.whole_runs.specs.Outcomes.{message, checkpointOutcome, sendOutcome, deliverOutcome, loseOutcome, recoverOutcome, recoverReport}
@@ -37,9 +18,8 @@ use Rattle.words_process.proofs.receipts.Filled.{messages-many}
 use Rattle.words.specs.Layout.{runOf}
 use Rattle.words.proofs.ViewSizes.{vectors-size, vector-row-size, pins-size, pin-row-size, sent-size, kept-size, kept-row-size, stored-size, kept-count-size, messages-size, carried-size}
 use Rattle.in_place.specs.Staying.{CallsKeepSound}
-use Rattle.in_place.proofs.Assembling.{sound-in}
+use Rattle.in_place.proofs.{Assembling.sound-in, Recovering.recover-sound}
 use Rattle.in_place.proofs.Changing.{within-by, within-at, advanced-own, advanced-within, part-fine, messages-stay, fewer-stay, own-then, own-rises, within-rises, process-stays}
-use Rattle.in_place.proofs.Recovering.{recover-sound}
 use Rattle.in_place.proofs.Keeping.{every-then, Loose, Fine, loose-rise, stored-loose, taken-loose, settled-fine}
 
 -- Entries of a vector after a carried one is taken in.

@@ -1,14 +1,9 @@
 -- Lists of calls in place: "Each gets the state the one before it returned", here the words that the one before it left. proofs/Called has the theorem.
 -- Assumes nothing.
-use mathlib.Core.Path.{_≡_}
-use mathlib.Core.List.{List, [], _∷_}
-use Prim.Native.Nat.{ℕ}
-use lib.ListN.{length}
+use Rattle.laws.specs.Basics.{_≡_, List, [], _∷_, ℕ, length}
 use Rattle.whole_runs.specs.Calls.{Call, call, stateAfter}
-use Rattle.words.specs.Clean.{Clean}
-use Rattle.words.specs.Layout.{stateSize, runOf}
-use Rattle.in_place.specs.Left.{Leaves}
-use Rattle.in_place.specs.Starting.{startOutcomeIn, startWords}
+use Rattle.words.specs.{Clean.Clean, Layout.stateSize, Layout.runOf}
+use Rattle.in_place.specs.{Left.Leaves, Starting.startOutcomeIn, Starting.startWords}
 
 -- v is what a call leaves of the words w, accepted or refused: two clauses of the contract of every call that writes words. A call that only reads leaves w itself.
 pub record Called (w : List ℕ) (c : Call) (v : List ℕ) : Type 0 where

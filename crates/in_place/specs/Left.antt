@@ -1,9 +1,6 @@
 -- What a call in place leaves of the words besides the run that they stand for.
 -- Assumes nothing.
-use mathlib.Core.Path.{_≡_}
-use mathlib.Core.List.{List}
-use Prim.Native.Nat.{ℕ}
-use lib.ListN.{length}
+use Rattle.laws.specs.Basics.{_≡_, List, ℕ, length}
 use Rattle.words.specs.Clean.{Clean}
 
 -- As many words as it was lent; and where every place that is not in use held zero, every one does.

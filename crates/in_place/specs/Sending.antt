@@ -1,10 +1,8 @@
 -- An accepted send on the words: there is a place for the message, it is put there, its number is the last one used, and the sender's mark is set.
 -- Assumes nothing.
-use mathlib.Core.List.{List, [], _∷_, _++_}
-use Prim.Native.Nat.{ℕ, _+_}
+use Rattle.laws.specs.Basics.{List, [], _∷_, _++_, ℕ, _+_}
 use Rattle.model.specs.declared.Message.{Message}
-use Rattle.words.specs.Layout.{word, wide2, markAt, partAt, vectorIn}
-use Rattle.words.specs.Puts.{puts, one, puts2}
+use Rattle.words.specs.{Layout.word, Layout.wide2, Layout.markAt, Layout.partAt, Layout.vectorIn, Puts.puts, Puts.one, Puts.puts2}
 use Rattle.words.specs.messages.Places.{withRoom, putLast}
 
 unfoldable pub sentIn : List ℕ → ℕ → ℕ → Message

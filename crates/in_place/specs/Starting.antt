@@ -1,23 +1,10 @@
 -- A start on the words: all of them zero, then n and the block counts, then checkpoint 0 of each process, then the blocks that these take.
 -- Assumes nothing.
-use mathlib.Core.Bool.{Bool, not, _&&_}
-use mathlib.Core.List.{List, [], _∷_}
-use mathlib.Core.Option.{Option}
-use mathlib.Core.Path.{_≡_}
-use Prim.Native.Nat.{ℕ, zero, suc, _+_, _≤_}
-use lib.Dec.{eqb, leb, ltb}
-use lib.ListN.{length, getD, replicate}
-use Rattle.laws.specs.Choice.{pick}
-use Rattle.laws.specs.Search.{anyBelow}
-use Rattle.laws.specs.Sums.{sumBelow}
-use Rattle.model.specs.declared.Refusal.{Refusal}
+use Rattle.laws.specs.Basics.{_≡_, Bool, not, _&&_, List, [], _∷_, Option, ℕ, zero, suc, _+_, _≤_, eqb, ltb, leb, length, getD, replicate, pick}
+use Rattle.laws.specs.{Search.anyBelow, Sums.sumBelow}
+use Rattle.model.specs.declared.{Refusal.Refusal, StartAnswer.StartAnswer, StartAnswer.the-variants.Refused, StartAnswer.the-variants.Started}
 use Rattle.model.specs.declared.Refusal.the-variants.{CountOutsideRange, UnsoundState, ListTooShort, BlockCountOutsideRange}
-use Rattle.model.specs.declared.StartAnswer.{StartAnswer}
-use Rattle.model.specs.declared.StartAnswer.the-variants.{Refused, Started}
-use Rattle.model.specs.Words.{mostProcesses, blank}
-use Rattle.model.specs.Steps.{startState}
-use Rattle.model.specs.Sound.{isBlockCount}
-use Rattle.model.specs.Refusals.{firstOf}
+use Rattle.model.specs.{Words.mostProcesses, Words.blank, Steps.startState, Sound.isBlockCount, Refusals.firstOf}
 use Rattle.whole_runs.specs.Outcomes.{Outcome, judged, startOutcome}
 use Rattle.words.specs.Layout.{stateSize, keptCountAt, blocksAt, partAt, pinsAt, indexAt}
 use Rattle.words.specs.Puts.{Put, puts, one, puts4}

@@ -1,10 +1,7 @@
 -- A sound state stays sound after every call that is no recovery, and after a recovery that deletes nothing; refused or accepted. Here it is stated of the run that words
 -- stand for: its arrays have their sizes.
 -- Assumes nothing.
-use mathlib.Core.Path.{_≡_}
-use mathlib.Core.Bool.{true}
-use mathlib.Core.List.{List}
-use Prim.Native.Nat.{ℕ}
+use Rattle.laws.specs.Basics.{_≡_, true, List, ℕ}
 use Rattle.model.specs.Sound.{sound}
 use Rattle.whole_runs.specs.Outcomes.{checkpointOutcome, sendOutcome, deliverOutcome, loseOutcome, recoverOutcome, recoverReport}
 use Rattle.words.specs.Layout.{runOf}

@@ -1,20 +1,15 @@
 // Checkpoint at i: the vector is stored under index own entry, the own pin names it, 1 is added to the own entry, the sent mark is cleared.
+use admissions::Admission;
 use model::CheckpointAnswer;
 use model::Refusal;
-use admissions::Admission;
 use words::places;
-ghost use mathlib.Core.Path.{_≡_};
-ghost use mathlib.Core.Bool.{true};
-ghost use Prim.Native.Nat.{_<_};
+ghost use Rattle.laws.specs.Basics.{_≡_, true, _<_};
 ghost use Rattle.model.specs.Sound.{sound};
-ghost use Rattle.model.specs.declared.Refusal.{Refusal};
-ghost use Rattle.model.specs.declared.CheckpointAnswer.the-variants.{Refused};
-ghost use Rattle.whole_runs.specs.Outcomes.{checkpointOutcome};
-ghost use Rattle.whole_runs.specs.Calls as made;
-ghost use Rattle.whole_runs.specs.WholeRuns.{StatePromise};
+ghost use Rattle.model.specs.declared.{Refusal.Refusal, CheckpointAnswer.the-variants.Refused};
+ghost use Rattle.whole_runs.specs.{Outcomes.checkpointOutcome, WholeRuns.StatePromise};
 ghost use Rattle.words.specs.Layout.{countOf, runOf};
-ghost use Rattle.in_place.specs.Left.{Leaves};
-ghost use Rattle.in_place.specs.Storing.{storingAdmission};
+ghost use Rattle.in_place.specs.{Left.Leaves, Storing.storingAdmission};
+ghost use Rattle.whole_runs.specs.Calls as made;
 
 // Whether a checkpoint of process i, taken or forced, is refused, and why.
 pub(crate) fn storing_admission(w: &[u16], i: usize) -> Admission

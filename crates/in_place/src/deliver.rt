@@ -1,28 +1,19 @@
 // Deliver message m to its receiver, which takes in the vector that it carries, and stores a checkpoint first where that is forced.
-use words::messages::Found;
+use admissions::Admission;
 use model::DeliverAnswer;
 use model::Interval;
 use model::PROCESSES;
 use model::Refusal;
-use admissions::Admission;
+use words::messages::Found;
 use words::places;
-ghost use mathlib.Core.Path.{_≡_};
-ghost use mathlib.Core.Bool.{true};
-ghost use Prim.Native.Nat.{suc, _*_, _≤_, _<_};
-ghost use lib.ListN.{length};
-ghost use Rattle.laws.specs.Choice.{pick};
+ghost use Rattle.laws.specs.Basics.{_≡_, true, suc, _*_, _≤_, _<_, length, pick};
 ghost use Rattle.model.specs.declared.Refusal.{Refusal};
-ghost use Rattle.model.specs.Words.{liveIndex, process, mostProcesses};
-ghost use Rattle.model.specs.Steps.{forces};
-ghost use Rattle.model.specs.Sound.{sound};
+ghost use Rattle.model.specs.{Words.liveIndex, Words.process, Words.mostProcesses, Steps.forces, Sound.sound};
 ghost use Rattle.admissions.specs.declared.Admission.the-variants.{Accepted};
-ghost use Rattle.whole_runs.specs.Outcomes.{deliverOutcome};
+ghost use Rattle.whole_runs.specs.{Outcomes.deliverOutcome, WholeRuns.StatePromise};
+ghost use Rattle.words.specs.{Layout.countOf, Layout.markIn, Layout.messageIn, Layout.runOf, Layout.stateSize, messages.Places.placeOf};
+ghost use Rattle.in_place.specs.{Left.Leaves, Storing.storingAdmission};
 ghost use Rattle.whole_runs.specs.Calls as made;
-ghost use Rattle.whole_runs.specs.WholeRuns.{StatePromise};
-ghost use Rattle.words.specs.Layout.{countOf, markIn, messageIn, runOf, stateSize};
-ghost use Rattle.words.specs.messages.Places.{placeOf};
-ghost use Rattle.in_place.specs.Left.{Leaves};
-ghost use Rattle.in_place.specs.Storing.{storingAdmission};
 
 // What a deliver call answers. `rose` is the set of the receiver's entries that rose, bit f for entry f; 0 with a refusal.
 pub struct Delivered {

@@ -1,26 +1,15 @@
 // The line for a failed set: the index of every process's member goes into the lent list. Nothing else changes.
+use admissions::Admission;
 use model::CheckpointIndex;
 use model::LineAnswer;
 use model::PROCESSES;
 use model::Refusal;
-use admissions::Admission;
 use words::places;
-ghost use mathlib.Core.Path.{_≡_};
-ghost use mathlib.Core.Bool.{true};
-ghost use Prim.Native.Nat.{_≤_};
-ghost use lib.ListN.{length, getD};
-ghost use lib.Seq.{sets};
-ghost use Rattle.laws.specs.Choice.{pick};
+ghost use Rattle.laws.specs.Basics.{_≡_, true, _≤_, length, getD, sets, pick};
 ghost use Rattle.laws.specs.Lists.{table};
-ghost use Rattle.model.specs.Refusals.{noMember};
-ghost use Rattle.model.specs.Sound.{sound};
-ghost use Rattle.model.specs.Steps.{lineOf};
-ghost use Rattle.model.specs.declared.LineAnswer.the-variants.{Refused, Written};
-ghost use Rattle.model.specs.declared.Refusal.the-variants.{UnsoundState};
-ghost use Rattle.model.specs.Words.{mostProcesses};
-ghost use Rattle.whole_runs.specs.Outcomes.{lineOutcome};
-ghost use Rattle.whole_runs.specs.Sweep.{EmptyLinePromise};
-ghost use Rattle.whole_runs.specs.WholeRuns.{LinePromise};
+ghost use Rattle.model.specs.{Refusals.noMember, Sound.sound, Steps.lineOf, Words.mostProcesses};
+ghost use Rattle.model.specs.declared.{LineAnswer.the-variants.Refused, LineAnswer.the-variants.Written, Refusal.the-variants.UnsoundState};
+ghost use Rattle.whole_runs.specs.{Outcomes.lineOutcome, Sweep.EmptyLinePromise, WholeRuns.LinePromise};
 ghost use Rattle.words.specs.Layout.{countOf, runOf};
 
 // The indexes of n members go to the front of the lent list.

@@ -1,17 +1,14 @@
 // Lose: the message is no longer under way; nothing else changes.
-use words::messages::Found;
 use model::LoseAnswer;
 use model::Refusal;
-ghost use mathlib.Core.Path.{_≡_};
-ghost use mathlib.Core.Bool.{true};
+use words::messages::Found;
+ghost use Rattle.laws.specs.Basics.{_≡_, true};
 ghost use Rattle.model.specs.Sound.{sound};
-ghost use Rattle.model.specs.declared.Refusal.{Refusal};
-ghost use Rattle.model.specs.declared.LoseAnswer.the-variants.{Refused};
-ghost use Rattle.whole_runs.specs.Outcomes.{loseOutcome};
-ghost use Rattle.whole_runs.specs.Calls as made;
-ghost use Rattle.whole_runs.specs.WholeRuns.{StatePromise};
+ghost use Rattle.model.specs.declared.{Refusal.Refusal, LoseAnswer.the-variants.Refused};
+ghost use Rattle.whole_runs.specs.{Outcomes.loseOutcome, WholeRuns.StatePromise};
 ghost use Rattle.words.specs.Layout.{runOf};
 ghost use Rattle.in_place.specs.Left.{Leaves};
+ghost use Rattle.whole_runs.specs.Calls as made;
 
 // The words stand for a sound state.
 pub fn lose_on(w: &mut [u16], m: u32) -> LoseAnswer

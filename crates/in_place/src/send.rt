@@ -1,22 +1,16 @@
 // Send from i to j: the message carries i's vector, and i's sent mark is set.
+use admissions::Admission;
 use model::Message;
 use model::Refusal;
 use model::SendAnswer;
-use admissions::Admission;
 use words::places;
-ghost use mathlib.Core.Path.{_≡_};
-ghost use mathlib.Core.Bool.{true};
-ghost use Prim.Native.Nat.{_+_, _<_};
-ghost use Rattle.model.specs.Sound.{sound};
-ghost use Rattle.model.specs.declared.Refusal.{Refusal};
-ghost use Rattle.model.specs.declared.SendAnswer.the-variants.{Refused};
-ghost use Rattle.model.specs.Words.{mostUnderWay, mostMessages};
-ghost use Rattle.whole_runs.specs.Outcomes.{sendOutcome};
-ghost use Rattle.whole_runs.specs.Calls as made;
-ghost use Rattle.whole_runs.specs.WholeRuns.{StatePromise};
+ghost use Rattle.laws.specs.Basics.{_≡_, true, _+_, _<_};
+ghost use Rattle.model.specs.{Sound.sound, Words.mostUnderWay, Words.mostMessages};
+ghost use Rattle.model.specs.declared.{Refusal.Refusal, SendAnswer.the-variants.Refused};
+ghost use Rattle.whole_runs.specs.{Outcomes.sendOutcome, WholeRuns.StatePromise};
 ghost use Rattle.words.specs.Layout.{word, countOf, wide2, runOf};
-ghost use Rattle.in_place.specs.Left.{Leaves};
-ghost use Rattle.in_place.specs.Sending.{sentWords};
+ghost use Rattle.in_place.specs.{Left.Leaves, Sending.sentWords};
+ghost use Rattle.whole_runs.specs.Calls as made;
 
 // The word of a sent mark that is set.
 const SET: u16 = 1;

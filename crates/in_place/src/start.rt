@@ -5,19 +5,12 @@ use model::Refusal;
 use model::StartAnswer;
 use words::WORDS;
 use words::places;
-ghost use mathlib.Core.Path.{_≡_};
-ghost use mathlib.Core.Bool.{true};
-ghost use mathlib.Core.List.{[], _∷_};
-ghost use Prim.Native.Nat.{_≤_};
-ghost use lib.ListN.{length, getD};
-ghost use Rattle.laws.specs.Search.{allBelow};
-ghost use Rattle.laws.specs.Sums.{sumBelow};
-ghost use Rattle.model.specs.Sound.{isBlockCount};
+ghost use Rattle.laws.specs.Basics.{_≡_, true, [], _∷_, _≤_, length, getD};
+ghost use Rattle.laws.specs.{Search.allBelow, Sums.sumBelow};
+ghost use Rattle.model.specs.{Sound.isBlockCount, Words.mostProcesses};
 ghost use Rattle.model.specs.declared.StartAnswer.the-variants.{Started};
-ghost use Rattle.model.specs.Words.{mostProcesses};
 ghost use Rattle.whole_runs.specs.WholeRuns.{StartPromise};
-ghost use Rattle.words.specs.Layout.{runOf, stateSize};
-ghost use Rattle.words.specs.Clean.{Clean};
+ghost use Rattle.words.specs.{Layout.runOf, Layout.stateSize, Clean.Clean};
 ghost use Rattle.in_place.specs.Starting.{zeros, withCounts, withFirsts, startedWords, startOutcomeIn, startWords};
 
 // The own entry, and the word of checkpoint 0, which its index and the own pin have.

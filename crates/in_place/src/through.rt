@@ -3,13 +3,9 @@
 use model::LineAnswer;
 use model::Refusal;
 use words::places;
-ghost use mathlib.Core.Path.{_≡_};
-ghost use mathlib.Core.Bool.{true, false};
-ghost use Prim.Native.Nat.{_≤_};
-ghost use lib.ListN.{length};
+ghost use Rattle.laws.specs.Basics.{_≡_, true, false, _≤_, length};
 ghost use Rattle.model.specs.Sound.{sound};
-ghost use Rattle.whole_runs.specs.Earliest.{someAbsent, unfit, earliestOutcome};
-ghost use Rattle.whole_runs.specs.WholeRuns.{EarliestPromise};
+ghost use Rattle.whole_runs.specs.{Earliest.someAbsent, Earliest.unfit, Earliest.earliestOutcome, WholeRuns.EarliestPromise};
 ghost use Rattle.words.specs.Layout.{countOf, runOf};
 ghost use Rattle.words_line.specs.Through.{pairCount, namedIn};
 

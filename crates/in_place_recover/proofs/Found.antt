@@ -1,25 +1,9 @@
 -- The search for the checkpoint that a pin moves to, and what a row of known pins holds.
 -- Assumes nothing.
-use mathlib.Core.Path.{_≡_, refl, sym, _∙_, ap}
-use mathlib.Core.Bool.{Bool, true, false}
-use mathlib.Core.List.{List, [], _∷_, append-nil}
-use Prim.Native.Nat.{ℕ, zero, suc, _+_, _≤_, _<_}
-use native.Mathlib.Omega.{arith}
-use lib.Dec.{eqb}
-use lib.ListN.{length, getD, getD-replicate}
-use lib.Seq.{getD-set-same}
-use Rattle.laws.specs.Choice.{pick, by-bool, by-eq}
-use Rattle.laws.specs.Lists.{select, lastOf, table}
-use Rattle.laws.specs.Select.{select-append}
-use Rattle.laws.specs.Tables.{length-table, getD-table}
-use Rattle.laws.specs.Truth.{never-both}
-use Rattle.model.specs.declared.Interval.{Interval}
-use Rattle.model.specs.declared.Checkpoint.{Checkpoint}
-use Rattle.model.specs.declared.Pin.{Pin}
-use Rattle.model.specs.declared.Pin.the-variants.{Nothing, At}
-use Rattle.model.specs.Words.{entry, below}
-use Rattle.model.specs.Sound.{isNothing}
-use Rattle.model.specs.Steps.{advanced, latestPin}
+use Rattle.laws.specs.Basics.{_≡_, refl, sym, _∙_, ap, Bool, true, false, List, [], _∷_, append-nil, ℕ, zero, suc, _+_, _≤_, _<_, arith, eqb, length, getD, getD-replicate, getD-set-same, pick, by-bool, by-eq}
+use Rattle.laws.specs.{Lists.select, Lists.lastOf, Lists.table, Select.select-append, Tables.length-table, Tables.getD-table, Truth.never-both}
+use Rattle.model.specs.declared.{Interval.Interval, Checkpoint.Checkpoint, Pin.Pin, Pin.the-variants.Nothing, Pin.the-variants.At}
+use Rattle.model.specs.{Words.entry, Words.below, Sound.isNothing, Steps.advanced, Steps.latestPin}
 use Rattle.words.specs.Layout.{word, indexAt, storedAt, pinOf, vectorIn, checkpointIn}
 use Rattle.words.proofs.Reading.{pin-some}
 use Rattle.words_line.specs.Restored.{knownRow, foundRow, foundIn}

@@ -1,29 +1,15 @@
 -- Words that agree on what is one process's restore it alike; and what changes of other processes and of the blocks leave of it.
 -- Assumes nothing.
-use mathlib.Core.Path.{_≡_, refl, _∙_, ap}
-use mathlib.Core.Bool.{true, not, _&&_}
-use mathlib.Core.List.{List}
-use Prim.Native.Nat.{ℕ, zero, suc, _+_, _*_, _-_, _≤_, _<_}
-use native.Mathlib.Omega.{arith}
-use lib.Dec.{leb}
-use borrow.Author.Tests.{leb-true}
-use Rattle.laws.specs.Choice.{pick, by-bool}
-use Rattle.laws.specs.Lists.{select, table}
-use Rattle.laws.specs.Tables.{table-same}
-use Rattle.model.specs.declared.Interval.{Interval}
-use Rattle.model.specs.declared.Disk.{Disk}
-use Rattle.model.specs.declared.Pin.{Pin}
-use Rattle.model.specs.Words.{isPinned, Process}
-use Rattle.model.specs.Steps.{advanced}
+use Rattle.laws.specs.Basics.{_≡_, refl, _∙_, ap, true, not, _&&_, List, ℕ, zero, suc, _+_, _-_, _*_, _≤_, _<_, arith, leb, leb-true, pick, by-bool}
+use Rattle.laws.specs.{Lists.select, Lists.table, Tables.table-same}
+use Rattle.model.specs.declared.{Interval.Interval, Disk.Disk, Pin.Pin}
+use Rattle.model.specs.{Words.isPinned, Words.Process, Steps.advanced}
 use Rattle.words.specs.Frames.{OnlyProcess, OnlyDisk}
 use Rattle.words.specs.Layout.{word, keptCountAt, markAt, blocksAt, partAt, pinsAt, indexAt, storedAt, rowIn, vectorIn, pinsIn, markIn, checkpointIn}
 use Rattle.words.proofs.Frames.{process-kept-count, process-mark, process-blocks, process-part}
 use Rattle.words.proofs.Same.{row-same, vector-same, pins-same, checkpoint-same}
 use Rattle.words_line.specs.Restored.{knownRow, foundIn}
-use Rattle.words_process.specs.Kept.{Used, AllPinned}
-use Rattle.words_process.specs.Moves.{Moves}
-use Rattle.words_process.specs.Pins.{pinRow}
-use Rattle.words_process.specs.Steps.{placesOf, unpinnedIn}
+use Rattle.words_process.specs.{Kept.Used, Kept.AllPinned, Moves.Moves, Pins.pinRow, Steps.placesOf, Steps.unpinnedIn}
 use Rattle.in_place_recover.specs.Restored.{goesBack, restoredVector, restoredPins, restoredPart, restoredGone, Restorable, SameProcess}
 
 module _ (w v : List ℕ) (p : ℕ) (room : p < 16) (same : SameProcess w v p) where

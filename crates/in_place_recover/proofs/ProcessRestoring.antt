@@ -1,42 +1,18 @@
 -- A process goes back to its member or stays live, and then has the pins of a recovery: what that leaves is what specs/Restored says.
 -- Assumes nothing.
-use mathlib.Core.Path.{_≡_, refl, sym, _∙_, ap}
-use mathlib.Core.Bool.{true, false, not}
-use mathlib.Core.List.{List, [], _∷_}
-use Prim.Native.Nat.{ℕ, zero, suc, _+_, _*_, _-_, _≤_, _<_}
-use native.Mathlib.Omega.{arith}
-use lib.Dec.{eqb}
-use lib.ListN.{length, getD, length-set}
-use lib.Seq.{sets, ext-getD}
-use borrow.Author.Tests.{le-leb, lt-leb, eqb-true}
-use Rattle.laws.specs.Elements.{every-table}
-use Rattle.laws.specs.Lists.{select, table}
-use Rattle.laws.specs.Rows.{and-true}
-use Rattle.laws.specs.Search.{allBelow, all-out}
-use Rattle.laws.specs.Select.{all-chosen, none-chosen}
-use Rattle.laws.specs.Choice.{pick, by-bool}
-use Rattle.laws.specs.Tables.{getD-table, table-same}
-use Rattle.laws.specs.Tests.{every}
-use Rattle.laws.specs.Truth.{and-no-right}
-use Rattle.model.specs.declared.Interval.{Interval}
-use Rattle.model.specs.declared.Pin.{Pin}
-use Rattle.model.specs.Words.{entry, isPinned}
-use Rattle.model.specs.Steps.{listed, billed, advanced}
+use Rattle.laws.specs.Basics.{_≡_, refl, sym, _∙_, ap, true, false, not, List, [], _∷_, ℕ, zero, suc, _+_, _-_, _*_, _≤_, _<_, arith, eqb, length, getD, length-set, sets, eqb-true, le-leb, lt-leb, pick, by-bool}
+use lib.Seq.{ext-getD}
+use Rattle.laws.specs.{Elements.every-table, Lists.select, Lists.table, Rows.and-true, Search.allBelow, Search.all-out, Select.all-chosen, Select.none-chosen}
+use Rattle.laws.specs.{Tables.getD-table, Tables.table-same, Tests.every, Truth.and-no-right}
+use Rattle.model.specs.declared.{Interval.Interval, Pin.Pin}
+use Rattle.model.specs.{Words.entry, Words.isPinned, Steps.listed, Steps.billed, Steps.advanced}
 use Rattle.whole_runs.specs.Outcomes.{pairs}
-use Rattle.words.specs.Clean.{CleanKept}
-use Rattle.words.specs.Frames.{OnlyProcess}
+use Rattle.words.specs.{Clean.CleanKept, Frames.OnlyProcess, Parts.processIn, Puts.Put, Puts.puts, Puts.one, Puts.vectorPut}
 use Rattle.words.specs.Layout.{word, wide4, keptCountAt, markAt, blocksAt, partAt, pinsAt, indexAt, causeAt, storedAt, rowIn, vectorIn, pinsIn, markIn, checkpointIn}
-use Rattle.words.specs.Parts.{processIn}
-use Rattle.words.specs.Puts.{Put, puts, one, vectorPut}
-use Rattle.words.proofs.Frames.{process-then, process-stays, disk-stays}
-use Rattle.words.proofs.Reading.{puts-length, untouched, touched}
+use Rattle.words.proofs.{Frames.process-then, Frames.process-stays, Frames.disk-stays, Reading.puts-length, Reading.untouched, Reading.touched, View.kept-table}
 use Rattle.words.proofs.Same.{row-length, vector-length, vector-same, vector-is, checkpoint-moved}
-use Rattle.words.proofs.View.{kept-table}
 use Rattle.words_line.specs.Restored.{knownRow, foundIn}
-use Rattle.words_process.specs.Kept.{Used, AllPinned}
-use Rattle.words_process.specs.Moves.{diskIn, Moves}
-use Rattle.words_process.specs.Pins.{pinRow}
-use Rattle.words_process.specs.Steps.{placesOf, unpinnedIn}
+use Rattle.words_process.specs.{Kept.Used, Kept.AllPinned, Moves.diskIn, Moves.Moves, Pins.pinRow, Steps.placesOf, Steps.unpinnedIn}
 use Rattle.words_process.proofs.PinRows.{pins-row}
 use Rattle.in_place_recover.proofs.Found.{known-at, known-length}
 use Rattle.in_place_recover.specs.Restored.{goesBack, restoredVector, restoredPins, pinnedPart, restoredPart, restoredGone}

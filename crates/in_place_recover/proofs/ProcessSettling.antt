@@ -1,22 +1,11 @@
 -- A process whose pins are put, and which is then collected: what that leaves of the words.
 -- Assumes nothing.
-use mathlib.Core.Path.{_≡_, refl, _∙_, ap}
-use mathlib.Core.Bool.{not}
-use mathlib.Core.List.{List, [], _∷_}
-use Prim.Native.Nat.{ℕ, _+_, _*_, _≤_, _<_}
-use native.Mathlib.Omega.{arith}
-use lib.ListN.{length, set}
+use Rattle.laws.specs.Basics.{_≡_, refl, _∙_, ap, not, List, [], _∷_, ℕ, _+_, _*_, _≤_, _<_, arith, length, set}
 use Rattle.laws.specs.Lists.{select, table}
-use Rattle.model.specs.Words.{isPinned}
-use Rattle.model.specs.Steps.{billed}
-use Rattle.words.specs.Frames.{OnlyDisk}
-use Rattle.words.specs.Layout.{word, wide4, keptCountAt, markIn, checkpointIn}
-use Rattle.words.specs.Puts.{puts, one}
+use Rattle.model.specs.{Words.isPinned, Steps.billed}
+use Rattle.words.specs.{Frames.OnlyDisk, Layout.word, Layout.wide4, Layout.keptCountAt, Layout.markIn, Layout.checkpointIn, Puts.puts, Puts.one}
 use Rattle.words.proofs.Reading.{set-is-put}
-use Rattle.words_process.specs.Kept.{AllPinned, Collected}
-use Rattle.words_process.specs.Moves.{diskIn, Moves}
-use Rattle.words_process.specs.Pins.{pinRow}
-use Rattle.words_process.specs.Steps.{placesOf, unpinnedIn}
+use Rattle.words_process.specs.{Kept.AllPinned, Kept.Collected, Moves.diskIn, Moves.Moves, Pins.pinRow, Steps.placesOf, Steps.unpinnedIn}
 use Rattle.words_process.proofs.Settling.{pinned, pinned-places, Then, kept-only, moves-then, then-disk}
 use Rattle.in_place_recover.specs.Restored.{pinnedPart}
 

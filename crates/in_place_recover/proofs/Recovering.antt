@@ -1,52 +1,26 @@
 -- The recover call: what its outcome is, by the lengths of the lists, the failed set, and whether each process has a member; and what an accepted one leaves.
 -- Assumes nothing.
-use mathlib.Core.Path.{_≡_, refl, sym, _∙_, ap}
-use mathlib.Core.Bool.{true, false, false≢true, not, _||_}
-use mathlib.Core.List.{List}
-use mathlib.Core.Option.{none, some}
-use Prim.Native.Nat.{ℕ, zero, suc, _+_, _*_, _^_, _≤_, _<_}
-use native.Mathlib.Omega.{arith}
-use lib.Dec.{ltb, leb}
-use lib.ListN.{length, getD}
-use lib.Seq.{sets}
-use Rattle.laws.specs.Choice.{by-bool}
-use Rattle.laws.specs.Counting.{count-same}
-use Rattle.laws.specs.Lists.{select, gather, table}
-use Rattle.laws.specs.Sums.{sumBelow, sum-same}
-use Rattle.laws.specs.Tables.{gather-same}
-use Rattle.laws.specs.Tests.{countBelow}
-use Rattle.model.specs.declared.CheckpointIndex.{CheckpointIndex}
-use Rattle.model.specs.declared.Disk.{Disk}
-use Rattle.model.specs.declared.Interval.{Interval}
-use Rattle.model.specs.declared.Message.{Message}
-use Rattle.model.specs.declared.Refusal.{Refusal}
-use Rattle.model.specs.declared.Refusal.the-variants.{UnsoundState, ListTooShort, NoSuchFailedProcess}
-use Rattle.model.specs.declared.RecoverAnswer.{RecoverAnswer}
+use Rattle.laws.specs.Basics.{_≡_, refl, sym, _∙_, ap, true, false, not, _||_, false≢true, List, none, some, ℕ, zero, suc, _+_, _*_, _^_, _≤_, _<_, arith, ltb, leb, length, getD, sets, by-bool}
+use Rattle.laws.specs.{Counting.count-same, Lists.select, Lists.gather, Lists.table, Sums.sumBelow, Sums.sum-same, Tables.gather-same, Tests.countBelow}
+use Rattle.model.specs.declared.{CheckpointIndex.CheckpointIndex, Disk.Disk, Interval.Interval, Message.Message, Refusal.Refusal, RecoverAnswer.RecoverAnswer}
+use Rattle.model.specs.declared.{Refusal.the-variants.UnsoundState, Refusal.the-variants.ListTooShort, Refusal.the-variants.NoSuchFailedProcess, Run.Run}
 use Rattle.model.specs.declared.RecoverAnswer.the-variants.{Refused, Recovered}
-use Rattle.model.specs.declared.Run.{Run}
-use Rattle.model.specs.Words.{Process, blocksOf, withProcess, withMessages, withDisk}
-use Rattle.model.specs.Sound.{sound}
+use Rattle.model.specs.{Words.Process, Words.blocksOf, Words.withProcess, Words.withMessages, Words.withDisk, Sound.sound, laws.Refusals.refusal-in}
 use Rattle.model.specs.Steps.{Deletion, listed, billed, withProcesses, rolledBack, recovered, stillUnderWay, goneAt, deletedAt, recoverState, recoverDeletions, rolledBackCount}
 use Rattle.model.specs.Refusals.{outside, noMember, shortDeletions, shortLine, recoverRefusal}
-use Rattle.model.specs.laws.Refusals.{refusal-in}
-use Rattle.admissions.specs.declared.Admission.the-variants as admission
 use Rattle.admissions.specs.Admissions.{recoveryAdmission}
 use Rattle.whole_runs.specs.Outcomes.{pairs, recoverOutcome}
 use Rattle.words.specs.Layout.{word, wide2, countOf, endOf, senderAt, isMessage, messagesIn, runOf}
-use Rattle.words.proofs.View.{count-is, last-is, fits-size}
-use Rattle.words.proofs.ViewChange.{with-messages, message-words-same, messages-same}
-use Rattle.words.proofs.ViewClean.{clean-messages}
-use Rattle.words.proofs.ViewSound.{sound-words}
-use Rattle.words_line.specs.Line.{limitsIn, hasMembers, pastsIn, indexesIn}
-use Rattle.words_line.proofs.LineRule.{pasts-length, all-found, line-is}
+use Rattle.words.proofs.{View.count-is, View.last-is, View.fits-size, ViewChange.with-messages, ViewChange.message-words-same, ViewChange.messages-same}
+use Rattle.words.proofs.{ViewClean.clean-messages, ViewSound.sound-words}
+use Rattle.words_line.specs.{Line.limitsIn, Line.hasMembers, Line.pastsIn, Line.indexesIn, Sifted.lostTo, Sifted.SendersPresent, Sifted.Sifted}
+use Rattle.words_line.proofs.{LineRule.pasts-length, LineRule.all-found, LineRule.line-is, Lost.senders-present, Lost.still-are}
 use Rattle.in_place_recover.specs.Restored.{goesBack, ownsAfter, AllReturn}
 use Rattle.in_place_recover.proofs.Recovery.{rolled, recovered-is, gone-is, restorable, all-return}
-use Rattle.words_line.specs.Sifted.{lostTo, SendersPresent, Sifted}
-use Rattle.words_line.proofs.Lost.{senders-present, still-are}
 use Rattle.in_place.specs.Left.{Leaves}
 use Rattle.in_place_recover.specs.Recovering.{partThen, goneThen, lossesThen, diskThen, AllRestorable, Restored}
-use Rattle.in_place.proofs.Checkpointing.{disk-is}
-use Rattle.in_place.proofs.Leaving.{same-words}
+use Rattle.in_place.proofs.{Checkpointing.disk-is, Leaving.same-words}
+use Rattle.admissions.specs.declared.Admission.the-variants as admission
 
 -- What a recovery of the words w for the failed set F, with the lists `lent` and `line`, answers and leaves.
 abbrev pub Left : List ℕ → ℕ → List ℕ → List ℕ → RecoverAnswer → List ℕ → List ℕ → List ℕ → Type 0

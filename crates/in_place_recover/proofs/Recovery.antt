@@ -1,47 +1,21 @@
 -- The recovery of one process on the words says what Steps says of the run that sound words stand for.
 -- Assumes nothing.
-use mathlib.Core.Path.{_≡_, sym, _∙_, ap}
-use mathlib.Core.Bool.{Bool, true, false, not, _&&_}
-use mathlib.Core.List.{List, []}
-use Prim.Native.Nat.{ℕ, _+_, _*_, _-_, _≤_, _<_}
-use native.Mathlib.Omega.{arith}
-use lib.Dec.{eqb, leb}
-use lib.ListN.{length, getD, getD-replicate}
-use lib.Seq.{getD-set-other}
-use borrow.Author.Tests.{lt-ltb, le-ltb, le-leb, lt-leb, leb-true, eq-eqb, ne-eqb, eqb-true}
-use Rattle.laws.specs.Choice.{pick, by-bool, by-eq, pick-same}
-use Rattle.laws.specs.Elements.{every-table}
-use Rattle.laws.specs.Lists.{select, lastOf, table}
-use Rattle.laws.specs.Prefixes.{select-none}
-use Rattle.laws.specs.Rows.{by-lt, every-beyond}
-use Rattle.laws.specs.Search.{anyBelow, any-in, any-out}
-use Rattle.laws.specs.Select.{all-chosen}
-use Rattle.laws.specs.Tables.{getD-table, table-same}
-use Rattle.laws.specs.Tests.{some-of}
-use Rattle.laws.specs.Truth.{never-both}
-use Rattle.model.specs.declared.Interval.{Interval}
-use Rattle.model.specs.declared.Checkpoint.{Checkpoint}
-use Rattle.model.specs.declared.Pin.{Pin}
-use Rattle.model.specs.declared.Pin.the-variants.{Nothing}
-use Rattle.model.specs.declared.Run.{Run}
+use Rattle.laws.specs.Basics.{_≡_, sym, _∙_, ap, Bool, true, false, not, _&&_, List, [], ℕ, _+_, _-_, _*_, _≤_, _<_, arith, eqb, leb, length, getD, getD-replicate, getD-set-other, eq-eqb, ne-eqb, eqb-true, lt-ltb, le-ltb, le-leb, lt-leb, leb-true, pick, by-bool, by-eq}
+use Rattle.laws.specs.{Choice.pick-same, Elements.every-table, Lists.select, Lists.lastOf, Lists.table, Prefixes.select-none, Rows.by-lt, Rows.every-beyond}
+use Rattle.laws.specs.{Search.anyBelow, Search.any-in, Search.any-out, Select.all-chosen, Tables.getD-table, Tables.table-same, Tests.some-of, Truth.never-both}
+use Rattle.model.specs.declared.{Interval.Interval, Checkpoint.Checkpoint, Pin.Pin, Pin.the-variants.Nothing, Run.Run}
 use Rattle.model.specs.Words.{entry, below, isPinned, names, zeroVector, live, Process, process, own, blocksOf}
-use Rattle.model.specs.Refusals.{noMember}
-use Rattle.model.specs.Sound.{isNothing, nothingFrom, sound}
+use Rattle.model.specs.{Refusals.noMember, Sound.isNothing, Sound.nothingFrom, Sound.sound}
 use Rattle.model.specs.Steps.{advanced, member, rolledBack, vectorAfter, notLost, ownAfter, latestPin, movedPin, pinAfter, pinsAfter, recovered, goneAt}
 use Rattle.words.specs.Layout.{word, countOf, keptCountAt, blocksAt, partAt, pinsAt, indexAt, storedAt, intervalOf, indexOf, pinOf, rowIn, vectorIn, pinsIn, markIn, checkpointIn, decoded, runOf}
 use Rattle.words.specs.Parts.{processIn}
-use Rattle.words.proofs.Same.{row-word, vector-length, vector-word, pins-length}
-use Rattle.words.proofs.View.{run-fits, count-is, part-past}
+use Rattle.words.proofs.{Same.row-word, Same.vector-length, Same.vector-word, Same.pins-length, View.run-fits, View.count-is, View.part-past}
 use Rattle.words.proofs.ViewRows.{vector-zero, stored-zero, kept-pinned}
 use Rattle.words.proofs.ViewSound.{SoundPart, sound-fits, sound-few, sound-known, sound-process-is, sound-own-is, sound-part}
-use Rattle.words_line.specs.Line.{limitsIn, pastLatest, stateIn, hasMembers, pastsIn}
-use Rattle.words_line.specs.Restored.{foundIn}
+use Rattle.words_line.specs.{Line.limitsIn, Line.pastLatest, Line.stateIn, Line.hasMembers, Line.pastsIn, Restored.foundIn}
 use Rattle.words_line.proofs.LineRule.{past-most, pasts-length, member-is, all-found, past-at, past-beyond, found-one}
-use Rattle.words_process.specs.Kept.{Used, AllPinned}
-use Rattle.words_process.specs.Pins.{pinRow}
-use Rattle.words_process.specs.Steps.{placesOf, unpinnedIn}
-use Rattle.words_process.proofs.PinRows.{pinned-row, pins-row, row-pin}
-use Rattle.words_process.proofs.Stepping.{selected-blocks}
+use Rattle.words_process.specs.{Kept.Used, Kept.AllPinned, Pins.pinRow, Steps.placesOf, Steps.unpinnedIn}
+use Rattle.words_process.proofs.{PinRows.pinned-row, PinRows.pins-row, PinRows.row-pin, Stepping.selected-blocks}
 use Rattle.in_place_recover.specs.Restored.{goesBack, restoredVector, restoredOwn, ownsAfter, restoredPins, restoredPart, restoredGone, Returns, AllReturn, Restorable}
 use Rattle.in_place_recover.proofs.Found.{select-alike, select-short, found-is, found-under, known-at, pick-least, pin-pick, nothing-is, advanced-own}
 

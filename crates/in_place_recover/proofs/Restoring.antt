@@ -1,45 +1,25 @@
 -- Process after process as it is after a recovery: the run that the words stand for when the first k are done, what they still hold of the others, and the list of what
 -- is deleted.
 -- Assumes nothing.
-use mathlib.Core.Path.{_≡_, refl, sym, _∙_, ap}
-use mathlib.Core.Bool.{Bool, true, not}
-use mathlib.Core.List.{List, [], _∷_, _++_}
-use Prim.Native.Nat.{ℕ, zero, suc, _+_, _*_, _≤_, _<_}
+use Rattle.laws.specs.Basics.{_≡_, refl, sym, _∙_, ap, Bool, true, not, List, [], _∷_, _++_, ℕ, zero, suc, _+_, _*_, _≤_, _<_, arith, length, getD, length-append, sets, by-bool, by-eq}
 use native.Mathlib.Nat.{suc-mul, mul-le-mul-right, mul-assoc}
 use native.Mathlib.Numerals.{add-one}
-use native.Mathlib.Omega.{arith}
-use lib.ListN.{length, getD, length-append, length-map}
-use lib.Seq.{sets}
-use Rattle.laws.specs.Choice.{by-bool, by-eq}
-use Rattle.laws.specs.Lists.{select, gather, table}
-use Rattle.laws.specs.Select.{select-length}
-use Rattle.laws.specs.Sums.{sumBelow, sum-le, length-gather}
-use Rattle.laws.specs.Tables.{length-table}
+use lib.ListN.{length-map}
+use Rattle.laws.specs.{Lists.select, Lists.gather, Lists.table, Select.select-length, Sums.sumBelow, Sums.sum-le, Sums.length-gather, Tables.length-table}
 use Rattle.laws.specs.Written.{sets-after}
-use Rattle.model.specs.declared.Checkpoint.{Checkpoint}
-use Rattle.model.specs.declared.Disk.{Disk}
-use Rattle.model.specs.declared.Interval.{Interval}
-use Rattle.model.specs.declared.Run.{Run}
-use Rattle.model.specs.Words.{isPinned, Process, blocksOf, process, withProcess, withDisk}
-use Rattle.model.specs.Sound.{sound, keptBlocks}
-use Rattle.model.specs.laws.Sound.{sound-state}
-use Rattle.model.specs.Steps.{Deletion, listed, billed, withProcesses}
+use Rattle.model.specs.declared.{Checkpoint.Checkpoint, Disk.Disk, Interval.Interval, Run.Run}
+use Rattle.model.specs.{Words.isPinned, Words.Process, Words.blocksOf, Words.process, Words.withProcess, Words.withDisk, Sound.sound, Sound.keptBlocks}
+use Rattle.model.specs.{laws.Sound.sound-state, Steps.Deletion, Steps.listed, Steps.billed, Steps.withProcesses}
 use Rattle.whole_runs.specs.Outcomes.{pairs}
-use Rattle.words.specs.Layout.{word, countOf, keptCountAt, blocksAt, checkpointIn, runOf}
-use Rattle.words.specs.Parts.{processIn}
-use Rattle.words.proofs.Frames.{process-head, process-message-words}
-use Rattle.words.proofs.View.{count-is, written-is, deleted-is, fits-size}
-use Rattle.words.proofs.ViewChange.{process-fits, disk-fits}
-use Rattle.words.proofs.ViewSound.{sound-words, sound-part, sound-process-is}
-use Rattle.words_process.specs.Moves.{diskIn, Moves}
-use Rattle.words_process.specs.Pins.{pinRow}
-use Rattle.words_process.specs.Steps.{placesOf, unpinnedIn}
+use Rattle.words.specs.{Layout.word, Layout.countOf, Layout.keptCountAt, Layout.blocksAt, Layout.checkpointIn, Layout.runOf, Parts.processIn}
+use Rattle.words.proofs.{Frames.process-head, Frames.process-message-words, View.count-is, View.written-is, View.deleted-is, View.fits-size}
+use Rattle.words.proofs.{ViewChange.process-fits, ViewChange.disk-fits, ViewSound.sound-words, ViewSound.sound-part, ViewSound.sound-process-is}
+use Rattle.words_process.specs.{Moves.diskIn, Moves.Moves, Pins.pinRow, Steps.placesOf, Steps.unpinnedIn}
 use Rattle.words_process.proofs.Stepping.{selected-blocks}
 use Rattle.in_place_recover.specs.Restored.{restoredPins, restoredPart, restoredGone, SameProcess, Restorable}
 use Rattle.in_place_recover.proofs.Frame.{restored-same, gone-same, restorable-same, same-stays, same-moves}
 use Rattle.in_place_recover.specs.Recovering.{partThen, goneThen, lossesThen, diskThen, Restored}
-use Rattle.in_place.proofs.Checkpointing.{disk-is}
-use Rattle.in_place.proofs.Moving.{moved-run, moved-leaves}
+use Rattle.in_place.proofs.{Checkpointing.disk-is, Moving.moved-run, Moving.moved-leaves}
 
 -- Blocks deleted, and then more of them.
 billed-none : (d : Disk) → d ≡ billed d 0 0

@@ -1,19 +1,10 @@
 -- A recovery on the words, process after process: `pasts` has one above the place of each process's member in the line, `owns` the own entries after the recovery.
 -- Assumes nothing.
-use mathlib.Core.Path.{_≡_}
-use mathlib.Core.Bool.{true}
-use mathlib.Core.List.{List}
-use Prim.Native.Nat.{ℕ, _≤_, _<_}
-use lib.ListN.{length, getD}
-use Rattle.laws.specs.Lists.{gather}
-use Rattle.laws.specs.Sums.{sumBelow}
-use Rattle.model.specs.declared.Interval.{Interval}
-use Rattle.model.specs.declared.Checkpoint.{Checkpoint}
-use Rattle.model.specs.declared.Disk.{Disk}
-use Rattle.model.specs.Words.{Process, blocksOf, withDisk, mostProcesses}
-use Rattle.model.specs.Steps.{Deletion, listed, billed, withProcesses}
-use Rattle.words.specs.Clean.{Clean}
-use Rattle.words.specs.Layout.{word, endOf, fits, runOf}
+use Rattle.laws.specs.Basics.{_≡_, true, List, ℕ, _≤_, _<_, length, getD}
+use Rattle.laws.specs.{Lists.gather, Sums.sumBelow}
+use Rattle.model.specs.declared.{Interval.Interval, Checkpoint.Checkpoint, Disk.Disk}
+use Rattle.model.specs.{Words.Process, Words.blocksOf, Words.withDisk, Words.mostProcesses, Steps.Deletion, Steps.listed, Steps.billed, Steps.withProcesses}
+use Rattle.words.specs.{Clean.Clean, Layout.word, Layout.endOf, Layout.fits, Layout.runOf}
 use Rattle.words_process.specs.Moves.{diskIn}
 use Rattle.in_place_recover.specs.Restored.{restoredPart, restoredGone, Restorable, SameProcess}
 

@@ -1,24 +1,13 @@
 -- What a recovery leaves of one process, on the words. Its states are the checkpoints that it keeps, in their places, and after them the live one; `past` is one above
 -- the place of its member in the line. proofs/Recovery has that they say what Steps says of the run.
 -- Assumes nothing.
-use mathlib.Core.Path.{_≡_}
-use mathlib.Core.Bool.{Bool, _&&_, not}
-use mathlib.Core.List.{List}
-use Prim.Native.Nat.{ℕ, _+_, _-_, _≤_, _<_}
-use lib.Dec.{ltb, leb}
-use lib.ListN.{length, getD}
-use Rattle.laws.specs.Choice.{pick}
+use Rattle.laws.specs.Basics.{_≡_, Bool, not, _&&_, List, ℕ, _+_, _-_, _≤_, _<_, ltb, leb, length, getD, pick}
 use Rattle.laws.specs.Lists.{select, table}
-use Rattle.model.specs.declared.Interval.{Interval}
-use Rattle.model.specs.declared.Pin.{Pin}
-use Rattle.model.specs.declared.Checkpoint.{Checkpoint}
-use Rattle.model.specs.Words.{mostProcesses, isPinned, Process, mostInterval}
-use Rattle.model.specs.Steps.{advanced}
+use Rattle.model.specs.declared.{Interval.Interval, Pin.Pin, Checkpoint.Checkpoint}
+use Rattle.model.specs.{Words.mostProcesses, Words.isPinned, Words.Process, Words.mostInterval, Steps.advanced}
 use Rattle.words.specs.Layout.{word, keptCountAt, markAt, blocksAt, partAt, pinsAt, storedAt, intervalOf, rowIn, vectorIn, pinsIn, markIn}
 use Rattle.words_line.specs.Restored.{knownRow, foundIn}
-use Rattle.words_process.specs.Kept.{Used, AllPinned}
-use Rattle.words_process.specs.Pins.{pinRow}
-use Rattle.words_process.specs.Steps.{placesOf, unpinnedIn}
+use Rattle.words_process.specs.{Kept.Used, Kept.AllPinned, Pins.pinRow, Steps.placesOf, Steps.unpinnedIn}
 
 -- "A process whose member is stored": the member is one of the kept checkpoints.
 abbrev pub goesBack : List ℕ → ℕ → ℕ → Bool

@@ -1,33 +1,23 @@
 // The recovery of a failed set: each process goes back to its member of the line, its pins are moved and what no pin names is deleted; the messages that were sent up
 // to the line stay under way. For the empty set nobody goes back: it is a sweep.
+use admissions::Admission;
 use model::Interval;
 use model::PROCESSES;
 use model::RecoverAnswer;
 use model::Refusal;
-use admissions::Admission;
 use words::places;
-ghost use mathlib.Core.Path.{_≡_};
-ghost use mathlib.Core.Bool.{true};
-ghost use Prim.Native.Nat.{_*_, _≤_, _<_};
-ghost use lib.ListN.{length, getD};
-ghost use lib.Seq.{sets};
-ghost use Rattle.laws.specs.Choice.{pick};
+ghost use Rattle.laws.specs.Basics.{_≡_, true, _*_, _≤_, _<_, length, getD, sets, pick};
 ghost use Rattle.laws.specs.Tests.{countBelow};
-ghost use Rattle.model.specs.Sound.{sound};
-ghost use Rattle.model.specs.declared.Refusal.{Refusal};
-ghost use Rattle.model.specs.declared.RecoverAnswer.the-variants.{Refused};
-ghost use Rattle.model.specs.Words.{mostProcesses};
+ghost use Rattle.model.specs.{Sound.sound, Words.mostProcesses};
+ghost use Rattle.model.specs.declared.{Refusal.Refusal, RecoverAnswer.the-variants.Refused};
 ghost use Rattle.admissions.specs.declared.Admission.the-variants.{Accepted};
 ghost use Rattle.admissions.specs.Admissions.{recoveryAdmission};
-ghost use Rattle.whole_runs.specs.Outcomes.{pairs, recoverOutcome};
-ghost use Rattle.whole_runs.specs.Calls as made;
-ghost use Rattle.whole_runs.specs.Clean.{CleanPromise};
-ghost use Rattle.whole_runs.specs.Sweep.{SweepPromise};
+ghost use Rattle.whole_runs.specs.{Outcomes.pairs, Outcomes.recoverOutcome, Clean.CleanPromise, Sweep.SweepPromise};
 ghost use Rattle.whole_runs.specs.WholeRuns.{LinePromise, StatePromise};
 ghost use Rattle.words.specs.Layout.{countOf, runOf, stateSize};
-ghost use Rattle.in_place_recover.specs.Restored.{goesBack};
+ghost use Rattle.in_place_recover.specs.{Restored.goesBack, Recovering.lossesThen, Recovering.AllRestorable, Recovering.Restored};
 ghost use Rattle.in_place.specs.Left.{Leaves};
-ghost use Rattle.in_place_recover.specs.Recovering.{lossesThen, AllRestorable, Restored};
+ghost use Rattle.whole_runs.specs.Calls as made;
 
 // process.rt: the recovery of one process, on its part of the words
 pub mod process;

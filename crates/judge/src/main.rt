@@ -2,10 +2,9 @@
 // when, is stated and proved in `judge_machine`: this program only obeys.
 
 use machines::Request;
-ghost use lib.ListN.{length};
+ghost use Rattle.laws.specs.Basics.{length};
 ghost use Rattle.machines.specs.Machines.{Ended};
-ghost use Rattle.machine_judge.specs.Judging.{judging};
-ghost use Rattle.machine_judge.specs.Words.{EnoughRoom, stateOf};
+ghost use Rattle.machine_judge.specs.{Judging.judging, Words.EnoughRoom, Words.stateOf};
 
 // Each request is obeyed, and what came of it handed back, until the machine stops.
 fn drive(memory: &mut [u64], input: &mut [u8], out: &mut [u8]) -> Request

@@ -1,21 +1,11 @@
 -- What a step of the console leaves in the lent lists, by whether they are too short.
 -- Assumes nothing.
-use mathlib.Core.Path.{_≡_, refl, sym, _∙_, subst}
-use mathlib.Core.Bool.{Bool, true, false, _&&_, false≢true}
-use mathlib.Core.List.{List}
-use Prim.Native.Nat.{ℕ, _≤_, _<_}
-use lib.Dec.{ltb, leb}
-use lib.ListN.{length}
-use lib.Seq.{sets}
-use borrow.Author.Tests.{lt-ltb, le-ltb, lt-leb, le-leb}
+use Rattle.laws.specs.Basics.{_≡_, refl, sym, _∙_, subst, Bool, true, false, _&&_, false≢true, List, ℕ, _≤_, _<_, ltb, leb, length, sets, lt-ltb, le-ltb, le-leb, lt-leb}
+use Rattle.machines.specs.{Machines.stepped, Forms.answerOf, Packed.packed, Packed.unpacked}
+use Rattle.machine_console.specs.{Consoling.Opening, Consoling.consoling, Lent.hasRoom, Lent.stateOf, Lent.placeOf, Lent.StandsFor}
+use Rattle.lemidrosy.specs.ConsoleSteps.{ConsoleBegun, ConsoleStepped}
 use Rattle.machines.specs.declared.Request as requests
 use Rattle.machines.specs.declared.Answer as answers
-use Rattle.machines.specs.Machines.{stepped}
-use Rattle.machines.specs.Forms.{answerOf}
-use Rattle.machines.specs.Packed.{packed, unpacked}
-use Rattle.machine_console.specs.Consoling.{Opening, consoling}
-use Rattle.machine_console.specs.Lent.{hasRoom, stateOf, placeOf, StandsFor}
-use Rattle.lemidrosy.specs.ConsoleSteps.{ConsoleBegun, ConsoleStepped}
 
 module _ (words memory input out request : List ℕ) where
   abbrev enoughRoom : Bool

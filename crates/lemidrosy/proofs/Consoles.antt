@@ -1,48 +1,30 @@
 -- The report of every console call fits the fields of its number, whoever asks, and whatever the state and the arguments.
 -- Assumes nothing.
-use mathlib.Core.Path.{_≡_, refl}
-use mathlib.Core.Bool.{Bool, true, false}
-use mathlib.Core.List.{List, []}
-use mathlib.Core.Option.{Option, none, some}
-use Prim.Native.Nat.{ℕ, _≤_, _<_}
-use native.Mathlib.Omega.{arith}
-use lib.ListN.{length, getD, take, length-map, length-take}
-use lib.Seq.{sets}
-use Rattle.laws.specs.Choice.{pick, by-bool}
-use Rattle.model.specs.declared.Run.{Run}
-use Rattle.model.specs.declared.Named.{Named}
-use Rattle.model.specs.declared.Refusal.the-variants.{Denied, UnsoundState}
+use Rattle.laws.specs.Basics.{_≡_, refl, Bool, true, false, List, [], Option, none, some, ℕ, _≤_, _<_, arith, length, getD, take, sets, pick, by-bool}
+use lib.ListN.{length-map, length-take}
+use Rattle.model.specs.declared.{Run.Run, Named.Named, Refusal.the-variants.Denied, Refusal.the-variants.UnsoundState, LineAnswer.LineAnswer}
+use Rattle.model.specs.{Refusals.firstOf, Sound.sound, Steps.Deletion, Steps.listed, Words.process, laws.Refusals.by-refusal, laws.Sound.sound-state}
+use Rattle.whole_runs.proofs.{Sizes.few-processes, whole.Handed.gather-length}
+use Rattle.whole_runs.specs.Outcomes.{Outcome, judged, pairs, Report, startReport, checkpointReport, checkpointOutcome, sendReport, sendOutcome, deliverReport, deliverOutcome, loseReport, loseOutcome, lineReport, lineOutcome, recoverReport, recoverOutcome}
+use Rattle.whole_runs.specs.Earliest.{earliestOutcome}
+use Rattle.listing.specs.answers.Codes.{Fits}
+use Rattle.listing.proofs.answers.Fit.{fits-refused, fits-value, fits-none, checkpoint-fits, send-fits, deliver-fits, lose-fits, line-fits, recover-fits, earliest-fits}
+use Rattle.theory_roles.specs.declared.{Caller.Caller, ListAnswer.ListAnswer}
+use Rattle.theory_roles.specs.declared.Operation.the-variants.{Start, Checkpoint, Send, Deliver, Lose, Recover, Line, Earliest, List as Catalogue, Counts}
+use Rattle.theory_roles.specs.Console.{denied, deniedProcess, deniedMessage, denial, entitled, shown, consoleCheckpoint, consoleSend, consoleDeliver, consoleLose, consoleRecover, consoleLine, consoleEarliest, consoleList, listRefusal, listedTo, listReport, consoleCounts, countsRefusal, keptCounts}
+use Rattle.words.specs.Layout.{runOf}
+use Rattle.in_place.specs.Starting.{startOutcomeIn}
+use Rattle.library_console.specs.declared.{denied.Claim.Claim, denied.Claim.the-variants.Unknown, denied.Claim.the-variants.As}
+use Rattle.library_console.specs.Asked.{claimOf, asked, consoleStartIn, startAs, checkpointAs, sendAs, deliverAs, loseAs, recoverAs, lineAs, earliestAs, listAs, countsAs}
+use Rattle.lemidrosy.proofs.Starting.{start-fits}
 use Rattle.model.specs.declared.StartAnswer.the-variants as start-answer
 use Rattle.model.specs.declared.CheckpointAnswer.the-variants as checkpoint-answer
 use Rattle.model.specs.declared.SendAnswer.the-variants as send-answer
 use Rattle.model.specs.declared.DeliverAnswer.the-variants as deliver-answer
 use Rattle.model.specs.declared.LoseAnswer.the-variants as lose-answer
 use Rattle.model.specs.declared.RecoverAnswer.the-variants as recover-answer
-use Rattle.model.specs.declared.LineAnswer.{LineAnswer}
 use Rattle.model.specs.declared.LineAnswer.the-variants as line-answer
-use Rattle.model.specs.Refusals.{firstOf}
-use Rattle.model.specs.Sound.{sound}
-use Rattle.model.specs.Steps.{Deletion, listed}
-use Rattle.model.specs.Words.{process}
-use Rattle.model.specs.laws.Refusals.{by-refusal}
-use Rattle.model.specs.laws.Sound.{sound-state}
-use Rattle.whole_runs.proofs.Sizes.{few-processes}
-use Rattle.whole_runs.proofs.whole.Handed.{gather-length}
-use Rattle.whole_runs.specs.Outcomes.{Outcome, judged, pairs, Report, startReport, checkpointReport, checkpointOutcome, sendReport, sendOutcome, deliverReport, deliverOutcome, loseReport, loseOutcome, lineReport, lineOutcome, recoverReport, recoverOutcome}
-use Rattle.whole_runs.specs.Earliest.{earliestOutcome}
-use Rattle.listing.specs.answers.Codes.{Fits}
-use Rattle.listing.proofs.answers.Fit.{fits-refused, fits-value, fits-none, checkpoint-fits, send-fits, deliver-fits, lose-fits, line-fits, recover-fits, earliest-fits}
-use Rattle.theory_roles.specs.declared.Caller.{Caller}
-use Rattle.theory_roles.specs.declared.Operation.the-variants.{Start, Checkpoint, Send, Deliver, Lose, Recover, Line, Earliest, List as Catalogue, Counts}
-use Rattle.theory_roles.specs.declared.ListAnswer.{ListAnswer}
 use Rattle.theory_roles.specs.declared.ListAnswer.the-variants as list-answer
-use Rattle.theory_roles.specs.Console.{denied, deniedProcess, deniedMessage, denial, entitled, shown, consoleCheckpoint, consoleSend, consoleDeliver, consoleLose, consoleRecover, consoleLine, consoleEarliest, consoleList, listRefusal, listedTo, listReport, consoleCounts, countsRefusal, keptCounts}
-use Rattle.words.specs.Layout.{runOf}
-use Rattle.in_place.specs.Starting.{startOutcomeIn}
-use Rattle.library_console.specs.declared.denied.Claim.{Claim}
-use Rattle.library_console.specs.declared.denied.Claim.the-variants.{Unknown, As}
-use Rattle.library_console.specs.Asked.{claimOf, asked, consoleStartIn, startAs, checkpointAs, sendAs, deliverAs, loseAs, recoverAs, lineAs, earliestAs, listAs, countsAs}
-use Rattle.lemidrosy.proofs.Starting.{start-fits}
 
 -- No role, a caller who is denied the call, and one who is not.
 call-fits : {A : Type 0} (report : A → Report) (q : Claim) (owned : ℕ) (test : Caller → Bool) (refusal : Outcome A) (made : Caller → Outcome A) → Fits (report (refusal .answer))

@@ -1,15 +1,8 @@
 -- The report of a merge fits the fields of its number, whatever the halves: at most 8,192 records are written, four bytes each.
 -- Assumes nothing.
-use mathlib.Core.Path.{_≡_, refl, sym, _∙_, ap}
-use mathlib.Core.List.{List, [], _∷_, map}
-use mathlib.Core.Logic.{inl, inr}
-use mathlib.Core.Option.{Option, none, some}
-use Prim.Native.Nat.{ℕ, _+_, _*_, _≤_, _<_}
-use native.Mathlib.Omega.{arith}
-use lib.ListN.{length, length-map}
-use Rattle.model.specs.declared.Fields.{Fields}
-use Rattle.model.specs.declared.MergeAnswer.{MergeAnswer}
-use Rattle.model.specs.declared.MergeAnswer.the-variants.{Refused, Merged}
+use Rattle.laws.specs.Basics.{_≡_, refl, sym, _∙_, ap, List, [], _∷_, map, Option, none, some, inl, inr, ℕ, _+_, _*_, _≤_, _<_, arith, length}
+use lib.ListN.{length-map}
+use Rattle.model.specs.declared.{Fields.Fields, MergeAnswer.MergeAnswer, MergeAnswer.the-variants.Refused, MergeAnswer.the-variants.Merged}
 use Rattle.model.specs.laws.Refusals.{by-refusal}
 use Rattle.listing.specs.answers.Codes.{Fits}
 use Rattle.listing.proofs.answers.Fit.{fits-refused, fits-value}

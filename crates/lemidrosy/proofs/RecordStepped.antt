@@ -1,21 +1,11 @@
 -- What a step of the program `record` leaves in the lent lists, by whether they are too short.
 -- Assumes nothing.
-use mathlib.Core.Path.{_≡_, refl, sym, _∙_, subst}
-use mathlib.Core.Bool.{Bool, true, false, _&&_, false≢true}
-use mathlib.Core.List.{List}
-use Prim.Native.Nat.{ℕ, _≤_, _<_}
-use lib.Dec.{leb}
-use lib.ListN.{length}
-use lib.Seq.{sets}
-use borrow.Author.Tests.{lt-leb, le-leb}
+use Rattle.laws.specs.Basics.{_≡_, refl, sym, _∙_, subst, Bool, true, false, _&&_, false≢true, List, ℕ, _≤_, _<_, leb, length, sets, le-leb, lt-leb}
+use Rattle.machines.specs.{Machines.stepped, Forms.answerOf, Packed.packed, Packed.unpacked}
+use Rattle.machine_record.specs.{Machine.machine, Machine.counting, Lent.hasRoom, Lent.placeOf, Lent.StandsFor}
+use Rattle.lemidrosy.specs.RecordSteps.{RecordPosed, fits, RecordBegun, Lent, stands, RecordStepped}
 use Rattle.machines.specs.declared.Request as requests
 use Rattle.machines.specs.declared.Answer as answers
-use Rattle.machines.specs.Machines.{stepped}
-use Rattle.machines.specs.Forms.{answerOf}
-use Rattle.machines.specs.Packed.{packed, unpacked}
-use Rattle.machine_record.specs.Machine.{machine, counting}
-use Rattle.machine_record.specs.Lent.{hasRoom, placeOf, StandsFor}
-use Rattle.lemidrosy.specs.RecordSteps.{RecordPosed, fits, RecordBegun, Lent, stands, RecordStepped}
 
 module _ (memory words input out lines request : List ℕ) where
   abbrev room : Bool

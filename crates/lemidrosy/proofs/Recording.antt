@@ -1,24 +1,7 @@
 -- A call through the recorder for C: what it leaves, field by field, and that its report fits the fields of its number.
 -- Assumes nothing.
-use mathlib.Core.Path.{_≡_, refl, sym, ap}
-use mathlib.Core.List.{List, [], _∷_}
-use mathlib.Core.Option.{Option}
-use Prim.Native.Nat.{ℕ, _-_, _≤_}
-use native.Mathlib.Omega.{arith}
-use lib.Dec.{ltb}
-use lib.ListN.{length, getD, set}
-use Rattle.laws.specs.Choice.{by-bool}
-use Rattle.model.specs.declared.Named.{Named}
-use Rattle.model.specs.declared.Run.{Run}
-use Rattle.model.specs.declared.Refusal.{Refusal}
-use Rattle.model.specs.declared.Refusal.the-variants.{ListTooShort, BufferTooShort}
-use Rattle.model.specs.declared.StartAnswer.the-variants as start-answer
-use Rattle.model.specs.declared.CheckpointAnswer.the-variants as checkpoint-answer
-use Rattle.model.specs.declared.SendAnswer.the-variants as send-answer
-use Rattle.model.specs.declared.DeliverAnswer.the-variants as deliver-answer
-use Rattle.model.specs.declared.LoseAnswer.the-variants as lose-answer
-use Rattle.model.specs.declared.LineAnswer.the-variants as line-answer
-use Rattle.model.specs.declared.RecoverAnswer.the-variants as recover-answer
+use Rattle.laws.specs.Basics.{_≡_, refl, sym, ap, List, [], _∷_, Option, ℕ, _-_, _≤_, arith, ltb, length, getD, set, by-bool}
+use Rattle.model.specs.declared.{Named.Named, Run.Run, Refusal.Refusal, Refusal.the-variants.ListTooShort, Refusal.the-variants.BufferTooShort}
 use Rattle.model.specs.Refusals.{number, checkpointRefusal, sendRefusal, deliverRefusal, loseRefusal, recoverRefusal}
 use Rattle.model.specs.laws.Refusals.{by-refusal}
 use Rattle.whole_runs.specs.Outcomes.{Outcome, Report, startReport, checkpointReport, checkpointOutcome, sendReport, sendOutcome, deliverReport, deliverOutcome, loseReport, loseOutcome, lineReport, lineOutcome, recoverReport, recoverOutcome}
@@ -31,6 +14,13 @@ use Rattle.in_place.specs.Starting.{startRefusalIn, startOutcomeIn}
 use Rattle.library_recorder.specs.Recorded.{recordedStartIn, recordedStartWords}
 use Rattle.lemidrosy.specs.Recording.{Placed, atPlace, unplaced, startAt, startWordsAt, checkpointAt, sendAt, deliverAt, loseAt, lineAt, recoverAt, earliestAt}
 use Rattle.lemidrosy.proofs.Starting.{start-fits}
+use Rattle.model.specs.declared.StartAnswer.the-variants as start-answer
+use Rattle.model.specs.declared.CheckpointAnswer.the-variants as checkpoint-answer
+use Rattle.model.specs.declared.SendAnswer.the-variants as send-answer
+use Rattle.model.specs.declared.DeliverAnswer.the-variants as deliver-answer
+use Rattle.model.specs.declared.LoseAnswer.the-variants as lose-answer
+use Rattle.model.specs.declared.LineAnswer.the-variants as line-answer
+use Rattle.model.specs.declared.RecoverAnswer.the-variants as recover-answer
 
 -- What a call leaves, each by itself.
 pub record LeavesAt {A : Type 0} (r : Placed A) (outcome : Outcome A) (bytes list : List ℕ) : Type 0 where

@@ -1,8 +1,6 @@
 -- The report of a start on words fits the fields of its number.
 -- Assumes nothing.
-use mathlib.Core.List.{List}
-use Prim.Native.Nat.{ℕ}
-use native.Mathlib.Omega.{arith}
+use Rattle.laws.specs.Basics.{List, ℕ, arith}
 use Rattle.model.specs.laws.Refusals.{by-refusal}
 use Rattle.whole_runs.specs.Outcomes.{startReport}
 use Rattle.listing.specs.answers.Codes.{Fits}

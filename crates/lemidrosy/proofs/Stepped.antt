@@ -1,17 +1,10 @@
 -- What a step of a machine leaves in the lent lists, by whether they are too short.
 -- Assumes nothing.
-use mathlib.Core.Path.{_≡_, refl, sym, _∙_, subst}
-use mathlib.Core.Bool.{Bool, true, false, _||_, false≢true}
-use mathlib.Core.List.{List}
-use Prim.Native.Nat.{ℕ, _≤_, _<_}
-use lib.Dec.{ltb}
-use lib.ListN.{length}
-use lib.Seq.{sets}
-use borrow.Author.Tests.{lt-ltb, le-ltb}
-use Rattle.machines.specs.declared.Request as requests
-use Rattle.machines.specs.declared.Answer as answers
+use Rattle.laws.specs.Basics.{_≡_, refl, sym, _∙_, subst, Bool, true, false, _||_, false≢true, List, ℕ, _≤_, _<_, ltb, length, sets, lt-ltb, le-ltb}
 use Rattle.machines.specs.Packed.{packed, unpacked}
 use Rattle.lemidrosy.specs.Stepping.{Begun, Stepped}
+use Rattle.machines.specs.declared.Request as requests
+use Rattle.machines.specs.declared.Answer as answers
 
 module _ (lacks : Bool) (memory request : List ℕ) (Stands : requests.Request → Type 0) where
   too-short : lacks || ltb (length request) 4 ≡ true → Begun lacks memory request memory request Stands 3

@@ -1,16 +1,9 @@
 -- What every reader answers to a state that is not sound.
 -- Assumes nothing.
-use mathlib.Core.Path.{_≡_, refl}
-use mathlib.Core.Bool.{Bool, true, false, not}
-use mathlib.Core.List.{List, [], _∷_}
-use mathlib.Core.Option.{Option, some}
-use Prim.Native.Nat.{ℕ}
+use Rattle.laws.specs.Basics.{_≡_, refl, Bool, true, false, not, List, [], _∷_, Option, some, ℕ}
 use Rattle.laws.specs.Below.{not-out}
-use Rattle.model.specs.declared.Run.{Run}
-use Rattle.model.specs.declared.Refusal.the-variants.{UnsoundState}
-use Rattle.model.specs.Sound.{sound}
-use Rattle.model.specs.Refusals.{number, Rule, unsound}
-use Rattle.model.specs.laws.Refusals.{refusal-in}
+use Rattle.model.specs.declared.{Run.Run, Refusal.the-variants.UnsoundState}
+use Rattle.model.specs.{Sound.sound, Refusals.number, Refusals.Rule, Refusals.unsound, laws.Refusals.refusal-in}
 use Rattle.whole_runs.specs.Outcomes.{refusing}
 use Rattle.listing.specs.answers.Codes.{coded, valueCode}
 use Rattle.library_readers.specs.Readings.{Reading, reading, numbersReading, vectorReading, pinsReading, keptReading, messagesReading, carriedReading, lostReading}

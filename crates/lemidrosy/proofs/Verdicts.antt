@@ -1,16 +1,9 @@
 -- The pair that a verdict names fits the fields of its number, whatever the trace.
 -- Assumes nothing.
-use mathlib.Core.Path.{_≡_, refl, sym, _∙_, ap}
-use mathlib.Core.List.{List, [], _∷_}
-use mathlib.Core.Option.{none}
-use Prim.Native.Nat.{ℕ, _<_, _≤_}
-use native.Mathlib.Omega.{arith}
-use Rattle.model.specs.Words.{ones}
-use Rattle.model.specs.Refusals.{startRefusal}
-use Rattle.model.specs.laws.Refusals.{by-refusal}
+use Rattle.laws.specs.Basics.{_≡_, refl, sym, _∙_, ap, List, [], _∷_, none, ℕ, _≤_, _<_, arith}
+use Rattle.model.specs.{Words.ones, Refusals.startRefusal, laws.Refusals.by-refusal}
 use Rattle.model.proofs.simulation.Accepted.{start-out}
-use Rattle.theory_patterns.specs.declared.Verdict.{Verdict}
-use Rattle.theory_patterns.specs.declared.Verdict.the-variants.{Refused, Trackable, Breaks}
+use Rattle.theory_patterns.specs.declared.{Verdict.Verdict, Verdict.the-variants.Refused, Verdict.the-variants.Trackable, Verdict.the-variants.Breaks}
 use Rattle.theory_patterns.specs.Patterns.{Pattern, Reading, refused, whole, reading}
 use Rattle.theory_patterns.specs.Verdicts.{countOf, verdict, RightVerdict}
 use Rattle.theory_patterns.proofs.Right.{verdict-right}

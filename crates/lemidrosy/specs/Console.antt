@@ -1,6 +1,6 @@
 -- For C: the answer to a list as one number. Its fields are those of every call's: the value says how many checkpoints are listed.
 -- Assumes nothing.
-use Prim.Native.Nat.{ℕ}
+use Rattle.laws.specs.Basics.{ℕ}
 use Rattle.listing.specs.answers.Codes.{coded}
 use Rattle.theory_roles.specs.declared.ListAnswer.{ListAnswer}
 use Rattle.theory_roles.specs.Console.{listReport}

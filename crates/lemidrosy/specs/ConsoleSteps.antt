@@ -1,18 +1,9 @@
 -- The program console as a machine, for C: what a step leaves in the lent lists.
 -- Assumes nothing.
-use mathlib.Core.Path.{_≡_}
-use mathlib.Core.Bool.{true, false, _&&_}
-use mathlib.Core.List.{List}
-use Prim.Native.Nat.{ℕ}
-use lib.Dec.{ltb, leb}
-use lib.ListN.{length}
-use lib.Seq.{sets}
+use Rattle.laws.specs.Basics.{_≡_, true, false, _&&_, List, ℕ, ltb, leb, length, sets}
+use Rattle.machines.specs.{Machines.stepped, Forms.answerOf, Packed.packed, Packed.unpacked}
+use Rattle.machine_console.specs.{Consoling.State, Consoling.Opening, Consoling.consoling, Lent.hasRoom, Lent.stateOf, Lent.placeOf, Lent.StandsFor}
 use Rattle.machines.specs.declared.Request as requests
-use Rattle.machines.specs.Machines.{stepped}
-use Rattle.machines.specs.Forms.{answerOf}
-use Rattle.machines.specs.Packed.{packed, unpacked}
-use Rattle.machine_console.specs.Consoling.{State, Opening, consoling}
-use Rattle.machine_console.specs.Lent.{hasRoom, stateOf, placeOf, StandsFor}
 
 -- The lent lists stand for a state, and the four numbers at the front of the last one are what the machine asks for there.
 pub record ConsolePosed (words memory input out before request : List ℕ) (s : State) : Type 0 where

@@ -1,24 +1,16 @@
 -- For C: the verdict on a trace of another run-time as one number; the answer to a merge; the figures of a simulation in a lent list.
 -- Assumes nothing.
-use mathlib.Core.List.{List, [], _∷_}
-use mathlib.Core.Option.{Option, none, some}
-use Prim.Native.Nat.{ℕ, _+_, _*_, _<_}
-use lib.Dec.{ltb}
-use lib.ListN.{length}
-use Rattle.laws.specs.Choice.{pick}
-use Rattle.model.specs.declared.MergeAnswer.{MergeAnswer}
-use Rattle.model.specs.declared.Refusal.the-variants.{ListTooShort}
+use Rattle.laws.specs.Basics.{List, [], _∷_, Option, none, some, ℕ, _+_, _*_, _<_, ltb, length, pick}
+use Rattle.model.specs.declared.{MergeAnswer.MergeAnswer, Refusal.the-variants.ListTooShort}
 use Rattle.whole_runs.specs.Outcomes.{written, refusing, accepting}
 use Rattle.listing.specs.answers.Codes.{coded}
 use Rattle.theory_merges.specs.Merge.{mergeReport}
-use Rattle.theory_patterns.specs.declared.Verdict.{Verdict}
-use Rattle.theory_patterns.specs.declared.Verdict.the-variants.{Refused, Trackable, Breaks}
+use Rattle.theory_patterns.specs.declared.{Verdict.Verdict, Verdict.the-variants.Refused, Verdict.the-variants.Trackable, Verdict.the-variants.Breaks}
 use Rattle.theory_patterns.specs.Verdicts.{Pair, JudgeReport, judgeReport}
-use Rattle.theory_recording.specs.declared.spacing.TrialAnswer.{TrialAnswer}
-use Rattle.theory_recording.specs.declared.spacing.TrialAnswer.the-variants as trial-answer
-use Rattle.theory_recording.specs.declared.spacing.TrialResult.{TrialResult}
+use Rattle.theory_recording.specs.declared.{spacing.TrialAnswer.TrialAnswer, spacing.TrialResult.TrialResult}
 use Rattle.theory_recording.specs.spacing.Spacing.{simulated}
 use Rattle.library_readers.specs.Readings.{Reading}
+use Rattle.theory_recording.specs.declared.spacing.TrialAnswer.the-variants as trial-answer
 
 -- Bits 0 to 7 the number of the refusal, 0 if none; bit 8 whether a pair of states breaks; bits 16 to 23 the process of its near
 -- end and bits 24 to 39 that end's index; bits 40 to 47 the process of its far end and bits 48 to 63 that end's index.

@@ -1,18 +1,9 @@
 -- The program `record` as a machine, for C: what a step leaves in the lent lists. The numbers of requests and answers are those of `machines`, specs/Packed.
 -- Assumes nothing.
-use mathlib.Core.Path.{_≡_}
-use mathlib.Core.Bool.{Bool, true, false, _&&_}
-use mathlib.Core.List.{List}
-use Prim.Native.Nat.{ℕ}
-use lib.Dec.{leb}
-use lib.ListN.{length}
-use lib.Seq.{sets}
+use Rattle.laws.specs.Basics.{_≡_, Bool, true, false, _&&_, List, ℕ, leb, length, sets}
+use Rattle.machines.specs.{Machines.stepped, Forms.answerOf, Packed.packed, Packed.unpacked}
+use Rattle.machine_record.specs.{Machine.State, Machine.machine, Machine.counting, Lent.hasRoom, Lent.stateOf, Lent.placeOf, Lent.StandsFor}
 use Rattle.machines.specs.declared.Request as requests
-use Rattle.machines.specs.Machines.{stepped}
-use Rattle.machines.specs.Forms.{answerOf}
-use Rattle.machines.specs.Packed.{packed, unpacked}
-use Rattle.machine_record.specs.Machine.{State, machine, counting}
-use Rattle.machine_record.specs.Lent.{hasRoom, stateOf, placeOf, StandsFor}
 
 -- The lent lists stand for a state, and the four numbers at the front of the last one are what the machine asks for there.
 pub record RecordPosed (memory words input out lines before request : List ℕ) (s : State) : Type 0 where

@@ -1,29 +1,19 @@
 -- For C: a call through the recorder is lent the place of the next byte in a list, of which it uses the first entry.
 -- Assumes nothing.
-use mathlib.Core.List.{List, [], _∷_}
-use Prim.Native.Nat.{ℕ}
-use lib.ListN.{length}
-use Rattle.model.specs.declared.Run.{Run}
-use Rattle.model.specs.declared.Named.{Named}
-use Rattle.model.specs.declared.Refusal.the-variants.{ListTooShort}
-use Rattle.model.specs.declared.StartAnswer.{StartAnswer}
-use Rattle.model.specs.declared.StartAnswer.the-variants as start-answer
-use Rattle.model.specs.declared.CheckpointAnswer.{CheckpointAnswer}
-use Rattle.model.specs.declared.CheckpointAnswer.the-variants as checkpoint-answer
-use Rattle.model.specs.declared.SendAnswer.{SendAnswer}
-use Rattle.model.specs.declared.SendAnswer.the-variants as send-answer
-use Rattle.model.specs.declared.DeliverAnswer.{DeliverAnswer}
-use Rattle.model.specs.declared.DeliverAnswer.the-variants as deliver-answer
-use Rattle.model.specs.declared.LoseAnswer.{LoseAnswer}
-use Rattle.model.specs.declared.LoseAnswer.the-variants as lose-answer
-use Rattle.model.specs.declared.LineAnswer.{LineAnswer}
-use Rattle.model.specs.declared.LineAnswer.the-variants as line-answer
-use Rattle.model.specs.declared.RecoverAnswer.{RecoverAnswer}
-use Rattle.model.specs.declared.RecoverAnswer.the-variants as recover-answer
+use Rattle.laws.specs.Basics.{List, [], _∷_, ℕ, length}
+use Rattle.model.specs.declared.{Run.Run, Named.Named, Refusal.the-variants.ListTooShort, StartAnswer.StartAnswer, CheckpointAnswer.CheckpointAnswer}
+use Rattle.model.specs.declared.{SendAnswer.SendAnswer, DeliverAnswer.DeliverAnswer, LoseAnswer.LoseAnswer, LineAnswer.LineAnswer, RecoverAnswer.RecoverAnswer}
 use Rattle.whole_runs.specs.Outcomes.{Outcome}
 use Rattle.theory_recording.specs.Recording.{Recorded, recordedCheckpoint, recordedSend, recordedDeliver, recordedLose, recordedLine, recordedRecover, recordedEarliest}
 use Rattle.words.specs.Layout.{runOf}
 use Rattle.library_recorder.specs.Recorded.{recordedStartIn, recordedStartWords}
+use Rattle.model.specs.declared.StartAnswer.the-variants as start-answer
+use Rattle.model.specs.declared.CheckpointAnswer.the-variants as checkpoint-answer
+use Rattle.model.specs.declared.SendAnswer.the-variants as send-answer
+use Rattle.model.specs.declared.DeliverAnswer.the-variants as deliver-answer
+use Rattle.model.specs.declared.LoseAnswer.the-variants as lose-answer
+use Rattle.model.specs.declared.LineAnswer.the-variants as line-answer
+use Rattle.model.specs.declared.RecoverAnswer.the-variants as recover-answer
 
 -- What the call leaves behind: its outcome, the buffer and the list with the place.
 pub record Placed (A : Type 0) : Type 0 where

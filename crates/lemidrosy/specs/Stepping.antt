@@ -1,22 +1,14 @@
 -- The programs as machines, for C: what a step leaves in the lent lists. The numbers of requests and answers are those of `machines`, specs/Packed.
 -- Assumes nothing.
-use mathlib.Core.Path.{_≡_}
-use mathlib.Core.Bool.{Bool, true, false, _||_}
-use mathlib.Core.List.{List, []}
-use Prim.Native.Nat.{ℕ}
-use lib.Dec.{ltb}
-use lib.ListN.{length}
-use lib.Seq.{sets}
+use Rattle.laws.specs.Basics.{_≡_, Bool, true, false, _||_, List, [], ℕ, ltb, length, sets}
+use Rattle.machines.specs.{Machines.stepped, Forms.answerOf, Packed.packed, Packed.unpacked}
+use Rattle.machine_judge.specs.Judging.{Reading, judging}
+use Rattle.machine_simulate.specs.Simulating.{Counting, simulating}
 use Rattle.machines.specs.declared.Request as requests
 use Rattle.machines.specs.declared.Answer as answers
-use Rattle.machines.specs.Machines.{stepped}
-use Rattle.machines.specs.Forms.{answerOf}
-use Rattle.machines.specs.Packed.{packed, unpacked}
-use Rattle.machine_judge.specs.Judging.{Reading, judging}
 use Rattle.machine_judge.specs.Words as judged
 use Rattle.machine_merge.specs.Merging as merger
 use Rattle.machine_merge.specs.Words as merged
-use Rattle.machine_simulate.specs.Simulating.{Counting, simulating}
 use Rattle.machine_simulate.specs.Words as simulated
 
 -- The four numbers at the front of a list are a request of which this holds.

@@ -1,27 +1,21 @@
 // The calls in place: each works on the 6,464 words that the caller lends, which hold a state (`words`, specs/Layout). Words that stand for no sound state are refused
 // with number 2. A refused call leaves every word and every entry of its lists as it was; a refused start makes the words zero.
-ghost use mathlib.Core.Path.{_≡_};
-ghost use lib.ListN.{length};
-ghost use Rattle.model.specs.declared.Refusal.{Refusal};
-ghost use Rattle.model.specs.declared.StartAnswer.the-variants.{Started};
+ghost use Rattle.laws.specs.Basics.{_≡_, length};
+ghost use Rattle.model.specs.declared.{Refusal.Refusal, StartAnswer.the-variants.Started};
+ghost use Rattle.model.specs.Sound.{sound};
+ghost use Rattle.whole_runs.specs.Outcomes.{checkpointOutcome, sendOutcome, deliverOutcome, loseOutcome, lineOutcome, recoverOutcome};
+ghost use Rattle.whole_runs.specs.{WholeRuns.LinePromise, WholeRuns.StartPromise, WholeRuns.StatePromise, WholeRuns.EarliestPromise, Earliest.earliestOutcome};
+ghost use Rattle.whole_runs.specs.{Clean.CleanPromise, Sweep.EmptyLinePromise, Sweep.SweepPromise};
+ghost use Rattle.listing.specs.answers.Codes.{startCode, checkpointCode, sendCode, deliverCode, loseCode, lineCode, recoverCode};
+ghost use Rattle.words.specs.{Clean.Clean, Layout.runOf, Layout.stateSize};
+ghost use Rattle.words_line.specs.Through.{namedIn};
+ghost use Rattle.in_place.specs.{Left.Leaves, Starting.startOutcomeIn, Starting.startWords};
 ghost use Rattle.model.specs.declared.CheckpointAnswer.the-variants as storing;
 ghost use Rattle.model.specs.declared.SendAnswer.the-variants as sending;
 ghost use Rattle.model.specs.declared.DeliverAnswer.the-variants as delivering;
 ghost use Rattle.model.specs.declared.LoseAnswer.the-variants as losing;
 ghost use Rattle.model.specs.declared.RecoverAnswer.the-variants as recovering;
-ghost use Rattle.model.specs.Sound.{sound};
 ghost use Rattle.whole_runs.specs.Calls as made;
-ghost use Rattle.whole_runs.specs.Outcomes.{checkpointOutcome, sendOutcome, deliverOutcome, loseOutcome, lineOutcome, recoverOutcome};
-ghost use Rattle.whole_runs.specs.WholeRuns.{LinePromise, StartPromise, StatePromise, EarliestPromise};
-ghost use Rattle.whole_runs.specs.Earliest.{earliestOutcome};
-ghost use Rattle.whole_runs.specs.Clean.{CleanPromise};
-ghost use Rattle.whole_runs.specs.Sweep.{EmptyLinePromise, SweepPromise};
-ghost use Rattle.listing.specs.answers.Codes.{startCode, checkpointCode, sendCode, deliverCode, loseCode, lineCode, recoverCode};
-ghost use Rattle.words.specs.Clean.{Clean};
-ghost use Rattle.words.specs.Layout.{runOf, stateSize};
-ghost use Rattle.words_line.specs.Through.{namedIn};
-ghost use Rattle.in_place.specs.Left.{Leaves};
-ghost use Rattle.in_place.specs.Starting.{startOutcomeIn, startWords};
 
 // Whether the words stand for a sound state.
 #[no_mangle]

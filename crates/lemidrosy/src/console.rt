@@ -3,22 +3,20 @@
 // every other number, and so is a number that is no role's. A refused call leaves every word and every entry of its lists as it was; only a start that is refused with a
 // number other than 25 makes the words zero.
 use theory_roles::ListAnswer;
-ghost use mathlib.Core.Path.{_≡_};
-ghost use lib.ListN.{length};
+ghost use Rattle.laws.specs.Basics.{_≡_, length};
 ghost use Rattle.model.specs.declared.Refusal.{Refusal};
-ghost use Rattle.model.specs.declared.CheckpointAnswer.the-variants as storing;
-ghost use Rattle.model.specs.declared.SendAnswer.the-variants as sending;
-ghost use Rattle.model.specs.declared.DeliverAnswer.the-variants as delivering;
-ghost use Rattle.model.specs.declared.LoseAnswer.the-variants as losing;
-ghost use Rattle.model.specs.declared.RecoverAnswer.the-variants as recovering;
 ghost use Rattle.listing.specs.answers.Codes.{Fits, startCode, checkpointCode, sendCode, deliverCode, loseCode, lineCode, recoverCode};
-ghost use Rattle.words.specs.Clean.{Clean};
-ghost use Rattle.words.specs.Layout.{runOf, stateSize};
+ghost use Rattle.words.specs.{Clean.Clean, Layout.runOf, Layout.stateSize};
 ghost use Rattle.words_line.specs.Through.{namedIn};
 ghost use Rattle.in_place.specs.Left.{Leaves};
 ghost use Rattle.theory_roles.specs.Console.{listReport};
 ghost use Rattle.library_console.specs.Asked.{startAs, startWordsAs, checkpointAs, sendAs, deliverAs, loseAs, recoverAs, lineAs, earliestAs, listAs, countsAs};
 ghost use Rattle.lemidrosy.specs.Console.{listCode};
+ghost use Rattle.model.specs.declared.CheckpointAnswer.the-variants as storing;
+ghost use Rattle.model.specs.declared.SendAnswer.the-variants as sending;
+ghost use Rattle.model.specs.declared.DeliverAnswer.the-variants as delivering;
+ghost use Rattle.model.specs.declared.LoseAnswer.the-variants as losing;
+ghost use Rattle.model.specs.declared.RecoverAnswer.the-variants as recovering;
 
 // The number of the answer to a list. The value says how many checkpoints are listed.
 fn of_list(answer: ListAnswer) -> u64

@@ -1,18 +1,14 @@
 // What works on no state: the judge of another run-time's trace (document 02, Note 7), the merge of two halves of one run (Note 12) and a simulation (Note 10).
-use listing::answers::code_of;
 use listing::Summary;
 use listing::Value;
+use listing::answers::code_of;
 use model::MergeAnswer;
 use theory_patterns::Verdict;
 use theory_recording::spacing::TrialAnswer;
 use theory_recording::spacing::TrialResult;
-ghost use mathlib.Core.Path.{_≡_};
-ghost use mathlib.Core.Option.{none};
-ghost use Prim.Native.Nat.{_≤_};
-ghost use lib.ListN.{length};
+ghost use Rattle.laws.specs.Basics.{_≡_, none, _≤_, length};
 ghost use Rattle.listing.specs.answers.Codes.{coded, Fits};
-ghost use Rattle.theory_merges.specs.Halves.{OrdersAgree};
-ghost use Rattle.theory_merges.specs.Merge.{mergeOutcome, mergeReport, MergePromise};
+ghost use Rattle.theory_merges.specs.{Halves.OrdersAgree, Merge.mergeOutcome, Merge.mergeReport, Merge.MergePromise};
 ghost use Rattle.theory_patterns.specs.Verdicts.{verdict};
 ghost use Rattle.theory_recording.specs.spacing.Spacing.{trialRefusal, AgreesWithReplay};
 ghost use Rattle.lemidrosy.specs.Programs.{judgeCode, PairFits, mergeCode, figuresWritten, simulation};

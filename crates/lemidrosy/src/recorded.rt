@@ -2,21 +2,18 @@
 // next byte goes to. The buffer is a trace: its first byte is n, after it stand the records of the accepted calls. Refused with 21, after every other number, is a call whose
 // record has no room after the place, and with 3, before any other number, one that is lent no place. A refused call leaves every word, entry and byte and the place as they
 // were; a start with a place that is refused makes the words zero. What a replay of the buffer gives is the theorem of `recorder_in_place`, specs/Recorded.
-ghost use mathlib.Core.Path.{_≡_};
-ghost use Prim.Native.Nat.{_≤_};
-ghost use lib.ListN.{length};
+ghost use Rattle.laws.specs.Basics.{_≡_, _≤_, length};
 ghost use Rattle.model.specs.declared.Refusal.{Refusal};
+ghost use Rattle.listing.specs.answers.Codes.{startCode, checkpointCode, sendCode, deliverCode, loseCode, lineCode, recoverCode};
+ghost use Rattle.words.specs.{Clean.Clean, Layout.runOf, Layout.stateSize};
+ghost use Rattle.words_line.specs.Through.{namedIn};
+ghost use Rattle.in_place.specs.Left.{Leaves};
+ghost use Rattle.lemidrosy.specs.Recording.{startAt, startWordsAt, checkpointAt, sendAt, deliverAt, loseAt, lineAt, recoverAt, earliestAt};
 ghost use Rattle.model.specs.declared.CheckpointAnswer.the-variants as storing;
 ghost use Rattle.model.specs.declared.SendAnswer.the-variants as sending;
 ghost use Rattle.model.specs.declared.DeliverAnswer.the-variants as delivering;
 ghost use Rattle.model.specs.declared.LoseAnswer.the-variants as losing;
 ghost use Rattle.model.specs.declared.RecoverAnswer.the-variants as recovering;
-ghost use Rattle.listing.specs.answers.Codes.{startCode, checkpointCode, sendCode, deliverCode, loseCode, lineCode, recoverCode};
-ghost use Rattle.words.specs.Clean.{Clean};
-ghost use Rattle.words.specs.Layout.{runOf, stateSize};
-ghost use Rattle.words_line.specs.Through.{namedIn};
-ghost use Rattle.in_place.specs.Left.{Leaves};
-ghost use Rattle.lemidrosy.specs.Recording.{startAt, startWordsAt, checkpointAt, sendAt, deliverAt, loseAt, lineAt, recoverAt, earliestAt};
 
 // The number of the answer to a call that is lent no place.
 const NO_PLACE: u64 = 3;

@@ -1,13 +1,6 @@
 -- A block of records for C: a progress that is too short, and one that is not.
 -- Assumes nothing.
-use mathlib.Core.Path.{_≡_, refl, _∙_}
-use mathlib.Core.Bool.{Bool}
-use mathlib.Core.List.{List, [], _∷_}
-use Prim.Native.Nat.{ℕ, _≤_, _<_}
-use lib.ListN.{length}
-use lib.Seq.{sets}
-use borrow.Author.Tests.{lt-ltb, le-ltb}
-use Rattle.laws.specs.Choice.{pick}
+use Rattle.laws.specs.Basics.{_≡_, refl, _∙_, Bool, List, [], _∷_, ℕ, _≤_, _<_, length, sets, lt-ltb, le-ltb, pick}
 use Rattle.model.specs.declared.Run.{Run}
 use Rattle.model.specs.Refusals.{number}
 use Rattle.listing.specs.answers.Codes.{coded, valueCode}

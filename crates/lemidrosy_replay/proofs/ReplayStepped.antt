@@ -1,21 +1,12 @@
 -- What a step of the replay leaves in the lent lists, by whether they are too short.
 -- Assumes nothing.
-use mathlib.Core.Path.{_≡_, refl, sym, _∙_, ap, subst}
-use mathlib.Core.Bool.{Bool, true, false, _&&_, false≢true}
-use mathlib.Core.List.{List}
-use Prim.Native.Nat.{ℕ, _≤_, _<_}
-use lib.Dec.{leb}
-use lib.ListN.{length}
-use lib.Seq.{sets}
-use borrow.Author.Tests.{lt-leb, le-leb}
-use Rattle.machines.specs.declared.Request as requests
-use Rattle.machines.specs.declared.Answer as answers
-use Rattle.machines.specs.Machines.{stepped}
-use Rattle.machines.specs.Forms.{answerOf, Asks}
-use Rattle.machines.specs.Packed.{packed, unpacked}
+use Rattle.laws.specs.Basics.{_≡_, refl, sym, _∙_, ap, subst, Bool, true, false, _&&_, false≢true, List, ℕ, _≤_, _<_, leb, length, sets, le-leb, lt-leb}
+use Rattle.machines.specs.{Machines.stepped, Forms.answerOf, Forms.Asks, Packed.packed, Packed.unpacked}
 use Rattle.machine_replay.specs.Replaying.{State, starting, asks, replaying}
 use Rattle.machine_replay.specs.Standing.{numbers, enoughRoom, stateOf, placeOf}
 use Rattle.lemidrosy_replay.specs.ReplaySteps.{ReplayPosed, hasRoom, ReplayBegun, ReplayStepped}
+use Rattle.machines.specs.declared.Request as requests
+use Rattle.machines.specs.declared.Answer as answers
 
 module _ (words memory input out request : List ℕ) where
   too-short : hasRoom words memory input out request ≡ false → ReplayBegun words memory input out request memory request 3

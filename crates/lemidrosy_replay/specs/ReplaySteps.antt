@@ -1,18 +1,10 @@
 -- The replay program as a machine, for C: what a step leaves in the lent lists. The numbers of requests and answers are those of `machines`, specs/Packed.
 -- Assumes nothing.
-use mathlib.Core.Path.{_≡_}
-use mathlib.Core.Bool.{Bool, true, false, _&&_}
-use mathlib.Core.List.{List}
-use Prim.Native.Nat.{ℕ}
-use lib.Dec.{leb}
-use lib.ListN.{length}
-use lib.Seq.{sets}
-use Rattle.machines.specs.declared.Request as requests
-use Rattle.machines.specs.Machines.{stepped}
-use Rattle.machines.specs.Forms.{answerOf, Asks}
-use Rattle.machines.specs.Packed.{packed, unpacked}
+use Rattle.laws.specs.Basics.{_≡_, Bool, true, false, _&&_, List, ℕ, leb, length, sets}
+use Rattle.machines.specs.{Machines.stepped, Forms.answerOf, Forms.Asks, Packed.packed, Packed.unpacked}
 use Rattle.machine_replay.specs.Replaying.{State, starting, asks, replaying}
 use Rattle.machine_replay.specs.Standing.{numbers, enoughRoom, stateOf, placeOf}
+use Rattle.machines.specs.declared.Request as requests
 
 -- The lent lists stand for a state, and the four numbers at the front of the last one are what the machine asks for there.
 pub record ReplayPosed (words memory input out before request : List ℕ) (s : State) : Type 0 where

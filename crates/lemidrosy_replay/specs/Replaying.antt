@@ -1,14 +1,7 @@
 -- For C: a block of records applied to the words.
 -- Assumes nothing.
-use mathlib.Core.Bool.{Bool}
-use mathlib.Core.List.{List, [], _∷_}
-use mathlib.Core.Option.{none}
-use Prim.Native.Nat.{ℕ}
-use lib.Dec.{ltb}
-use lib.ListN.{length}
-use Rattle.laws.specs.Choice.{pick}
-use Rattle.model.specs.declared.Refusal.the-variants.{ListTooShort}
-use Rattle.model.specs.declared.Run.{Run}
+use Rattle.laws.specs.Basics.{Bool, List, [], _∷_, none, ℕ, ltb, length, pick}
+use Rattle.model.specs.declared.{Refusal.the-variants.ListTooShort, Run.Run}
 use Rattle.whole_runs.specs.Outcomes.{Report, written, refusing, accepting}
 use Rattle.library_replay.specs.Taken.{BlockOutcome, blockOutcome}
 

@@ -1,7 +1,7 @@
 // The replay program as a machine, for a caller with files of its own.
-use machines::packed;
 use machine_replay::place;
 use machine_replay::step;
+use machines::packed;
 ghost use Rattle.lemidrosy_replay.specs.ReplaySteps.{ReplayBegun, ReplayStepped};
 
 // The replay before anything is asked. 0, or 3 where a list is too short.

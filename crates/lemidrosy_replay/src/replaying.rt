@@ -1,12 +1,7 @@
 // A block of records applied to the words, for a run-time that hands its events over in batches: the words are tested once, and once more after each recovery that deletes a
 // checkpoint.
 use library_replay::block::Progress;
-ghost use mathlib.Core.Path.{_≡_};
-ghost use mathlib.Core.List.{[], _∷_};
-ghost use Prim.Native.Nat.{_≤_, _<_};
-ghost use lib.ListN.{length};
-ghost use lib.Seq.{sets};
-ghost use Rattle.laws.specs.Choice.{pick};
+ghost use Rattle.laws.specs.Basics.{_≡_, [], _∷_, _≤_, _<_, length, sets, pick};
 ghost use Rattle.whole_runs.specs.WholeRuns.{Reachable};
 ghost use Rattle.listing.specs.answers.Codes.{coded};
 ghost use Rattle.words.specs.Layout.{runOf};

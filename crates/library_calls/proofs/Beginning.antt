@@ -1,29 +1,16 @@
 -- What a start leaves of 6,464 words, with 16 counts lent, is readable, and stands for the state that document 01's start returns.
 -- Assumes nothing.
-use mathlib.Core.Path.{_≡_, refl}
-use mathlib.Core.List.{List, []}
-use mathlib.Core.Option.{none}
-use Prim.Native.Nat.{ℕ, zero, suc, _≤_}
-use native.Mathlib.Omega.{arith}
-use lib.Dec.{leb}
-use lib.ListN.{length, replicate, length-replicate, getD-replicate}
-use borrow.Author.Tests.{lt-leb, le-leb, leb-true, eq-eqb, not-false}
-use Rattle.laws.specs.Rows.{by-lt}
-use Rattle.laws.specs.Truth.{and-left}
-use Rattle.model.specs.Refusals.{firstOf, startRefusal}
-use Rattle.model.specs.Words.{mostProcesses, noCheckpoint, blank}
-use Rattle.model.specs.Steps.{checkpointZero, started, startState}
-use Rattle.model.specs.laws.Refusals.{no-rule, by-refusal}
+use Rattle.laws.specs.Basics.{_≡_, refl, List, [], none, ℕ, zero, suc, _≤_, arith, leb, length, replicate, length-replicate, getD-replicate, eq-eqb, le-leb, lt-leb, leb-true, not-false}
+use Rattle.laws.specs.{Rows.by-lt, Truth.and-left}
+use Rattle.model.specs.{Refusals.firstOf, Refusals.startRefusal, Words.mostProcesses, Words.noCheckpoint, Words.blank}
+use Rattle.model.specs.{Steps.checkpointZero, Steps.started, Steps.startState, laws.Refusals.no-rule, laws.Refusals.by-refusal}
 use Rattle.whole_runs.specs.Outcomes.{startOutcome}
 use Rattle.words.specs.Layout.{stateSize, word}
 use Rattle.words.proofs.ViewBlank.{blank-fits}
 use Rattle.library_calls.specs.run_words.Readable.{Readable}
-use Rattle.library_calls.proofs.run_words.Causes.{Small, small-disk}
+use Rattle.library_calls.proofs.{run_words.Causes.Small, run_words.Causes.small-disk, Changing.small-readable, Keeping.Few, Keeping.small-processes}
 use Rattle.in_place.specs.Starting.{zeros, startRefusalIn, startOutcomeIn, startWords, startedWords, StartsTheSame}
-use Rattle.in_place.proofs.Starting.{zeros-length, accepted-few, started-run}
-use Rattle.in_place.proofs.Judging.{starts-the-same}
-use Rattle.library_calls.proofs.Changing.{small-readable}
-use Rattle.library_calls.proofs.Keeping.{Few, small-processes}
+use Rattle.in_place.proofs.{Starting.zeros-length, Starting.accepted-few, Starting.started-run, Judging.starts-the-same}
 
 -- More than 16 processes are refused whatever is lent.
 pub started-so : (n : ℕ) (blockCounts : List ℕ) → length blockCounts ≡ 16 → startOutcomeIn stateSize n blockCounts ≡ startOutcome n blockCounts

@@ -1,29 +1,16 @@
 -- What a call leaves is a state of 1 to 16 processes whose causes have 8 bits, if it was made on one.
 -- Assumes nothing.
-use mathlib.Core.Path.{_≡_, refl, sym, _∙_, ap}
-use mathlib.Core.Bool.{Bool, true, false, _&&_, not, false≢true}
-use mathlib.Core.List.{List}
-use mathlib.Core.Option.{Option, none, some}
-use Prim.Native.Nat.{ℕ}
-use native.Mathlib.Omega.{arith}
-use Rattle.laws.specs.Choice.{by-bool}
+use Rattle.laws.specs.Basics.{_≡_, refl, sym, _∙_, ap, Bool, true, false, not, _&&_, false≢true, List, Option, none, some, ℕ, arith, by-bool}
 use Rattle.laws.specs.Truth.{and-out}
-use Rattle.model.specs.declared.Refusal.{Refusal}
-use Rattle.model.specs.declared.Run.{Run}
-use Rattle.model.specs.Words.{process, withProcess}
-use Rattle.model.specs.Steps.{marked, sendState, others, loseState}
-use Rattle.model.specs.Sound.{sound}
+use Rattle.model.specs.declared.{Refusal.Refusal, Run.Run}
+use Rattle.model.specs.{Words.process, Words.withProcess, Steps.marked, Steps.sendState, Steps.others, Steps.loseState, Sound.sound, laws.Sound.sound-state}
 use Rattle.model.specs.Refusals.{sendRefusal, loseRefusal}
-use Rattle.model.specs.laws.Sound.{sound-state}
 use Rattle.whole_runs.specs.Outcomes.{Outcome, judged, sendOutcome, loseOutcome}
 use Rattle.words.specs.Layout.{runOf}
 use Rattle.whole_runs.proofs.Unsound.{is-unsound}
-use Rattle.library_calls.specs.run_words.Fits.{fitsWords}
-use Rattle.library_calls.specs.run_words.Readable.{Readable}
-use Rattle.library_calls.proofs.run_words.Sizes.{Sized}
-use Rattle.library_calls.proofs.run_words.Filling.{unfit-unsound}
+use Rattle.library_calls.specs.{run_words.Fits.fitsWords, run_words.Readable.Readable}
+use Rattle.library_calls.proofs.{run_words.Sizes.Sized, run_words.Filling.unfit-unsound, run_words.ReadOut.readable}
 use Rattle.library_calls.proofs.run_words.Causes.{Small, small-messages, small-process, small-kept}
-use Rattle.library_calls.proofs.run_words.ReadOut.{readable}
 
 -- Of two outcomes the state.
 pub either-run : {A : Type 0} (P : Run → Type 0) (o : Option Refusal) (a : Refusal → Outcome A) (b : Outcome A) → ((r : Refusal) → P (a r .run)) → P (b .run) → P (judged o a b .run)

@@ -1,19 +1,9 @@
 -- Lists of checkpoints whose causes have 8 bits: what a process of a sound state keeps, and what is left of it or added to it.
 -- Assumes nothing.
-use mathlib.Core.Path.{_≡_}
-use mathlib.Core.Bool.{Bool, true}
-use mathlib.Core.List.{List, [], _∷_, _++_}
-use Prim.Native.Nat.{ℕ, zero, suc, _<_}
-use native.Mathlib.Omega.{arith}
-use lib.ListN.{length, getD}
-use Rattle.laws.specs.Choice.{by-bool}
+use Rattle.laws.specs.Basics.{_≡_, Bool, true, List, [], _∷_, _++_, ℕ, zero, suc, _<_, arith, length, getD, by-bool}
 use Rattle.laws.specs.Lists.{select}
-use Rattle.model.specs.declared.Checkpoint.{Checkpoint}
-use Rattle.model.specs.declared.Run.{Run}
-use Rattle.model.specs.Words.{noCheckpoint, Process, process}
-use Rattle.model.specs.Steps.{withProcesses}
-use Rattle.model.specs.Sound.{sound}
-use Rattle.model.specs.laws.Sound.{sound-state}
+use Rattle.model.specs.declared.{Checkpoint.Checkpoint, Run.Run}
+use Rattle.model.specs.{Words.noCheckpoint, Words.Process, Words.process, Steps.withProcesses, Sound.sound, laws.Sound.sound-state}
 use Rattle.library_calls.proofs.run_words.Causes.{Small, length-take-most, small-process, small-kept}
 
 abbrev pub Few : List Checkpoint → Type 0

@@ -1,29 +1,15 @@
 -- What a send and a loss leave of the state as it is: all but the sent marks and the messages.
 -- Assumes nothing.
-use mathlib.Core.Path.{_≡_, refl, sym, _∙_, ap}
-use mathlib.Core.Bool.{true}
-use mathlib.Core.List.{[], _∷_, _++_}
-use mathlib.Core.Option.{Option, none, some}
-use Prim.Native.Nat.{ℕ, _+_, _<_}
-use native.Mathlib.Omega.{arith}
-use lib.ListN.{length, getD}
-use Rattle.model.specs.declared.Checkpoint.{Checkpoint}
-use Rattle.model.specs.declared.Message.{Message}
-use Rattle.model.specs.declared.Refusal.{Refusal}
-use Rattle.model.specs.declared.Run.{Run}
-use Rattle.model.specs.Words.{noCheckpoint, pastEnd, noMessage, process, withProcess, underWay, withMessages}
-use Rattle.model.specs.Steps.{marked, sentMessage, sendState, loseState}
-use Rattle.model.specs.Sound.{sound}
-use Rattle.model.specs.Refusals.{sendRefusal, loseRefusal}
+use Rattle.laws.specs.Basics.{_≡_, refl, sym, _∙_, ap, true, [], _∷_, _++_, Option, none, some, ℕ, _+_, _<_, arith, length, getD}
+use Rattle.model.specs.declared.{Checkpoint.Checkpoint, Message.Message, Refusal.Refusal, Run.Run}
+use Rattle.model.specs.{Words.noCheckpoint, Words.pastEnd, Words.noMessage, Words.process, Words.withProcess, Words.underWay, Words.withMessages, Sound.sound}
+use Rattle.model.specs.{Steps.marked, Steps.sentMessage, Steps.sendState, Steps.loseState, Refusals.sendRefusal, Refusals.loseRefusal}
 use Rattle.model.proofs.simulation.Accepted.{send-out}
 use Rattle.whole_runs.specs.Outcomes.{Outcome, judged, sendOutcome, loseOutcome}
-use Rattle.words_process.specs.receipts.Sized as receipts
 use Rattle.words_process.proofs.receipts.Parts.{withMark, rows-back}
-use Rattle.library_calls.specs.run_words.Fits.{pastMessages}
-use Rattle.library_calls.specs.run_words.Readable.{afterSend, afterLose}
-use Rattle.library_calls.proofs.run_words.Sizes.{Sized}
-use Rattle.library_calls.proofs.run_words.ReadBack.{same-entry}
-use Rattle.library_calls.proofs.Changing.{either-run}
+use Rattle.library_calls.specs.{run_words.Fits.pastMessages, run_words.Readable.afterSend, run_words.Readable.afterLose}
+use Rattle.library_calls.proofs.{run_words.Sizes.Sized, run_words.ReadBack.same-entry, Changing.either-run}
+use Rattle.words_process.specs.receipts.Sized as receipts
 
 pub lose-leaves : (s : Run) (m : ℕ) → loseOutcome s m .run ≡ afterLose s (loseOutcome s m .run)
 unfolding loseOutcome loseState withMessages afterLose

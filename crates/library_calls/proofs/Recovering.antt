@@ -1,16 +1,10 @@
 -- What a recovery leaves is a state of 1 to 16 processes whose causes have 8 bits: it keeps nothing that was not kept before.
 -- Assumes nothing.
-use mathlib.Core.Path.{_≡_}
-use mathlib.Core.Bool.{true}
-use mathlib.Core.List.{List}
-use Prim.Native.Nat.{ℕ}
+use Rattle.laws.specs.Basics.{_≡_, true, List, ℕ}
 use Rattle.model.specs.declared.Run.{Run}
-use Rattle.model.specs.Steps.{notLost, recovered, recoverState}
-use Rattle.model.specs.Sound.{sound}
-use Rattle.model.specs.Refusals.{recoverRefusal}
+use Rattle.model.specs.{Steps.notLost, Steps.recovered, Steps.recoverState, Sound.sound, Refusals.recoverRefusal}
 use Rattle.whole_runs.specs.Outcomes.{recoverOutcome}
-use Rattle.library_calls.proofs.run_words.Causes.{Small, small-messages, small-disk}
-use Rattle.library_calls.proofs.Changing.{either-run}
+use Rattle.library_calls.proofs.{run_words.Causes.Small, run_words.Causes.small-messages, run_words.Causes.small-disk, Changing.either-run}
 use Rattle.library_calls.proofs.Keeping.{few-chosen, kept-few, small-processes}
 
 pub recover-small : (s : Run) → sound s ≡ true → (F : ℕ) (deleted line : List ℕ) → Small s → Small (recoverOutcome s F deleted line .run)

@@ -1,22 +1,12 @@
 -- What a checkpoint and a delivery leave is a state of 1 to 16 processes whose causes have 8 bits: what is stored has cause 1 or 2.
 -- Assumes nothing.
-use mathlib.Core.Path.{_≡_}
-use mathlib.Core.Bool.{true}
-use mathlib.Core.List.{List}
-use Prim.Native.Nat.{ℕ, _<_}
-use native.Mathlib.Omega.{arith}
-use Rattle.laws.specs.Choice.{by-bool}
-use Rattle.model.specs.declared.Interval.{Interval}
-use Rattle.model.specs.declared.Message.{Message}
-use Rattle.model.specs.declared.Run.{Run}
-use Rattle.model.specs.Words.{basic, forced, Process, process}
+use Rattle.laws.specs.Basics.{_≡_, true, List, ℕ, _<_, arith, by-bool}
+use Rattle.model.specs.declared.{Interval.Interval, Message.Message, Run.Run}
+use Rattle.model.specs.{Words.basic, Words.forced, Words.Process, Words.process, Sound.sound, Refusals.checkpointRefusal, Refusals.deliverRefusal}
 use Rattle.model.specs.Steps.{settled, storing, checkpointed, checkpointState, forces, takenIn, delivered, deliverState}
-use Rattle.model.specs.Sound.{sound}
-use Rattle.model.specs.Refusals.{checkpointRefusal, deliverRefusal}
 use Rattle.whole_runs.specs.Outcomes.{message, checkpointOutcome, deliverOutcome}
 use Rattle.library_calls.proofs.run_words.Causes.{Small, small-messages, small-disk, small-process}
-use Rattle.library_calls.proofs.Changing.{either-run}
-use Rattle.library_calls.proofs.Keeping.{Few, few-chosen, few-after, kept-few}
+use Rattle.library_calls.proofs.{Changing.either-run, Keeping.Few, Keeping.few-chosen, Keeping.few-after, Keeping.kept-few}
 
 few-settled : (P : Process) → Few (P .kept) → Few (settled P .kept)
 unfolding settled

@@ -3,10 +3,9 @@ use model::DeliverAnswer;
 use model::Refusal;
 use model::Run;
 use words::WORDS;
-ghost use mathlib.Core.Path.{_≡_};
-ghost use Rattle.whole_runs.specs.Outcomes.{deliverOutcome};
+ghost use Rattle.laws.specs.Basics.{_≡_};
+ghost use Rattle.whole_runs.specs.{Outcomes.deliverOutcome, WholeRuns.StatePromise};
 ghost use Rattle.whole_runs.specs.Calls as made;
-ghost use Rattle.whole_runs.specs.WholeRuns.{StatePromise};
 
 // What a deliver call returns besides the lent list. `rose` is the set of the receiver's entries that rose, bit f for entry f; 0 with a refusal.
 pub struct DeliverOutcome {

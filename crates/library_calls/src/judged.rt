@@ -1,8 +1,7 @@
 // Words that were filled from a state, and whether the state is sound.
 use model::Run;
 use words::WORDS;
-ghost use mathlib.Core.Path.{_≡_};
-ghost use mathlib.Core.Bool.{_&&_};
+ghost use Rattle.laws.specs.Basics.{_≡_, _&&_};
 ghost use Rattle.model.specs.Sound.{sound};
 ghost use Rattle.words.specs.Layout.{runOf};
 

@@ -3,10 +3,8 @@ use model::LineAnswer;
 use model::Refusal;
 use model::Run;
 use words::WORDS;
-ghost use mathlib.Core.Path.{_≡_};
-ghost use Rattle.whole_runs.specs.Outcomes.{lineOutcome};
-ghost use Rattle.whole_runs.specs.WholeRuns.{LinePromise};
-ghost use Rattle.whole_runs.specs.Sweep.{EmptyLinePromise};
+ghost use Rattle.laws.specs.Basics.{_≡_};
+ghost use Rattle.whole_runs.specs.{Outcomes.lineOutcome, WholeRuns.LinePromise, Sweep.EmptyLinePromise};
 
 pub struct LineOutcome {
     pub run: Run,

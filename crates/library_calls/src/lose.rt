@@ -3,10 +3,9 @@ use model::LoseAnswer;
 use model::Refusal;
 use model::Run;
 use words::WORDS;
-ghost use mathlib.Core.Path.{_≡_};
-ghost use Rattle.whole_runs.specs.Outcomes.{loseOutcome};
+ghost use Rattle.laws.specs.Basics.{_≡_};
+ghost use Rattle.whole_runs.specs.{Outcomes.loseOutcome, WholeRuns.StatePromise};
 ghost use Rattle.whole_runs.specs.Calls as made;
-ghost use Rattle.whole_runs.specs.WholeRuns.{StatePromise};
 
 pub struct LoseOutcome {
     pub run: Run,

@@ -3,12 +3,9 @@ use model::RecoverAnswer;
 use model::Refusal;
 use model::Run;
 use words::WORDS;
-ghost use mathlib.Core.Path.{_≡_};
-ghost use Rattle.whole_runs.specs.Outcomes.{recoverOutcome};
+ghost use Rattle.laws.specs.Basics.{_≡_};
+ghost use Rattle.whole_runs.specs.{Outcomes.recoverOutcome, Clean.CleanPromise, Sweep.SweepPromise, WholeRuns.LinePromise, WholeRuns.StatePromise};
 ghost use Rattle.whole_runs.specs.Calls as made;
-ghost use Rattle.whole_runs.specs.Clean.{CleanPromise};
-ghost use Rattle.whole_runs.specs.Sweep.{SweepPromise};
-ghost use Rattle.whole_runs.specs.WholeRuns.{LinePromise, StatePromise};
 
 pub struct RecoverOutcome {
     pub run: Run,

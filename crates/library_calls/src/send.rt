@@ -3,10 +3,9 @@ use model::Refusal;
 use model::Run;
 use model::SendAnswer;
 use words::WORDS;
-ghost use mathlib.Core.Path.{_≡_};
-ghost use Rattle.whole_runs.specs.Outcomes.{sendOutcome};
+ghost use Rattle.laws.specs.Basics.{_≡_};
+ghost use Rattle.whole_runs.specs.{Outcomes.sendOutcome, WholeRuns.StatePromise};
 ghost use Rattle.whole_runs.specs.Calls as made;
-ghost use Rattle.whole_runs.specs.WholeRuns.{StatePromise};
 
 pub struct SendOutcome {
     pub run: Run,

@@ -3,9 +3,8 @@ use model::PROCESSES;
 use model::Run;
 use model::StartAnswer;
 use words::WORDS;
-ghost use mathlib.Core.Path.{_≡_};
-ghost use Rattle.whole_runs.specs.Outcomes.{startOutcome};
-ghost use Rattle.whole_runs.specs.WholeRuns.{StartPromise};
+ghost use Rattle.laws.specs.Basics.{_≡_};
+ghost use Rattle.whole_runs.specs.{Outcomes.startOutcome, WholeRuns.StartPromise};
 
 pub struct StartOutcome {
     pub run: Run,

@@ -1,17 +1,14 @@
 // The earliest consistent line through named checkpoints, by value (document 02, Note 8).
-use words_line::earliest::list::Copied;
 use model::LineAnswer;
 use model::Named;
 use model::PROCESSES;
 use model::Refusal;
 use model::Run;
 use words::WORDS;
-ghost use mathlib.Core.Path.{_≡_};
-ghost use mathlib.Core.List.{List};
-ghost use lib.ListN.{take};
+use words_line::earliest::list::Copied;
+ghost use Rattle.laws.specs.Basics.{_≡_, List, take};
 ghost use Rattle.model.specs.declared.Named.{Named};
-ghost use Rattle.whole_runs.specs.Earliest.{earliestOutcome};
-ghost use Rattle.whole_runs.specs.WholeRuns.{EarliestPromise};
+ghost use Rattle.whole_runs.specs.{Earliest.earliestOutcome, WholeRuns.EarliestPromise};
 ghost use Rattle.words_line.specs.earliest.Copying.{copyOf, IsCopy};
 
 pub struct EarliestOutcome {

@@ -1,14 +1,17 @@
 -- A call that is denied, and one that is not, for who claims a role by its number. `b` is what the test of it answered.
 -- Assumes nothing.
-use mathlib.Core.Path.{_≡_, refl, sym, _∙_}
-use mathlib.Core.Bool.{Bool, true, false, false≢true}
-use mathlib.Core.List.{List, []}
-use Prim.Native.Nat.{ℕ}
-use lib.ListN.{length}
-use Rattle.laws.specs.Choice.{pick, by-bool}
-use Rattle.model.specs.declared.Run.{Run}
-use Rattle.model.specs.declared.Named.{Named}
-use Rattle.model.specs.declared.Refusal.the-variants.{Denied}
+use Rattle.laws.specs.Basics.{_≡_, refl, sym, _∙_, Bool, true, false, false≢true, List, [], ℕ, length, pick, by-bool}
+use Rattle.model.specs.declared.{Run.Run, Named.Named, Refusal.the-variants.Denied}
+use Rattle.whole_runs.specs.Outcomes.{Outcome, checkpointOutcome, sendOutcome, deliverOutcome, loseOutcome, recoverOutcome}
+use Rattle.whole_runs.specs.Earliest.{earliestOutcome}
+use Rattle.words.specs.Layout.{runOf}
+use Rattle.in_place.specs.Starting.{StartsTheSame, startOutcomeIn, startWords}
+use Rattle.in_place.proofs.Judging.{starts-the-same}
+use Rattle.theory_roles.specs.declared.{Role.Role, Role.the-variants.Operator, Role.the-variants.JobOwner, Role.the-variants.Viewer, Caller.Caller}
+use Rattle.theory_roles.specs.declared.Operation.the-variants.{Start, Checkpoint, Send, Deliver, Lose, Recover, Earliest}
+use Rattle.theory_roles.specs.Console.{denied, deniedProcess, deniedMessage, denial, consoleStart, consoleCheckpoint, consoleSend, consoleDeliver, consoleLose, consoleRecover, consoleEarliest}
+use Rattle.library_console.specs.declared.{denied.Claim.Claim, denied.Claim.the-variants.Unknown, denied.Claim.the-variants.As}
+use Rattle.library_console.specs.Asked.{claimOf, NumberedByPlace, asked, deniedAs, consoleStartIn, ConsoleStartsTheSame, startAs, startWordsAs, checkpointAs, sendAs, deliverAs, loseAs, recoverAs, earliestAs}
 use Rattle.model.specs.declared.StartAnswer.the-variants as start-answer
 use Rattle.model.specs.declared.CheckpointAnswer.the-variants as checkpoint-answer
 use Rattle.model.specs.declared.SendAnswer.the-variants as send-answer
@@ -16,19 +19,6 @@ use Rattle.model.specs.declared.DeliverAnswer.the-variants as deliver-answer
 use Rattle.model.specs.declared.LoseAnswer.the-variants as lose-answer
 use Rattle.model.specs.declared.LineAnswer.the-variants as line-answer
 use Rattle.model.specs.declared.RecoverAnswer.the-variants as recover-answer
-use Rattle.whole_runs.specs.Outcomes.{Outcome, checkpointOutcome, sendOutcome, deliverOutcome, loseOutcome, recoverOutcome}
-use Rattle.whole_runs.specs.Earliest.{earliestOutcome}
-use Rattle.words.specs.Layout.{runOf}
-use Rattle.in_place.specs.Starting.{StartsTheSame, startOutcomeIn, startWords}
-use Rattle.in_place.proofs.Judging.{starts-the-same}
-use Rattle.theory_roles.specs.declared.Role.{Role}
-use Rattle.theory_roles.specs.declared.Role.the-variants.{Operator, JobOwner, Viewer}
-use Rattle.theory_roles.specs.declared.Operation.the-variants.{Start, Checkpoint, Send, Deliver, Lose, Recover, Earliest}
-use Rattle.theory_roles.specs.declared.Caller.{Caller}
-use Rattle.theory_roles.specs.Console.{denied, deniedProcess, deniedMessage, denial, consoleStart, consoleCheckpoint, consoleSend, consoleDeliver, consoleLose, consoleRecover, consoleEarliest}
-use Rattle.library_console.specs.declared.denied.Claim.{Claim}
-use Rattle.library_console.specs.declared.denied.Claim.the-variants.{Unknown, As}
-use Rattle.library_console.specs.Asked.{claimOf, NumberedByPlace, asked, deniedAs, consoleStartIn, ConsoleStartsTheSame, startAs, startWordsAs, checkpointAs, sendAs, deliverAs, loseAs, recoverAs, earliestAs}
 
 module _ {A : Type 0} (owned : ℕ) (test : Caller → Bool) (refusal : Outcome A) (made : Caller → Outcome A) {b : Bool} where
   pub asked-denied : (q : Claim) → b ≡ deniedAs q owned test → b ≡ true → asked q owned refusal (λ c. pick (test c) refusal (made c)) ≡ refusal

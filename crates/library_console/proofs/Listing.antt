@@ -1,42 +1,20 @@
 -- The checkpoints that are listed to a caller: of one process, and of the processes passed so far.
 -- Assumes nothing.
-use mathlib.Core.Path.{_≡_, refl, sym, ap, _∙_}
-use mathlib.Core.Bool.{Bool, true, false, not}
-use mathlib.Core.List.{List, [], _∷_, _++_}
-use mathlib.Core.Option.{Option, none, some}
-use Prim.Native.Nat.{ℕ, suc, _+_, _*_, _≤_, _<_}
+use Rattle.laws.specs.Basics.{_≡_, refl, sym, _∙_, ap, Bool, true, false, not, List, [], _∷_, _++_, Option, none, some, ℕ, suc, _+_, _*_, _≤_, _<_, arith, ltb, length, length-append, sets, pick, by-bool}
 use native.Mathlib.Nat.{suc-mul, mul-le-mul-right, mul-assoc}
 use native.Mathlib.Numerals.{add-one}
-use native.Mathlib.Omega.{arith}
-use lib.Dec.{ltb}
-use lib.ListN.{length, length-append}
-use lib.Seq.{sets}
-use Rattle.laws.specs.Choice.{pick, by-bool}
-use Rattle.laws.specs.Lists.{table, gather}
-use Rattle.laws.specs.Tables.{length-table, gather-same}
-use Rattle.laws.specs.Written.{sets-after}
-use Rattle.model.specs.declared.Checkpoint.{Checkpoint}
-use Rattle.model.specs.declared.Refusal.{Refusal}
+use Rattle.laws.specs.{Lists.table, Lists.gather, Tables.length-table, Tables.gather-same, Written.sets-after}
+use Rattle.model.specs.declared.{Checkpoint.Checkpoint, Refusal.Refusal, Run.Run}
 use Rattle.model.specs.declared.Refusal.the-variants.{Denied, UnsoundState, ListTooShort}
-use Rattle.model.specs.declared.Run.{Run}
-use Rattle.model.specs.Refusals.{firstOf}
-use Rattle.model.specs.Sound.{sound}
-use Rattle.model.specs.Words.{process}
-use Rattle.model.specs.Steps.{Deletion, listed}
+use Rattle.model.specs.{Refusals.firstOf, Sound.sound, Words.process, Steps.Deletion, Steps.listed}
 use Rattle.whole_runs.specs.Outcomes.{Outcome, judged, pairs}
 use Rattle.words.specs.Layout.{word, countOf, keptCountAt, checkpointIn, runOf}
-use Rattle.words.proofs.View.{count-is}
-use Rattle.words.proofs.ViewSound.{sound-words, sound-kept-is}
-use Rattle.theory_roles.specs.declared.Role.{Role}
-use Rattle.theory_roles.specs.declared.Caller.{Caller}
-use Rattle.theory_roles.specs.declared.Operation.the-variants.{List as Catalogue}
-use Rattle.theory_roles.specs.declared.ListAnswer.{ListAnswer}
+use Rattle.words.proofs.{View.count-is, ViewSound.sound-words, ViewSound.sound-kept-is}
+use Rattle.theory_roles.specs.declared.{Role.Role, Caller.Caller, Operation.the-variants.List as Catalogue, ListAnswer.ListAnswer}
 use Rattle.theory_roles.specs.declared.ListAnswer.the-variants.{Refused, Listed}
 use Rattle.theory_roles.specs.Console.{may, denied, entitled, entitledBy, listedTo, listRefusal, consoleList}
-use Rattle.library_console.specs.declared.denied.Claim.{Claim}
-use Rattle.library_console.specs.declared.denied.Claim.the-variants.{Unknown, As}
-use Rattle.library_console.specs.Asked.{claimOf, asked, listAs}
-use Rattle.library_console.specs.Listed.{listedOf, listedBelow}
+use Rattle.library_console.specs.declared.{denied.Claim.Claim, denied.Claim.the-variants.Unknown, denied.Claim.the-variants.As}
+use Rattle.library_console.specs.{Asked.claimOf, Asked.asked, Asked.listAs, Listed.listedOf, Listed.listedBelow}
 
 length-listed : (p : ℕ) (l : List Checkpoint) → length (listed p l) ≡ length l
 unfolding listed

@@ -1,29 +1,12 @@
 -- The caller's members of a line: the call on a list of 16 entries answers as that on the lent one, and what is then written of it.
 -- Assumes nothing.
-use mathlib.Core.Path.{_≡_, refl, sym, _∙_, ap}
-use mathlib.Core.Bool.{Bool, true, false, false≢true}
-use mathlib.Core.List.{List, []}
-use mathlib.Core.Option.{Option, none, some}
-use Prim.Native.Nat.{ℕ, _≤_, _<_}
-use native.Mathlib.Omega.{arith}
-use borrow.Author.Tests.{lt-ltb, le-ltb, ltb-true, ltb-false}
-use lib.Dec.{ltb}
-use lib.ListN.{length, getD, replicate, length-replicate}
-use lib.Seq.{sets, ext-getD}
-use Rattle.laws.specs.Below.{below-written}
-use Rattle.laws.specs.Choice.{pick, by-bool, pick-same}
-use Rattle.laws.specs.Lists.{table}
-use Rattle.laws.specs.Loops.{setBelow, below-at, below-above, below-length}
+use Rattle.laws.specs.Basics.{_≡_, refl, sym, _∙_, ap, Bool, true, false, false≢true, List, [], Option, none, some, ℕ, _≤_, _<_, arith, ltb, length, getD, replicate, length-replicate, sets, lt-ltb, le-ltb, ltb-true, ltb-false, pick, by-bool}
+use lib.Seq.{ext-getD}
+use Rattle.laws.specs.{Below.below-written, Choice.pick-same, Lists.table, Loops.setBelow, Loops.below-at, Loops.below-above, Loops.below-length}
 use Rattle.laws.specs.Tables.{table-is}
-use Rattle.model.specs.declared.Run.{Run}
-use Rattle.model.specs.declared.Refusal.{Refusal}
-use Rattle.model.specs.declared.Refusal.the-variants.{UnsoundState}
-use Rattle.model.specs.declared.LineAnswer.{LineAnswer}
+use Rattle.model.specs.declared.{Run.Run, Refusal.Refusal, Refusal.the-variants.UnsoundState, LineAnswer.LineAnswer}
 use Rattle.model.specs.declared.LineAnswer.the-variants.{Refused, Written}
-use Rattle.model.specs.Sound.{sound}
-use Rattle.model.specs.Steps.{lineOf, member}
-use Rattle.model.specs.Refusals.{firstOf, lineRefusal}
-use Rattle.model.specs.laws.Sound.{sound-state}
+use Rattle.model.specs.{Sound.sound, Steps.lineOf, Steps.member, Refusals.firstOf, Refusals.lineRefusal, laws.Sound.sound-state}
 use Rattle.whole_runs.specs.Outcomes.{Outcome, judged, lineOutcome}
 use Rattle.whole_runs.proofs.Unsound.{line-unsound}
 use Rattle.theory_roles.specs.declared.Caller.{Caller}

@@ -1,32 +1,17 @@
 -- The message that the run of any words has under way under a number is the one that the places of the words are searched for.
 -- Assumes nothing.
-use mathlib.Core.Path.{_≡_, refl, sym, _∙_, ap}
-use mathlib.Core.Bool.{Bool, true, false, not, _&&_}
-use mathlib.Core.List.{List, [], _∷_, _++_, append-nil}
-use mathlib.Core.Option.{Option, none, some}
-use Prim.Native.Nat.{ℕ, zero, suc, _+_, _-_, _≤_, _<_}
+use Rattle.laws.specs.Basics.{_≡_, refl, sym, _∙_, ap, Bool, true, false, not, _&&_, List, [], _∷_, _++_, append-nil, Option, none, some, ℕ, zero, suc, _+_, _-_, _≤_, _<_, arith, eqb, ltb, length, take, replicate, length-append, eq-eqb, ne-eqb, lt-ltb, le-ltb, ltb-true, ltb-false, pick, by-bool, by-eq}
 use native.Mathlib.Numerals.{add-one}
-use native.Mathlib.Omega.{arith}
-use lib.Dec.{eqb, ltb}
-use lib.ListN.{length, take, replicate, length-append}
 use lib.Seq.{take-all}
-use borrow.Author.Tests.{lt-ltb, le-ltb, ltb-true, ltb-false, eq-eqb, ne-eqb}
-use Rattle.laws.specs.Choice.{pick, by-bool, by-eq}
-use Rattle.laws.specs.Lists.{select, orElse, lastOf, table, placed}
-use Rattle.laws.specs.Select.{select-append, select-length, lastOf-snoc}
-use Rattle.laws.specs.Tables.{length-table}
-use Rattle.laws.specs.Truth.{and-no-right}
-use Rattle.model.specs.declared.Message.{Message}
-use Rattle.model.specs.declared.Run.{Run}
-use Rattle.model.specs.Words.{noMessage, mostUnderWay, blank, underWay}
-use Rattle.model.specs.Steps.{found}
+use Rattle.laws.specs.{Lists.select, Lists.orElse, Lists.lastOf, Lists.table, Lists.placed, Select.select-append, Select.select-length, Select.lastOf-snoc}
+use Rattle.laws.specs.{Tables.length-table, Truth.and-no-right}
+use Rattle.model.specs.declared.{Message.Message, Run.Run}
+use Rattle.model.specs.{Words.noMessage, Words.mostUnderWay, Words.blank, Words.underWay, Steps.found}
 use Rattle.words.specs.Layout.{word, endOf, fits, receiverAt, messageIn, isMessage, messagesIn, runOf}
-use Rattle.words.proofs.View.{run-unfit, underway-is, messages-is}
-use Rattle.words.proofs.messages.Selected.{select-more, select-less}
+use Rattle.words.proofs.{View.run-unfit, View.underway-is, View.messages-is, messages.Selected.select-more, messages.Selected.select-less}
 use Rattle.theory_roles.specs.declared.Role.the-variants.{JobOwner}
 use Rattle.theory_roles.specs.Console.{owns, entitledMessageBy}
-use Rattle.library_console.specs.declared.receivers.Receiver.{Receiver}
-use Rattle.library_console.specs.declared.receivers.Searched.{Searched}
+use Rattle.library_console.specs.declared.{receivers.Receiver.Receiver, receivers.Searched.Searched}
 use Rattle.library_console.specs.Receivers.{usedBelow, hasAt, foundBelow, zerosUnderWay, foundIn, receiverIs, SearchedTo}
 
 -- The front of a list that goes on, within it and past it.

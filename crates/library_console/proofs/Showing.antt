@@ -1,34 +1,17 @@
 -- What is shown of words: a line, by the cases of who asks, and the counts, which are refused with 2 or 3 or written.
 -- Assumes nothing.
-use mathlib.Core.Path.{_≡_, refl, sym, _∙_, ap}
-use mathlib.Core.Bool.{Bool, true, false, not}
-use mathlib.Core.List.{List, []}
-use Prim.Native.Nat.{ℕ, _+_, _≤_, _<_}
-use native.Mathlib.Omega.{arith}
-use lib.Dec.{ltb}
-use lib.ListN.{length}
-use lib.Seq.{sets}
-use Rattle.laws.specs.Choice.{pick, by-bool}
-use Rattle.laws.specs.Lists.{table}
-use Rattle.laws.specs.Tables.{table-same}
-use Rattle.model.specs.declared.Run.{Run}
-use Rattle.model.specs.declared.Refusal.the-variants.{Denied, UnsoundState, ListTooShort}
-use Rattle.model.specs.declared.LineAnswer.{LineAnswer}
-use Rattle.model.specs.declared.LineAnswer.the-variants.{Refused, Written}
-use Rattle.model.specs.Words.{process}
-use Rattle.model.specs.Sound.{sound}
-use Rattle.model.specs.Refusals.{firstOf}
+use Rattle.laws.specs.Basics.{_≡_, refl, sym, _∙_, ap, Bool, true, false, not, List, [], ℕ, _+_, _≤_, _<_, arith, ltb, length, sets, pick, by-bool}
+use Rattle.laws.specs.{Lists.table, Tables.table-same}
+use Rattle.model.specs.declared.{Run.Run, Refusal.the-variants.Denied, Refusal.the-variants.UnsoundState, Refusal.the-variants.ListTooShort}
+use Rattle.model.specs.declared.{LineAnswer.LineAnswer, LineAnswer.the-variants.Refused, LineAnswer.the-variants.Written}
+use Rattle.model.specs.{Words.process, Sound.sound, Refusals.firstOf}
 use Rattle.whole_runs.specs.Outcomes.{Outcome, judged, lineOutcome}
 use Rattle.words.specs.Layout.{word, keptCountAt, runOf}
-use Rattle.words.proofs.View.{count-is, process-is, kept-count}
-use Rattle.words.proofs.ViewSound.{sound-words, sound-part}
+use Rattle.words.proofs.{View.count-is, View.process-is, View.kept-count, ViewSound.sound-words, ViewSound.sound-part}
 use Rattle.library_readers.specs.Written.{wordsFrom}
-use Rattle.theory_roles.specs.declared.Role.{Role}
-use Rattle.theory_roles.specs.declared.Caller.{Caller}
-use Rattle.theory_roles.specs.declared.Operation.the-variants.{Line, Counts}
+use Rattle.theory_roles.specs.declared.{Role.Role, Caller.Caller, Operation.the-variants.Line, Operation.the-variants.Counts}
 use Rattle.theory_roles.specs.Console.{may, denied, denial, shown, consoleLine, consoleCounts, countsRefusal, keptCounts}
-use Rattle.library_console.specs.declared.denied.Claim.{Claim}
-use Rattle.library_console.specs.declared.denied.Claim.the-variants.{Unknown, As}
+use Rattle.library_console.specs.declared.{denied.Claim.Claim, denied.Claim.the-variants.Unknown, denied.Claim.the-variants.As}
 use Rattle.library_console.specs.Asked.{claimOf, asked, deniedAs, lineAs, countsAs}
 use Rattle.library_console.proofs.Asking.{asked-denied, asked-made}
 

@@ -1,41 +1,23 @@
 -- Document 02, Note 13, for callers who give the number of a role and lend words: who asks, and what each call's outcome then is, by the definitions of the crate roles.
 -- Assumes nothing.
-use mathlib.Core.Path.{_≡_}
-use mathlib.Core.Bool.{Bool, true, false}
-use mathlib.Core.List.{List, []}
-use Prim.Native.Nat.{ℕ, _≤_}
-use lib.Dec.{eqb}
-use lib.ListN.{length}
-use Rattle.laws.specs.Choice.{pick}
-use Rattle.model.specs.declared.Run.{Run}
-use Rattle.model.specs.declared.Named.{Named}
-use Rattle.model.specs.declared.Refusal.the-variants.{Denied}
-use Rattle.model.specs.declared.StartAnswer.{StartAnswer}
-use Rattle.model.specs.declared.StartAnswer.the-variants as start-answer
-use Rattle.model.specs.declared.CheckpointAnswer.{CheckpointAnswer}
-use Rattle.model.specs.declared.CheckpointAnswer.the-variants as checkpoint-answer
-use Rattle.model.specs.declared.SendAnswer.{SendAnswer}
-use Rattle.model.specs.declared.SendAnswer.the-variants as send-answer
-use Rattle.model.specs.declared.DeliverAnswer.{DeliverAnswer}
-use Rattle.model.specs.declared.DeliverAnswer.the-variants as deliver-answer
-use Rattle.model.specs.declared.LoseAnswer.{LoseAnswer}
-use Rattle.model.specs.declared.LoseAnswer.the-variants as lose-answer
-use Rattle.model.specs.declared.LineAnswer.{LineAnswer}
-use Rattle.model.specs.declared.LineAnswer.the-variants as line-answer
-use Rattle.model.specs.declared.RecoverAnswer.{RecoverAnswer}
-use Rattle.model.specs.declared.RecoverAnswer.the-variants as recover-answer
+use Rattle.laws.specs.Basics.{_≡_, Bool, true, false, List, [], ℕ, _≤_, eqb, length, pick}
+use Rattle.model.specs.declared.{Run.Run, Named.Named, Refusal.the-variants.Denied, StartAnswer.StartAnswer, CheckpointAnswer.CheckpointAnswer}
+use Rattle.model.specs.declared.{SendAnswer.SendAnswer, DeliverAnswer.DeliverAnswer, LoseAnswer.LoseAnswer, LineAnswer.LineAnswer, RecoverAnswer.RecoverAnswer}
 use Rattle.whole_runs.specs.Outcomes.{Outcome}
 use Rattle.words.specs.Layout.{stateSize, runOf}
 use Rattle.in_place.specs.Starting.{startOutcomeIn, startWords}
-use Rattle.theory_roles.specs.declared.Role.{Role}
-use Rattle.theory_roles.specs.declared.Role.the-variants.{Operator, JobOwner, Viewer}
-use Rattle.theory_roles.specs.declared.Operation.the-variants.{Start}
-use Rattle.theory_roles.specs.declared.Caller.{Caller}
-use Rattle.theory_roles.specs.declared.ListAnswer.{ListAnswer}
-use Rattle.theory_roles.specs.declared.ListAnswer.the-variants as list-answer
+use Rattle.theory_roles.specs.declared.{Role.Role, Role.the-variants.Operator, Role.the-variants.JobOwner, Role.the-variants.Viewer, Caller.Caller}
+use Rattle.theory_roles.specs.declared.{Operation.the-variants.Start, ListAnswer.ListAnswer}
 use Rattle.theory_roles.specs.Console.{rolePlace, denied, denial, consoleStart, consoleCheckpoint, consoleSend, consoleDeliver, consoleLose, consoleRecover, consoleLine, consoleEarliest, consoleList, consoleCounts}
-use Rattle.library_console.specs.declared.denied.Claim.{Claim}
-use Rattle.library_console.specs.declared.denied.Claim.the-variants.{Unknown, As}
+use Rattle.library_console.specs.declared.{denied.Claim.Claim, denied.Claim.the-variants.Unknown, denied.Claim.the-variants.As}
+use Rattle.model.specs.declared.StartAnswer.the-variants as start-answer
+use Rattle.model.specs.declared.CheckpointAnswer.the-variants as checkpoint-answer
+use Rattle.model.specs.declared.SendAnswer.the-variants as send-answer
+use Rattle.model.specs.declared.DeliverAnswer.the-variants as deliver-answer
+use Rattle.model.specs.declared.LoseAnswer.the-variants as lose-answer
+use Rattle.model.specs.declared.LineAnswer.the-variants as line-answer
+use Rattle.model.specs.declared.RecoverAnswer.the-variants as recover-answer
+use Rattle.theory_roles.specs.declared.ListAnswer.the-variants as list-answer
 
 -- A role's number is its place in the table of roles and operations. Other numbers are no role's.
 unfoldable pub claimOf : ℕ → Claim

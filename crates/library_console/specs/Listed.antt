@@ -1,8 +1,6 @@
 -- The checkpoints that are listed to a caller, by the words: of one process, and of the first ones.
 -- Assumes nothing.
-use mathlib.Core.List.{List, []}
-use Prim.Native.Nat.{ℕ}
-use Rattle.laws.specs.Choice.{pick}
+use Rattle.laws.specs.Basics.{List, [], ℕ, pick}
 use Rattle.laws.specs.Lists.{table, gather}
 use Rattle.model.specs.Steps.{Deletion, listed}
 use Rattle.words.specs.Layout.{word, keptCountAt, checkpointIn}

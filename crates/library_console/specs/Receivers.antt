@@ -1,20 +1,12 @@
 -- The message with a number that the run of any words has under way: those in the used places, in order, as many as are said to be under way. Where more are said to be
 -- than there are, the run's table holds zeros there, which have the number 0.
 -- Assumes nothing.
-use mathlib.Core.Path.{_≡_}
-use mathlib.Core.Bool.{Bool, true, false, _&&_}
-use mathlib.Core.List.{List}
-use mathlib.Core.Option.{Option, none, some}
-use Prim.Native.Nat.{ℕ, zero, suc}
-use lib.Dec.{eqb, ltb}
-use lib.ListN.{length}
-use Rattle.laws.specs.Choice.{pick}
+use Rattle.laws.specs.Basics.{_≡_, Bool, true, false, _&&_, List, Option, none, some, ℕ, zero, suc, eqb, ltb, length, pick}
 use Rattle.laws.specs.Lists.{select, table}
 use Rattle.model.specs.declared.Message.{Message}
 use Rattle.model.specs.Words.{noMessage, mostUnderWay}
 use Rattle.words.specs.Layout.{word, endOf, messageIn, isMessage}
-use Rattle.library_console.specs.declared.receivers.Receiver.{Receiver}
-use Rattle.library_console.specs.declared.receivers.Searched.{Searched}
+use Rattle.library_console.specs.declared.{receivers.Receiver.Receiver, receivers.Searched.Searched}
 
 -- How many of the first k places are used.
 unfoldable pub usedBelow : List ℕ → ℕ → ℕ

@@ -10,19 +10,17 @@ use model::Refusal;
 use model::SendAnswer;
 use model::StartAnswer;
 use theory_roles::Operation;
-ghost use mathlib.Core.Path.{_≡_};
-ghost use lib.ListN.{length};
+ghost use Rattle.laws.specs.Basics.{_≡_, length};
 ghost use Rattle.model.specs.declared.Refusal.{Refusal};
+ghost use Rattle.words.specs.{Clean.Clean, Layout.runOf, Layout.stateSize};
+ghost use Rattle.words_line.specs.Through.{namedIn};
+ghost use Rattle.in_place.specs.Left.{Leaves};
+ghost use Rattle.library_console.specs.Asked.{startAs, startWordsAs, checkpointAs, sendAs, deliverAs, loseAs, recoverAs, earliestAs};
 ghost use Rattle.model.specs.declared.CheckpointAnswer.the-variants as storing;
 ghost use Rattle.model.specs.declared.SendAnswer.the-variants as sending;
 ghost use Rattle.model.specs.declared.DeliverAnswer.the-variants as delivering;
 ghost use Rattle.model.specs.declared.LoseAnswer.the-variants as losing;
 ghost use Rattle.model.specs.declared.RecoverAnswer.the-variants as recovering;
-ghost use Rattle.words.specs.Clean.{Clean};
-ghost use Rattle.words.specs.Layout.{runOf, stateSize};
-ghost use Rattle.words_line.specs.Through.{namedIn};
-ghost use Rattle.in_place.specs.Left.{Leaves};
-ghost use Rattle.library_console.specs.Asked.{startAs, startWordsAs, checkpointAs, sendAs, deliverAs, loseAs, recoverAs, earliestAs};
 
 // A run of n processes with the block count of each: for an operator alone. A start that is denied leaves the words as they were.
 pub fn start(role: u32, owned: u32, w: &mut [u16], n: usize, block_counts: &[u32]) -> StartAnswer

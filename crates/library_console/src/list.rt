@@ -6,21 +6,13 @@ use theory_roles::ListAnswer;
 use theory_roles::Operation;
 use theory_roles::Role;
 use words::places;
-ghost use mathlib.Core.Path.{_≡_};
-ghost use mathlib.Core.Bool.{true};
-ghost use mathlib.Core.List.{[], _∷_};
-ghost use Prim.Native.Nat.{ℕ, _+_, _*_, _≤_, _<_};
-ghost use lib.ListN.{length};
-ghost use lib.Seq.{sets};
+ghost use Rattle.laws.specs.Basics.{_≡_, true, [], _∷_, ℕ, _+_, _*_, _≤_, _<_, length, sets};
 ghost use Rattle.laws.specs.Lists.{table};
-ghost use Rattle.model.specs.Sound.{sound};
-ghost use Rattle.model.specs.Steps.{listed};
-ghost use Rattle.model.specs.Words.{mostProcesses, keptPlaces};
+ghost use Rattle.model.specs.{Sound.sound, Steps.listed, Words.mostProcesses, Words.keptPlaces};
 ghost use Rattle.whole_runs.specs.Outcomes.{pairs};
 ghost use Rattle.words.specs.Layout.{word, countOf, keptCountAt, indexAt, checkpointIn, runOf, stateSize};
 ghost use Rattle.theory_roles.specs.Console.{consoleList};
-ghost use Rattle.library_console.specs.Asked.{listAs};
-ghost use Rattle.library_console.specs.Listed.{listedOf, listedBelow};
+ghost use Rattle.library_console.specs.{Asked.listAs, Listed.listedOf, Listed.listedBelow};
 
 // The pair of the checkpoint in place k of process p goes to the lent list from place `at` on.
 fn write_pair(w: &[u16], p: usize, k: usize, deleted: &mut [u16], at: usize)

@@ -2,12 +2,8 @@
 use crate::denied;
 use model::MESSAGES;
 use words::places;
-ghost use mathlib.Core.Path.{_≡_};
-ghost use mathlib.Core.Bool.{true};
-ghost use Prim.Native.Nat.{_+_, _≤_, _<_};
-ghost use lib.ListN.{length};
-ghost use Rattle.model.specs.Steps.{found};
-ghost use Rattle.model.specs.Words.{mostUnderWay};
+ghost use Rattle.laws.specs.Basics.{_≡_, true, _+_, _≤_, _<_, length};
+ghost use Rattle.model.specs.{Steps.found, Words.mostUnderWay};
 ghost use Rattle.words.specs.Layout.{word, fits, runOf, stateSize};
 ghost use Rattle.library_console.specs.Receivers.{SearchedTo, foundIn, receiverIs};
 

@@ -1,16 +1,10 @@
 -- The bytes of a log.
 -- Assumes nothing.
-use mathlib.Core.Path.{_≡_, refl, _∙_}
-use mathlib.Core.List.{List, [], _∷_}
-use Prim.Native.Nat.{ℕ, zero, suc, _+_, _*_}
-use native.Mathlib.Omega.{arith}
+use Rattle.laws.specs.Basics.{_≡_, refl, _∙_, List, [], _∷_, ℕ, zero, suc, _+_, _*_, arith, length, getD, length-append, sets}
 use native.Mathlib.Numerals.{add-one}
-use lib.ListN.{length, getD, length-append}
-use lib.Seq.{sets}
 use Rattle.laws.specs.Written.{sets-after}
 use Rattle.model.specs.Trace.{bytesOf}
-use Rattle.theory_merges.specs.Halves.{HalfEvent}
-use Rattle.theory_merges.specs.Merge.{plainBytes}
+use Rattle.theory_merges.specs.{Halves.HalfEvent, Merge.plainBytes}
 use Rattle.library_halves.specs.Log.{wordIn, Logged, bytesUpTo}
 
 pub bytes-none : (out log : List ℕ) → out ≡ sets out 1 (bytesUpTo 0 log)

@@ -1,18 +1,11 @@
 -- The loop of a merge: what is known of the records taken.
 -- Assumes nothing.
-use mathlib.Core.Path.{_≡_, refl, sym, _∙_, ap}
-use mathlib.Core.List.{List, [], _∷_}
-use Prim.Native.Nat.{ℕ, zero, suc, _+_, _*_, _≤_, _<_}
-use native.Mathlib.Omega.{arith}
-use lib.ListN.{length, getD, set}
-use lib.Seq.{getD-set-same, getD-set-other}
+use Rattle.laws.specs.Basics.{_≡_, refl, sym, _∙_, ap, List, [], _∷_, ℕ, zero, suc, _+_, _*_, _≤_, _<_, arith, length, getD, set, getD-set-same, getD-set-other}
 use Rattle.model.specs.declared.Refusal.{Refusal}
-use Rattle.theory_merges.specs.Halves.{HalfEvent}
-use Rattle.theory_merges.specs.Merge.{stopped, takeFrom}
+use Rattle.theory_merges.specs.{Halves.HalfEvent, Merge.stopped, Merge.takeFrom}
+use Rattle.library_halves.specs.{Log.Logged, Taking.left, Taking.Steps, Taking.Takes}
 use Rattle.library_halves.specs.declared.taking.Step.the-variants as step
 use Rattle.admissions.specs.declared.Admission.the-variants as admission
-use Rattle.library_halves.specs.Log.{Logged}
-use Rattle.library_halves.specs.Taking.{left, Steps, Takes}
 
 -- A word after the log leaves it as it was.
 logged-kept : (l : List HalfEvent) (log : List ℕ) (i w : ℕ) → length l ≤ i → Logged l log → Logged l (set log i w)

@@ -1,26 +1,16 @@
 -- The records of a half that are left, and which of them is next.
 -- Assumes nothing.
-use mathlib.Core.Path.{_≡_, refl, _∙_, ap}
-use mathlib.Core.Bool.{true, false}
-use mathlib.Core.List.{List, [], _∷_}
-use mathlib.Core.Option.{none, some}
-use Prim.Native.Nat.{ℕ, suc, _+_, _*_, _/_, _%_, _≤_, _<_}
-use native.Mathlib.Omega.{arith}
-use lib.Dec.{eqb, leb}
-use lib.ListN.{length, take, drop, length-drop}
+use Rattle.laws.specs.Basics.{_≡_, refl, _∙_, ap, true, false, List, [], _∷_, none, some, ℕ, suc, _+_, _*_, _/_, _%_, _≤_, _<_, arith, eqb, leb, length, take, drop, length-drop, eq-eqb, ne-eqb, eqb-true, le-leb, leb-true, leb-false, by-bool, by-eq}
 use lib.Seq.{drop-drop}
-use borrow.Author.Tests.{eq-eqb, ne-eqb, eqb-true, leb-true, leb-false, le-leb}
-use Rattle.laws.specs.Choice.{by-bool, by-eq}
 use Rattle.laws.specs.Truth.{and-left, and-right}
-use Rattle.model.specs.declared.Fields.{Fields}
-use Rattle.model.specs.declared.Refusal.the-variants.{NeitherReady}
+use Rattle.model.specs.declared.{Fields.Fields, Refusal.the-variants.NeitherReady}
 use Rattle.model.specs.Trace.{fields, ifZero}
 use Rattle.theory_merges.specs.Halves.{HalfEvent, checkpointAt, sendTo, messageNumber}
 use Rattle.theory_merges.specs.Merge.{stopped, nextIs, neither, nextOfSecond, nextRecord, isReady, halfEventOf, onNext, takeFrom, fieldsIn}
 use Rattle.trace.specs.Answers.{recordAt, fieldsRead}
 use Rattle.library_halves.specs.declared.record.Judged.{Judged}
-use Rattle.library_halves.specs.declared.record.Judged.the-variants as judged
 use Rattle.library_halves.specs.Taking.{Judges, messageOf, stepOf, left, readyAt, Steps}
+use Rattle.library_halves.specs.declared.record.Judged.the-variants as judged
 
 -- The fields of four bytes.
 pub read-is : (part : List ℕ) → length part ≡ 4 → fieldsRead part ≡ fields part

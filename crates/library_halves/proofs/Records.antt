@@ -1,23 +1,12 @@
 -- What a record of a half is found to be.
 -- Assumes nothing.
-use mathlib.Core.Path.{_≡_, refl}
-use mathlib.Core.Bool.{Bool, true, false, not}
-use mathlib.Core.List.{List}
-use mathlib.Core.Option.{Option, some}
-use mathlib.Core.Logic.{_⊎_}
-use Prim.Native.Nat.{ℕ, zero, suc, _+_, _*_, _/_, _%_, _≤_, _<_}
-use native.Mathlib.Omega.{arith}
-use lib.Dec.{eqb}
-use borrow.Author.Tests.{lt-ltb, le-leb, lt-leb, eq-eqb, ne-eqb}
-use Rattle.laws.specs.Choice.{by-bool}
+use Rattle.laws.specs.Basics.{_≡_, refl, Bool, true, false, not, List, Option, some, _⊎_, ℕ, zero, suc, _+_, _*_, _/_, _%_, _≤_, _<_, arith, eqb, eq-eqb, ne-eqb, lt-ltb, le-leb, lt-leb, by-bool}
 use Rattle.laws.specs.Loops.{either}
 use Rattle.model.specs.declared.Refusal.the-variants.{NoSuchProcess, SenderIsReceiver, HalvesMismatch, MalformedRecord}
-use Rattle.model.specs.Refusals.{firstOf}
-use Rattle.model.specs.Trace.{ifZero, fieldsOf, fits, wordOf}
+use Rattle.model.specs.{Refusals.firstOf, Trace.ifZero, Trace.fieldsOf, Trace.fits, Trace.wordOf}
 use Rattle.theory_merges.specs.Halves.{HalfEvent, checkpointAt, sendTo, messageNumber, receiverOf, plainEvent, happensAt}
 use Rattle.theory_merges.specs.Merge.{Taken, stopped, outOfRun, toItself, inHalf, recordRefusal, onRecord}
-use Rattle.library_halves.specs.Log.{wordIn}
-use Rattle.library_halves.specs.Taking.{messageOf}
+use Rattle.library_halves.specs.{Log.wordIn, Taking.messageOf}
 
 module _ (n set : ℕ) (side : Bool) (l : List HalfEvent) where
   -- A field that must be zero is not.

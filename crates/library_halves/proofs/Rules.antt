@@ -1,14 +1,6 @@
 -- What is judged of both halves before any record: the tests of the code and those of the model.
 -- Assumes nothing.
-use mathlib.Core.Path.{_≡_, refl}
-use mathlib.Core.Bool.{Bool, true, false, _||_, not}
-use mathlib.Core.List.{List, [], _∷_}
-use Prim.Native.Nat.{ℕ, _+_, _-_, _/_, _%_, _^_, _≤_, _<_}
-use native.Mathlib.Omega.{arith}
-use lib.Dec.{eqb, ltb, leb}
-use lib.ListN.{length, getD}
-use borrow.Author.Tests.{eq-eqb, ne-eqb, le-leb, lt-leb, lt-ltb, le-ltb, leb-true, leb-false, ltb-true, ltb-false}
-use Rattle.laws.specs.Choice.{by-bool}
+use Rattle.laws.specs.Basics.{_≡_, refl, Bool, true, false, not, _||_, List, [], _∷_, ℕ, _+_, _-_, _/_, _%_, _^_, _≤_, _<_, arith, eqb, ltb, leb, length, getD, eq-eqb, ne-eqb, lt-ltb, le-ltb, ltb-true, ltb-false, le-leb, lt-leb, leb-true, leb-false, by-bool}
 use Rattle.model.specs.Refusals.{firstOf}
 use Rattle.theory_merges.specs.Merge.{badCount, countOf, afterFirstByte, leftOver, tooMany, mergeRefusal}
 use Rattle.library_halves.specs.Both.{rulesOf}

@@ -1,17 +1,8 @@
 -- What is counted in the log of a merge is what the model says of the records taken.
 -- Assumes nothing.
-use mathlib.Core.Path.{_≡_, refl, _∙_, ap}
-use mathlib.Core.Bool.{true}
-use mathlib.Core.List.{List, [], _∷_}
-use Prim.Native.Nat.{ℕ, zero, suc, _+_, _*_, _/_, _%_, _≤_, _<_}
-use native.Mathlib.Omega.{arith}
+use Rattle.laws.specs.Basics.{_≡_, refl, _∙_, ap, true, List, [], _∷_, ℕ, zero, suc, _+_, _*_, _/_, _%_, _≤_, _<_, arith, eqb, ltb, length, getD, eq-eqb, ne-eqb, ltb-true, pick, by-bool, by-eq}
 use native.Mathlib.Numerals.{add-one}
-use lib.Dec.{eqb, ltb}
-use lib.ListN.{length, getD}
-use borrow.Author.Tests.{ltb-true, eq-eqb, ne-eqb}
-use Rattle.laws.specs.Choice.{pick, by-bool, by-eq}
-use Rattle.laws.specs.Loops.{iter, iter-more}
-use Rattle.laws.specs.Truth.{and-left, and-right}
+use Rattle.laws.specs.{Loops.iter, Loops.iter-more, Truth.and-left, Truth.and-right}
 use Rattle.model.specs.declared.Event.{Event}
 use Rattle.model.specs.Trace.{fieldsOf, fits, wordOf}
 use Rattle.theory_merges.specs.Halves.{HalfEvent, checkpointAt, sendTo, deliverOf, loseOf, isSend, sendBy, howMany, isSendNumber, messageNumber, receives, receiverOf, plainEvent}

@@ -1,22 +1,15 @@
 -- The whole merge: what its parts come to.
 -- Assumes nothing.
-use mathlib.Core.Path.{_≡_, refl, sym, _∙_, ap}
-use mathlib.Core.List.{List, [], _∷_}
-use mathlib.Core.Option.{Option, none, some}
-use Prim.Native.Nat.{ℕ, _+_, _-_, _*_, _/_}
-use lib.ListN.{length, set}
-use lib.Seq.{sets}
+use Rattle.laws.specs.Basics.{_≡_, refl, sym, _∙_, ap, List, [], _∷_, Option, none, some, ℕ, _+_, _-_, _*_, _/_, length, set, sets}
 use Rattle.model.specs.declared.Refusal.{Refusal}
-use Rattle.model.specs.declared.MergeAnswer.the-variants as merge-answer
 use Rattle.theory_merges.specs.Merge.{takeFrom, countOf, afterFirstByte, fieldsIn, mergeRefusal, plainBytes, MergeOutcome, finished, mergeOutcome}
 use Rattle.theory_merges.proofs.Replaying.{how-many}
 use Rattle.admissions.specs.declared.Admission.{Admission}
-use Rattle.admissions.specs.declared.Admission.the-variants as admission
 use Rattle.admissions.specs.Admissions.{refusalOf}
-use Rattle.library_halves.specs.Log.{bytesUpTo}
-use Rattle.library_halves.specs.Taking.{left, Takes}
-use Rattle.library_halves.proofs.Bytes.{bytes-length, logged-bytes}
-use Rattle.library_halves.proofs.Rules.{after-first-is}
+use Rattle.library_halves.specs.{Log.bytesUpTo, Taking.left, Taking.Takes}
+use Rattle.library_halves.proofs.{Bytes.bytes-length, Bytes.logged-bytes, Rules.after-first-is}
+use Rattle.model.specs.declared.MergeAnswer.the-variants as merge-answer
+use Rattle.admissions.specs.declared.Admission.the-variants as admission
 
 -- All records of a half are left after none of them.
 left-all : (l : List ℕ) → fieldsIn (afterFirstByte l) ≡ left l 0

@@ -1,7 +1,6 @@
 -- What is judged before any record, as tests and the refusals that they give.
 -- Assumes nothing.
-use mathlib.Core.Bool.{Bool}
-use mathlib.Core.List.{List, [], _∷_}
+use Rattle.laws.specs.Basics.{Bool, List, [], _∷_}
 use Rattle.model.specs.declared.Refusal.the-variants.{CountOutsideRange, ListTooShort, NoSuchFailedProcess, NoFirstByte, LeftOverBytes, TooManyRecords, HalvesMismatch}
 use Rattle.model.specs.Refusals.{Rule}
 

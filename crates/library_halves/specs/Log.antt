@@ -1,12 +1,6 @@
 -- The log of a merge: a word of the merged trace for each record taken, oldest first. What is read off it, and what is written of it.
 -- Assumes nothing.
-use mathlib.Core.Path.{_≡_}
-use mathlib.Core.Bool.{true}
-use mathlib.Core.List.{List, [], _∷_, _++_}
-use Prim.Native.Nat.{ℕ, zero, suc, _+_, _/_, _%_, _≤_}
-use lib.Dec.{eqb}
-use lib.ListN.{length, getD}
-use Rattle.laws.specs.Choice.{pick}
+use Rattle.laws.specs.Basics.{_≡_, true, List, [], _∷_, _++_, ℕ, zero, suc, _+_, _/_, _%_, _≤_, eqb, length, getD, pick}
 use Rattle.laws.specs.Loops.{iter}
 use Rattle.model.specs.Trace.{fieldsOf, fits, wordOf, bytesOf}
 use Rattle.theory_merges.specs.Halves.{HalfEvent, plainEvent}

@@ -1,25 +1,17 @@
 -- What the functions that take records answer, in the words of the model.
 -- Assumes nothing.
-use mathlib.Core.Path.{_≡_}
-use mathlib.Core.Bool.{Bool, true, false, _&&_}
-use mathlib.Core.List.{List, [], _∷_}
-use mathlib.Core.Option.{Option}
-use Prim.Native.Nat.{ℕ, suc, _+_, _*_, _/_, _%_, _≤_}
-use lib.Dec.{eqb}
-use lib.ListN.{length, drop}
-use Rattle.laws.specs.Choice.{pick}
+use Rattle.laws.specs.Basics.{_≡_, Bool, true, false, _&&_, List, [], _∷_, Option, ℕ, suc, _+_, _*_, _/_, _%_, _≤_, eqb, length, drop, pick}
 use Rattle.model.specs.declared.Fields.{Fields}
 use Rattle.model.specs.Trace.{fields, fits}
 use Rattle.theory_merges.specs.Halves.{HalfEvent, deliverOf, loseOf, plainEvent}
 use Rattle.theory_merges.specs.Merge.{Taken, stopped, took, isReady, onRecord, takeFrom, fieldsIn}
 use Rattle.admissions.specs.declared.Admission.{Admission}
-use Rattle.admissions.specs.declared.Admission.the-variants as admission
 use Rattle.trace.specs.Answers.{recordAt}
-use Rattle.library_halves.specs.declared.record.Judged.{Judged}
-use Rattle.library_halves.specs.declared.record.Judged.the-variants as judged
-use Rattle.library_halves.specs.declared.taking.Step.{Step}
-use Rattle.library_halves.specs.declared.taking.Step.the-variants as step
+use Rattle.library_halves.specs.declared.{record.Judged.Judged, taking.Step.Step}
 use Rattle.library_halves.specs.Log.{wordIn, Logged}
+use Rattle.admissions.specs.declared.Admission.the-variants as admission
+use Rattle.library_halves.specs.declared.record.Judged.the-variants as judged
+use Rattle.library_halves.specs.declared.taking.Step.the-variants as step
 
 -- The delivery, kind 2, or loss of the message that an argument names.
 unfoldable pub messageOf : ℕ → ℕ → HalfEvent

@@ -1,13 +1,9 @@
 // What is judged of both halves, the set and the result buffer before any record: 1, 3, 12, 23, 7, 13, 17, in this order.
 use crate::MOST_OF_HALF;
+use admissions::Admission;
 use model::PROCESSES;
 use model::Refusal;
-use admissions::Admission;
-ghost use mathlib.Core.Path.{_≡_};
-ghost use mathlib.Core.List.{List, [], _∷_};
-ghost use Prim.Native.Nat.{ℕ, _+_};
-ghost use lib.Dec.{ltb};
-ghost use lib.ListN.{length};
+ghost use Rattle.laws.specs.Basics.{_≡_, List, [], _∷_, ℕ, _+_, ltb, length};
 ghost use Rattle.model.specs.Refusals.{firstOf};
 ghost use Rattle.theory_merges.specs.Merge.{countOf, badCount, leftOver, tooMany, mergeRefusal};
 ghost use Rattle.admissions.specs.Admissions.{refusalOf};

@@ -13,11 +13,10 @@ mod taking;
 // both.rt: what is judged before any record
 mod both;
 
-use model::MergeAnswer;
 use admissions::Admission;
-ghost use mathlib.Core.Path.{_≡_};
-ghost use Rattle.theory_merges.specs.Halves.{OrdersAgree};
-ghost use Rattle.theory_merges.specs.Merge.{mergeOutcome, MergePromise};
+use model::MergeAnswer;
+ghost use Rattle.laws.specs.Basics.{_≡_};
+ghost use Rattle.theory_merges.specs.{Halves.OrdersAgree, Merge.mergeOutcome, Merge.MergePromise};
 
 // "17": "more than 4,096 records" of a half (mostOfHalf in the specs of merges); the log has room for both.
 pub const MOST_OF_HALF: usize = 4096;

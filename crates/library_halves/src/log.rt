@@ -1,9 +1,6 @@
 // The log of a merge: for each record taken the 32 bits of its record in the merged trace (`wordOf`), oldest first. `taken` says how many there are.
 // Contracts speak of any list of records taken whose log it is.
-ghost use mathlib.Core.Path.{_≡_};
-ghost use Prim.Native.Nat.{_+_, _*_, _≤_, _<_};
-ghost use lib.ListN.{length};
-ghost use lib.Seq.{sets};
+ghost use Rattle.laws.specs.Basics.{_≡_, _+_, _*_, _≤_, _<_, length, sets};
 ghost use Rattle.theory_merges.specs.Merge.{mostOfHalf};
 ghost use Rattle.model.specs.Trace.{bytesOf};
 ghost use Rattle.library_halves.specs.Log.{tallied, tallyOf, bytesUpTo};

@@ -1,18 +1,10 @@
 // Whether a record of a half is taken: 14, 4, 5 and 23, in this order. `side` is true where the first half is meant, false for the second.
 use crate::log;
 use model::Refusal;
-ghost use mathlib.Core.Path.{_≡_};
-ghost use mathlib.Core.List.{List};
-ghost use mathlib.Core.Logic.{_⊎_};
-ghost use mathlib.Core.Option.{some};
-ghost use Prim.Native.Nat.{_*_, ℕ, _/_, _^_, _≤_};
-ghost use lib.ListN.{length};
-ghost use Rattle.model.specs.Trace.{fields, ifZero};
-ghost use Rattle.model.specs.Words.{mostProcesses};
-ghost use Rattle.theory_merges.specs.Halves.{HalfEvent, sendTo, checkpointAt};
-ghost use Rattle.theory_merges.specs.Merge.{inHalf, halfEventOf, mostOfHalf};
-ghost use Rattle.library_halves.specs.Log.{Logged};
-ghost use Rattle.library_halves.specs.Taking.{Judges, messageOf};
+ghost use Rattle.laws.specs.Basics.{_≡_, List, some, _⊎_, ℕ, _*_, _/_, _^_, _≤_, length};
+ghost use Rattle.model.specs.{Trace.fields, Trace.ifZero, Words.mostProcesses};
+ghost use Rattle.theory_merges.specs.{Halves.HalfEvent, Halves.sendTo, Halves.checkpointAt, Merge.inHalf, Merge.halfEventOf, Merge.mostOfHalf};
+ghost use Rattle.library_halves.specs.{Log.Logged, Taking.Judges, Taking.messageOf};
 
 // "4 bits of sender, then 21 bits of that sender's running count": how many such counts there are.
 pub const COUNTS: u32 = 2097152;

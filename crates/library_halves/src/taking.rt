@@ -1,23 +1,15 @@
 // Which record is taken next, and all of them. `a` records of the first half and `b` of the second were taken; `side` is true for the first half.
 use crate::log;
 use crate::record;
+use admissions::Admission;
 use model::Refusal;
 use record::COUNTS;
 use record::Judged;
-use admissions::Admission;
-ghost use mathlib.Core.Path.{_≡_};
-ghost use mathlib.Core.Bool.{true};
-ghost use mathlib.Core.List.{List};
-ghost use Prim.Native.Nat.{_+_, _*_, _-_, _/_, _%_, _≤_};
-ghost use lib.Dec.{leb};
-ghost use lib.ListN.{length};
-ghost use Rattle.laws.specs.Choice.{pick};
+ghost use Rattle.laws.specs.Basics.{_≡_, true, List, _+_, _-_, _*_, _/_, _%_, _≤_, leb, length, pick};
 ghost use Rattle.model.specs.Words.{mostProcesses};
-ghost use Rattle.theory_merges.specs.Halves.{HalfEvent, messageNumber};
-ghost use Rattle.theory_merges.specs.Merge.{mostOfHalf};
+ghost use Rattle.theory_merges.specs.{Halves.HalfEvent, Halves.messageNumber, Merge.mostOfHalf};
 ghost use Rattle.trace.specs.Answers.{recordAt};
-ghost use Rattle.library_halves.specs.Log.{Logged};
-ghost use Rattle.library_halves.specs.Taking.{stepOf, readyAt, Steps, Takes};
+ghost use Rattle.library_halves.specs.{Log.Logged, Taking.stepOf, Taking.readyAt, Taking.Steps, Taking.Takes};
 
 // Why the merge stops, or the half that the next record came from and its word in the merged trace.
 pub enum Step {

@@ -1,20 +1,10 @@
 -- The first rows hold the start: each list is checkpoint 0.
 -- Assumes nothing.
-use mathlib.Core.Path.{_≡_, refl, sym, _∙_, ap}
-use mathlib.Core.List.{List, [], _∷_}
-use mathlib.Core.Option.{some}
-use Prim.Native.Nat.{ℕ, zero, suc, _≤_, _<_}
-use native.Mathlib.Omega.{arith}
-use lib.Dec.{eqb}
-use lib.ListN.{length, getD}
-use borrow.Author.Tests.{eq-eqb}
-use Rattle.laws.specs.Choice.{pick}
+use Rattle.laws.specs.Basics.{_≡_, refl, sym, _∙_, ap, List, [], _∷_, some, ℕ, zero, suc, _≤_, _<_, arith, eqb, length, getD, eq-eqb, pick}
 use Rattle.histories.specs.History.{HistoryEvent, stored, sent, received, checkpoints}
 use Rattle.theory_patterns.specs.Paths.{eventAt, StandsIn}
 use Rattle.theory_patterns.proofs.Facts.{begin}
-use Rattle.library_judge.specs.decision.Rows.{entryAt}
-use Rattle.library_judge.specs.Readings.{FirstRows}
-use Rattle.library_judge.specs.decision.Represents.{intervalOf, Represents}
+use Rattle.library_judge.specs.{decision.Rows.entryAt, Readings.FirstRows, decision.Represents.intervalOf, decision.Represents.Represents}
 
 only-stored : {P : Type 0} {e : HistoryEvent} {g : ℕ} (p : ℕ) → StandsIn e g (begin .lists p) → (e ≡ stored → P) → P
 unfolding begin

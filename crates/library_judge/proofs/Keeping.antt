@@ -1,40 +1,21 @@
 -- The invariant of the reading after each kind of record, and the refusals of a record by the tables.
 -- Assumes nothing.
-use mathlib.Core.Path.{_≡_, refl, sym, _∙_, ap}
-use mathlib.Core.Bool.{Bool, true, false, false≢true}
-use mathlib.Core.List.{List}
-use mathlib.Core.Option.{some}
-use Prim.Native.Nat.{ℕ, zero, suc, _+_, _-_, _≤_, _<_}
+use Rattle.laws.specs.Basics.{_≡_, refl, sym, _∙_, ap, Bool, true, false, false≢true, List, some, ℕ, zero, suc, _+_, _-_, _≤_, _<_, arith, ltb, leb, length, getD, set, length-set, getD-set-same, getD-set-other, eq-eqb, ne-eqb, lt-ltb, le-ltb, ltb-true, ltb-false, leb-false, pick, by-bool, by-eq}
 use native.Mathlib.Numerals.{add-one}
-use native.Mathlib.Omega.{arith}
-use lib.Dec.{ltb, leb}
-use lib.ListN.{length, getD, set, length-set}
-use lib.Seq.{getD-set-same, getD-set-other}
-use borrow.Author.Tests.{lt-ltb, le-ltb, ltb-true, ltb-false, eq-eqb, ne-eqb, leb-false}
-use Rattle.laws.specs.Choice.{pick, by-bool, by-eq}
-use Rattle.laws.specs.Counting.{count-same, count-none}
-use Rattle.laws.specs.Tests.{countBelow}
-use Rattle.laws.specs.Update.{upd, upd-same, upd-other}
+use Rattle.laws.specs.{Counting.count-same, Counting.count-none, Tests.countBelow, Update.upd, Update.upd-same, Update.upd-other}
 use Rattle.model.specs.declared.Event.the-variants.{Checkpoint, Send, Deliver, Lose}
 use Rattle.histories.specs.History.{stored, sent, received, Lists, checkpoints}
-use Rattle.model.specs.Refusals.{firstOf}
-use Rattle.model.specs.Words.{entry}
-use Rattle.model.specs.Steps.{advanced, takenVector}
+use Rattle.model.specs.{Refusals.firstOf, Words.entry, Steps.advanced, Steps.takenVector}
 use Rattle.whole_runs.specs.Survival.{added}
 use Rattle.theory_patterns.specs.Patterns.{Pattern, empty, recordRefusal, taken}
-use Rattle.theory_patterns.proofs.Adding.{event-old, event-new}
-use Rattle.theory_patterns.proofs.Followed.{Sent}
-use Rattle.theory_patterns.proofs.Facts.{begin, begin-right}
+use Rattle.theory_patterns.proofs.{Adding.event-old, Adding.event-new, Followed.Sent, Facts.begin, Facts.begin-right}
 use Rattle.theory_patterns.proofs.Trail.{Trail, storing, storing-right, sending, sending-right, carried-old, carried-new, receiving, receiving-right}
 use Rattle.library_judge.specs.decision.Rows.{entryAt, rowOf, putRow, put-same, put-other, put-length}
-use Rattle.library_judge.specs.decision.Represents.{intervalOf, Represents}
-use Rattle.library_judge.specs.declared.reading.Progress.{Progress}
-use Rattle.library_judge.specs.declared.reading.Found.{Found}
+use Rattle.library_judge.specs.{decision.Represents.intervalOf, decision.Represents.Represents, Kept.Tables, Kept.tables, Kept.Waits, Kept.Kept}
+use Rattle.library_judge.specs.declared.{reading.Progress.Progress, reading.Found.Found}
 use Rattle.admissions.proofs.Cases.{admission-rules}
 use Rattle.library_judge.specs.Readings.{EnoughRoom, liveEntry, checkpointRefusal, withRow, SendRoom, sendRefusal, sentCarried, withMessage, isUnderWay, foundIn, withoutOne, DeliverRoom, receiptVectors, FirstRows}
-use Rattle.library_judge.specs.Kept.{Tables, tables, Waits, Kept}
-use Rattle.library_judge.proofs.Begin.{own-begin, begin-represented}
-use Rattle.library_judge.proofs.Steps.{stored-own, other-own, sent-own, received-own}
+use Rattle.library_judge.proofs.{Begin.own-begin, Begin.begin-represented, Steps.stored-own, Steps.other-own, Steps.sent-own, Steps.received-own}
 use Rattle.library_judge.proofs.Trails.{stores, sends, receives, got-live, row-number, live-entry}
 
 -- One that passes no longer does: the count falls by one.

@@ -1,27 +1,14 @@
 -- What a record of each kind leaves, from what the functions answer and from the invariant.
 -- Assumes nothing.
-use mathlib.Core.Path.{_≡_, refl, sym, _∙_}
-use mathlib.Core.Bool.{true, false, not}
-use mathlib.Core.List.{List, [], _∷_}
-use mathlib.Core.Option.{Option, none, some}
-use Prim.Native.Nat.{ℕ, suc, _+_, _<_}
-use lib.ListN.{getD, set}
-use borrow.Author.Tests.{leb-false}
-use Rattle.laws.specs.Choice.{by-bool}
-use Rattle.model.specs.declared.Event.{Event}
+use Rattle.laws.specs.Basics.{_≡_, refl, sym, _∙_, true, false, not, List, [], _∷_, Option, none, some, ℕ, suc, _+_, _<_, getD, set, leb-false, by-bool}
+use Rattle.model.specs.declared.{Event.Event, Refusal.Refusal, Refusal.the-variants.NotUnderWay, Refusal.the-variants.MalformedRecord}
 use Rattle.model.specs.declared.Event.the-variants.{Checkpoint, Send, Deliver, Lose, Recover}
-use Rattle.model.specs.declared.Refusal.{Refusal}
-use Rattle.model.specs.declared.Refusal.the-variants.{NotUnderWay, MalformedRecord}
-use Rattle.model.specs.Refusals.{firstOf}
-use Rattle.model.specs.laws.Refusals.{no-rule, by-refusal}
+use Rattle.model.specs.{Refusals.firstOf, laws.Refusals.no-rule, laws.Refusals.by-refusal}
 use Rattle.theory_patterns.specs.Patterns.{Pattern, recordRefusal, taken}
 use Rattle.theory_patterns.proofs.Trail.{Trail, storing, sending}
-use Rattle.library_judge.specs.decision.Rows.{rowOf}
-use Rattle.library_judge.specs.declared.reading.Progress.{Progress}
-use Rattle.library_judge.specs.declared.reading.Step.{Step}
-use Rattle.library_judge.specs.declared.reading.Found.{Found}
+use Rattle.library_judge.specs.{decision.Rows.rowOf, Kept.Tables, Kept.tables, Kept.Kept, Kept.AfterRecord, Kept.Reads}
+use Rattle.library_judge.specs.declared.{reading.Progress.Progress, reading.Step.Step, reading.Found.Found}
 use Rattle.library_judge.specs.Readings.{refusedStep, takenStep, withRow, checkpointRefusal, checkpointStep, checkpointVectors, checkpointProcess, withMessage, sendRefusal, sendStep, sendCarried, sendPassing, sendFrom, sendTo, send-free, foundIn, withoutOne, dropStep, dropPassing, receiptVectors, deliverVectors, deliverTo, checkpoint-refused, checkpoint-taken, send-taken}
-use Rattle.library_judge.specs.Kept.{Tables, tables, Kept, AfterRecord, Reads}
 use Rattle.library_judge.proofs.Keeping.{found-is, found-at, place-of, checkpoint-refusal, send-refusal, kept-checkpoint, kept-send, kept-lose, after, kept-deliver}
 
 module _ (n read : ℕ) (t : Pattern) (e : Option Event) where

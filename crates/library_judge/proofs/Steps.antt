@@ -1,14 +1,6 @@
 -- The tables hold the trail after each record: a checkpoint, a send, a delivery. A lost message changes nothing that the tables hold.
 -- Assumes nothing.
-use mathlib.Core.Path.{_≡_, refl, sym, _∙_, ap}
-use mathlib.Core.Logic.{_⊎_, inl, inr}
-use mathlib.Core.List.{List}
-use Prim.Native.Nat.{ℕ, zero, suc, _-_, _≤_, _<_}
-use native.Mathlib.Omega.{arith}
-use lib.Dec.{ltb}
-use lib.ListN.{length, getD}
-use borrow.Author.Tests.{ltb-true, ltb-false}
-use Rattle.laws.specs.Choice.{by-bool, by-eq}
+use Rattle.laws.specs.Basics.{_≡_, refl, sym, _∙_, ap, List, _⊎_, inl, inr, ℕ, zero, suc, _-_, _≤_, _<_, arith, ltb, length, getD, ltb-true, ltb-false, by-bool, by-eq}
 use Rattle.laws.specs.Loops.{either}
 use Rattle.histories.specs.History.{HistoryEvent, stored, sent, received, Lists, checkpoints}
 use Rattle.whole_runs.specs.Survival.{added}
@@ -16,8 +8,7 @@ use Rattle.histories.proofs.Places.{checkpoints-stored, checkpoints-sent, check
 use Rattle.theory_patterns.specs.Paths.{interval, StandsIn}
 use Rattle.theory_patterns.proofs.Placing.{place-in}
 use Rattle.theory_patterns.proofs.Adding.{list-same, list-other, event-old, event-new, event-cases, interval-old, interval-new}
-use Rattle.library_judge.specs.decision.Rows.{entryAt}
-use Rattle.library_judge.specs.decision.Represents.{intervalOf, Represents}
+use Rattle.library_judge.specs.{decision.Rows.entryAt, decision.Represents.intervalOf, decision.Represents.Represents}
 
 module _ (lists : Lists) (i : ℕ) (x : HistoryEvent) where
   pub keeps : {e : HistoryEvent} {g : ℕ} (p : ℕ) → StandsIn e g (lists p) → StandsIn e g (added lists i x p)

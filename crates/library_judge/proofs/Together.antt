@@ -1,43 +1,25 @@
 -- Records one after the other: the reading of a whole trace, and its verdict.
 -- Assumes nothing.
-use mathlib.Core.Path.{_≡_, refl, sym, _∙_, ap}
-use mathlib.Core.Bool.{true, false}
-use mathlib.Core.Logic.{_⊎_, inl, inr}
-use mathlib.Core.List.{List, [], _∷_}
-use mathlib.Core.Option.{Option, none, some}
-use Prim.Native.Nat.{ℕ, _+_, _*_, _-_, _/_, _≤_, _<_}
-use native.Mathlib.Omega.{arith}
+use Rattle.laws.specs.Basics.{_≡_, refl, sym, _∙_, ap, true, false, List, [], _∷_, Option, none, some, _⊎_, inl, inr, ℕ, _+_, _-_, _*_, _/_, _≤_, _<_, arith, length, getD, take, drop, length-drop, getD-replicate, eq-eqb, lt-ltb, le-ltb, le-leb, lt-leb, leb-true, leb-false}
 use native.Mathlib.Numerals.{add-one}
-use lib.ListN.{length, getD, take, drop, length-drop, getD-replicate}
 use lib.Seq.{drop-drop}
-use borrow.Author.Tests.{lt-ltb, le-ltb, le-leb, lt-leb, leb-true, leb-false, eq-eqb}
-use Rattle.model.specs.declared.Event.{Event}
-use Rattle.model.specs.declared.Refusal.{Refusal}
+use Rattle.model.specs.declared.{Event.Event, Refusal.Refusal}
 use Rattle.model.specs.declared.Refusal.the-variants.{CountOutsideRange, LeftOverBytes, NoFirstByte, TooManyRecords}
 use Rattle.histories.specs.History.{Lists}
-use Rattle.model.specs.Words.{ones}
-use Rattle.model.specs.Sound.{isBlockCount}
-use Rattle.model.specs.Refusals.{firstOf, startRefusal}
+use Rattle.model.specs.{Words.ones, Sound.isBlockCount, Refusals.firstOf, Refusals.startRefusal, Trace.decoded}
 use Rattle.model.proofs.simulation.Accepted.{start-in}
-use Rattle.model.specs.Trace.{decoded}
 use Rattle.whole_runs.specs.Outcomes.{judged}
-use Rattle.trace.specs.declared.Decoded.{Decoded}
-use Rattle.trace.specs.declared.Decoded.the-variants.{Malformed, StandsFor}
-use Rattle.trace.specs.Answers.{recordAt, eventIn, eventRead}
-use Rattle.trace.specs.reader.Reading.{recordAfter, recordLeft}
-use Rattle.theory_patterns.specs.declared.Verdict.{Verdict}
-use Rattle.theory_patterns.specs.declared.Verdict.the-variants.{Refused, Trackable, Breaks}
+use Rattle.trace.specs.declared.{Decoded.Decoded, Decoded.the-variants.Malformed, Decoded.the-variants.StandsFor}
+use Rattle.trace.specs.{Answers.recordAt, Answers.eventIn, Answers.eventRead, reader.Reading.recordAfter, reader.Reading.recordLeft}
+use Rattle.theory_patterns.specs.declared.{Verdict.Verdict, Verdict.the-variants.Refused, Verdict.the-variants.Trackable, Verdict.the-variants.Breaks}
 use Rattle.theory_patterns.specs.Patterns.{Pattern, empty, recordRefusal, taken, refused, whole, readFrom, reading}
 use Rattle.theory_patterns.specs.Verdicts.{countOf, verdictOn, verdict, RightVerdict}
-use Rattle.theory_patterns.proofs.Right.{is-verdict}
-use Rattle.theory_patterns.proofs.Facts.{begin}
-use Rattle.theory_patterns.proofs.Trail.{Trail, Right}
+use Rattle.theory_patterns.proofs.{Right.is-verdict, Facts.begin, Trail.Trail, Trail.Right}
 use Rattle.library_judge.specs.decision.Represents.{Represents, Judges, Says}
-use Rattle.library_judge.specs.declared.reading.Progress.{Progress}
-use Rattle.library_judge.specs.declared.reading.Taking.the-variants as answers
-use Rattle.library_judge.specs.declared.reading.Step.{Step}
+use Rattle.library_judge.specs.declared.{reading.Progress.Progress, reading.Step.Step}
 use Rattle.library_judge.specs.Readings.{refusedStep, takenStep}
 use Rattle.library_judge.specs.Kept.{Tables, Kept, AfterRecord, Reads, Reached, ReadsTo, ReadsAll}
+use Rattle.library_judge.specs.declared.reading.Taking.the-variants as answers
 
 -- The event that a match has found is the event of the record.
 module _ (n : ℕ) (s : Progress) (T : Tables) (r : Step) (T' : Tables) where

@@ -1,27 +1,15 @@
 -- The tables that the functions leave hold the trail that `patterns` makes of the record: `storing`, `sending`, `receiving`.
 -- Assumes nothing.
-use mathlib.Core.Path.{_≡_, sym, _∙_, ap}
-use mathlib.Core.List.{List}
-use mathlib.Core.Option.{some}
-use Prim.Native.Nat.{ℕ, suc, _+_, _≤_, _<_, max}
-use native.Mathlib.Omega.{arith}
-use lib.Dec.{ltb}
-use lib.ListN.{getD, set, length-set}
-use lib.Seq.{getD-set-same, getD-set-other}
-use borrow.Author.Tests.{ltb-true, ltb-false}
-use Rattle.laws.specs.Choice.{pick, by-bool, by-eq}
-use Rattle.laws.specs.Tables.{getD-table}
-use Rattle.laws.specs.Update.{upd, upd-same, upd-other}
+use Rattle.laws.specs.Basics.{_≡_, sym, _∙_, ap, List, some, ℕ, suc, _+_, _≤_, _<_, max, arith, ltb, getD, set, length-set, getD-set-same, getD-set-other, ltb-true, ltb-false, pick, by-bool, by-eq}
+use Rattle.laws.specs.{Tables.getD-table, Update.upd, Update.upd-same, Update.upd-other}
 use Rattle.model.specs.declared.Interval.{Interval}
 use Rattle.histories.specs.History.{stored, sent, received, Lists, checkpoints}
-use Rattle.model.specs.Words.{entry, below}
-use Rattle.model.specs.Steps.{advanced, takenEntry, takenVector}
+use Rattle.model.specs.{Words.entry, Words.below, Steps.advanced, Steps.takenEntry, Steps.takenVector}
 use Rattle.whole_runs.specs.Survival.{added}
 use Rattle.theory_patterns.specs.Paths.{eventAt}
 use Rattle.theory_patterns.proofs.Trail.{Trail, own, Right, storing, sending, receiving, receiving-right}
 use Rattle.library_judge.specs.decision.Rows.{entryAt, rowOf, putRow, put-length, put-same, put-other, row-entry, row-length}
-use Rattle.library_judge.specs.Readings.{receiptVectors}
-use Rattle.library_judge.specs.decision.Represents.{intervalOf, Represents}
+use Rattle.library_judge.specs.{Readings.receiptVectors, decision.Represents.intervalOf, decision.Represents.Represents}
 use Rattle.library_judge.proofs.Steps.{represented-stored, represented-sent, represented-received, received-own}
 
 -- Entry f of a row that is read, as a number.

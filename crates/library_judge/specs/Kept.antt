@@ -1,24 +1,16 @@
 -- The invariant of the reading: what the tables and the progress hold of the pattern read so far and of its trail; and what a record does to them.
 -- Assumes nothing.
-use mathlib.Core.Path.{_≡_}
-use mathlib.Core.Bool.{true}
-use mathlib.Core.List.{List}
-use mathlib.Core.Option.{Option, none, some}
-use Prim.Native.Nat.{ℕ, suc, _+_, _*_, _≤_, _<_}
-use lib.ListN.{length, getD, drop}
+use Rattle.laws.specs.Basics.{_≡_, true, List, Option, none, some, ℕ, suc, _+_, _*_, _≤_, _<_, length, getD, drop}
 use Rattle.model.specs.declared.Event.{Event}
 use Rattle.model.specs.Words.{mostProcesses, mostUnderWay}
 use Rattle.histories.specs.History.{sent, checkpoints}
 use Rattle.theory_patterns.specs.Patterns.{Pattern, empty, countUnderWay, recordRefusal, taken, readFrom, refused, whole, mostJudged}
 use Rattle.theory_patterns.specs.Paths.{eventAt}
 use Rattle.theory_patterns.proofs.Trail.{Trail, Right}
-use Rattle.library_judge.specs.decision.Rows.{entryAt, tableSize, mostRows}
+use Rattle.library_judge.specs.{decision.Rows.entryAt, decision.Rows.tableSize, decision.Rows.mostRows, Readings.isUnderWay}
 use Rattle.library_judge.specs.decision.Represents.{intervalOf, Represents}
-use Rattle.library_judge.specs.declared.reading.Progress.{Progress}
-use Rattle.library_judge.specs.declared.reading.Taking.{Taking}
+use Rattle.library_judge.specs.declared.{reading.Progress.Progress, reading.Taking.Taking, reading.Step.Step}
 use Rattle.library_judge.specs.declared.reading.Taking.the-variants.{Refused, Taken}
-use Rattle.library_judge.specs.declared.reading.Step.{Step}
-use Rattle.library_judge.specs.Readings.{isUnderWay}
 
 -- The tables of the reading (src/reading.rt says what each has).
 pub record Tables : Type 0 where

@@ -1,34 +1,19 @@
 -- What a record does to the tables and to the progress of the reading.
 -- Assumes nothing.
-use mathlib.Core.Path.{_≡_, refl, sym, _∙_, ap}
-use mathlib.Core.Bool.{Bool, true, false, not, _&&_, false≢true}
-use mathlib.Core.List.{List, [], _∷_}
-use mathlib.Core.Option.{Option, none, some}
-use Prim.Native.Nat.{ℕ, zero, suc, _+_, _-_, _≤_, _<_}
-use lib.Dec.{eqb, ltb, leb}
-use borrow.Author.Tests.{eq-eqb, ne-eqb, lt-leb, le-leb, lt-ltb, ltb-true}
-use native.Mathlib.Omega.{arith}
-use lib.ListN.{length, getD, set, replicate, length-set, length-replicate, getD-replicate}
-use lib.Seq.{getD-set-same, getD-set-other}
-use Rattle.laws.specs.Choice.{pick, by-bool, by-eq}
+use Rattle.laws.specs.Basics.{_≡_, refl, sym, _∙_, ap, Bool, true, false, not, _&&_, false≢true, List, [], _∷_, Option, none, some, ℕ, zero, suc, _+_, _-_, _≤_, _<_, arith, eqb, ltb, leb, length, getD, set, replicate, length-set, length-replicate, getD-replicate, getD-set-same, getD-set-other, eq-eqb, ne-eqb, lt-ltb, ltb-true, le-leb, lt-leb, pick, by-bool, by-eq}
 use Rattle.theory_patterns.specs.Patterns.{mostJudged}
-use Rattle.model.specs.declared.Interval.{Interval}
-use Rattle.model.specs.declared.Refusal.{Refusal}
+use Rattle.model.specs.declared.{Interval.Interval, Refusal.Refusal}
 use Rattle.model.specs.declared.Refusal.the-variants.{NoSuchProcess, NotUnderWay, IntervalsUsed}
-use Rattle.model.specs.Words.{entry, ones, mostInterval, mostProcesses, mostUnderWay, mostMessages}
+use Rattle.model.specs.{Words.entry, Words.ones, Words.mostInterval, Words.mostProcesses, Words.mostUnderWay, Words.mostMessages, Refusals.firstOf}
 use Rattle.model.specs.Steps.{advanced, takenVector, started}
-use Rattle.model.specs.Refusals.{firstOf}
 use Rattle.whole_runs.specs.Outcomes.{judged}
 use Rattle.admissions.specs.declared.Admission.{Admission}
-use Rattle.admissions.specs.declared.Admission.the-variants as admission
 use Rattle.admissions.specs.Admissions.{refusalOf, sendAdmission}
 use Rattle.admissions.proofs.Cases.{accepted-send}
 use Rattle.library_judge.specs.decision.Rows.{rowOf, putRow, entryAt, put-same, put-other, put-length, tableSize, mostRows}
-use Rattle.library_judge.specs.declared.reading.Progress.{Progress}
-use Rattle.library_judge.specs.declared.reading.Taking.{Taking}
+use Rattle.library_judge.specs.declared.{reading.Progress.Progress, reading.Taking.Taking, reading.Step.Step, reading.Found.Found}
 use Rattle.library_judge.specs.declared.reading.Taking.the-variants.{Refused, Taken}
-use Rattle.library_judge.specs.declared.reading.Step.{Step}
-use Rattle.library_judge.specs.declared.reading.Found.{Found}
+use Rattle.admissions.specs.declared.Admission.the-variants as admission
 
 unfoldable pub refusedStep : Refusal → Progress → Step
 refusedStep why s = record { answer = Refused why; next = s }

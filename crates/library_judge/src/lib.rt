@@ -8,10 +8,10 @@ pub mod decision;
 
 use model::PROCESSES;
 use model::Refusal;
+use reading::Taking;
 use theory_patterns::MOST_JUDGED;
 use theory_patterns::Verdict;
-use reading::Taking;
-ghost use mathlib.Core.Path.{_≡_};
+ghost use Rattle.laws.specs.Basics.{_≡_};
 ghost use Rattle.theory_patterns.specs.Verdicts.{verdict};
 ghost use Rattle.library_judge.specs.Kept.{tables, Sized};
 

@@ -1,15 +1,12 @@
 // The reading of a trace, record by record, into tables. `vectors` and `process` have a row for each state that ends an interval or is live: its dependency vector and
 // its process. Message m has place m - 1 in the others: `carried` has the vector that it carries, `passing` its receiver and 1 while it is under way, else 0, `from`
 // the row of its send, and `to` the row of its receipt and 1, or 0.
+use admissions::Admission;
 use model::Event;
 use model::PROCESSES;
 use model::Refusal;
 use trace::Decoded;
-use admissions::Admission;
-ghost use mathlib.Core.Path.{_≡_};
-ghost use mathlib.Core.Option.{some};
-ghost use Prim.Native.Nat.{_+_, _*_, _≤_, _<_};
-ghost use lib.ListN.{length};
+ghost use Rattle.laws.specs.Basics.{_≡_, some, _+_, _*_, _≤_, _<_, length};
 ghost use Rattle.theory_patterns.specs.Patterns.{mostJudged};
 ghost use Rattle.model.specs.Words.{mostProcesses, mostUnderWay};
 ghost use Rattle.library_judge.specs.decision.Rows.{rowOf, mostRows, tableSize};

@@ -1,32 +1,14 @@
 -- What the reader of a carried vector does, by the place of the message in the words.
 -- Assumes nothing.
-use mathlib.Core.Path.{_≡_, refl, sym, _∙_, ap}
-use mathlib.Core.Bool.{true}
-use mathlib.Core.List.{List, [], _∷_}
-use mathlib.Core.Option.{Option, none, some}
-use Prim.Native.Nat.{ℕ, zero, suc, _+_, _≤_, _<_}
-use native.Mathlib.Omega.{arith}
-use lib.ListN.{length}
-use borrow.Author.Tests.{lt-ltb, le-ltb}
-use Rattle.laws.specs.Lists.{table, orElse}
-use Rattle.laws.specs.Tables.{table-same}
-use Rattle.model.specs.declared.Interval.{Interval}
-use Rattle.model.specs.declared.Message.{Message}
-use Rattle.model.specs.declared.Refusal.the-variants.{ListTooShort, NotUnderWay}
-use Rattle.model.specs.declared.Run.{Run}
-use Rattle.model.specs.Words.{entry, noMessage}
-use Rattle.model.specs.Steps.{found}
-use Rattle.model.specs.Sound.{sound}
+use Rattle.laws.specs.Basics.{_≡_, refl, sym, _∙_, ap, true, List, [], _∷_, Option, none, some, ℕ, zero, suc, _+_, _≤_, _<_, arith, length, lt-ltb, le-ltb}
+use Rattle.laws.specs.{Lists.table, Lists.orElse, Tables.table-same}
+use Rattle.model.specs.declared.{Interval.Interval, Message.Message, Refusal.the-variants.ListTooShort, Refusal.the-variants.NotUnderWay, Run.Run}
+use Rattle.model.specs.{Words.entry, Words.noMessage, Steps.found, Sound.sound}
 use Rattle.whole_runs.specs.Outcomes.{message}
-use Rattle.words.specs.Layout.{word, countOf, endOf, carriedAt, vectorIn, messageIn, runOf}
-use Rattle.words.proofs.Same.{vector-word}
-use Rattle.words.proofs.View.{count-is}
-use Rattle.words.proofs.ViewSound.{SoundWords, sound-words}
-use Rattle.words.specs.messages.Places.{placeOf}
-use Rattle.words.proofs.messages.Selected.{messageAt}
+use Rattle.words.specs.{Layout.word, Layout.countOf, Layout.endOf, Layout.carriedAt, Layout.vectorIn, Layout.messageIn, Layout.runOf, messages.Places.placeOf}
+use Rattle.words.proofs.{Same.vector-word, View.count-is, ViewSound.SoundWords, ViewSound.sound-words, messages.Selected.messageAt}
 use Rattle.in_place.proofs.Losing.{found-is}
-use Rattle.library_readers.specs.Readings.{Reading, carriedOf, carriedReading}
-use Rattle.library_readers.specs.Written.{wordsFrom}
+use Rattle.library_readers.specs.{Readings.Reading, Readings.carriedOf, Readings.carriedReading, Written.wordsFrom}
 use Rattle.library_readers.proofs.Readings.{refusedBy, read, refused-by, read-by}
 
 module _ (w : List ℕ) (h : sound (runOf w) ≡ true) (m : ℕ) (lent : List ℕ) where

@@ -1,13 +1,8 @@
 -- A copy of all words is the words.
 -- Assumes nothing.
-use mathlib.Core.Path.{_≡_, sym, _∙_, ap}
-use mathlib.Core.List.{List, _++_, append-nil}
-use Prim.Native.Nat.{ℕ, _+_, _≤_, _<_}
-use native.Mathlib.Omega.{arith}
-use lib.ListN.{length, getD, drop}
-use lib.Seq.{sets, drop-length, ext-getD}
-use Rattle.laws.specs.Front.{written-front}
-use Rattle.laws.specs.Tables.{length-table, getD-table}
+use Rattle.laws.specs.Basics.{_≡_, sym, _∙_, ap, List, _++_, append-nil, ℕ, _+_, _≤_, _<_, arith, length, getD, drop, sets}
+use lib.Seq.{drop-length, ext-getD}
+use Rattle.laws.specs.{Front.written-front, Tables.length-table, Tables.getD-table}
 use Rattle.words.specs.Layout.{word}
 use Rattle.library_readers.specs.Written.{wordsFrom}
 

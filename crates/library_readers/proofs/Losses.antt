@@ -1,32 +1,15 @@
 -- What the reader of the messages that a recovery would lose does, by the words.
 -- Assumes nothing.
-use mathlib.Core.Path.{_≡_, refl, sym, _∙_, ap}
-use mathlib.Core.Bool.{true, false, _&&_}
-use mathlib.Core.List.{List, [], _∷_}
-use mathlib.Core.Option.{Option, none, some}
-use Prim.Native.Nat.{ℕ, _^_, _≤_, _<_}
-use native.Mathlib.Omega.{arith}
-use lib.Dec.{leb}
-use lib.ListN.{length}
-use borrow.Author.Tests.{lt-ltb, le-ltb}
-use Rattle.laws.specs.Lists.{select, table}
-use Rattle.laws.specs.Select.{select-length, select-select}
-use Rattle.laws.specs.Tables.{length-table}
-use Rattle.model.specs.declared.CheckpointIndex.{CheckpointIndex}
-use Rattle.model.specs.declared.Interval.{Interval}
-use Rattle.model.specs.declared.Message.{Message}
+use Rattle.laws.specs.Basics.{_≡_, refl, sym, _∙_, ap, true, false, _&&_, List, [], _∷_, Option, none, some, ℕ, _^_, _≤_, _<_, arith, leb, length, lt-ltb, le-ltb}
+use Rattle.laws.specs.{Lists.select, Lists.table, Select.select-length, Select.select-select, Tables.length-table}
+use Rattle.model.specs.declared.{CheckpointIndex.CheckpointIndex, Interval.Interval, Message.Message, Run.Run}
 use Rattle.model.specs.declared.Refusal.the-variants.{UnsoundState, ListTooShort, NoSuchFailedProcess}
-use Rattle.model.specs.declared.Run.{Run}
-use Rattle.model.specs.Sound.{sound}
-use Rattle.model.specs.Refusals.{outside, noMember}
+use Rattle.model.specs.{Sound.sound, Refusals.outside, Refusals.noMember}
 use Rattle.words.specs.Layout.{countOf, endOf, messageIn, isMessage, messagesIn, runOf}
-use Rattle.words.proofs.View.{count-is}
-use Rattle.words.proofs.ViewSound.{SoundWords, sound-words}
-use Rattle.words_line.specs.Line.{limitsIn, pastsIn, indexesIn}
-use Rattle.words_line.specs.Sifted.{lostTo}
+use Rattle.words.proofs.{View.count-is, ViewSound.SoundWords, ViewSound.sound-words}
+use Rattle.words_line.specs.{Line.limitsIn, Line.pastsIn, Line.indexesIn, Sifted.lostTo}
 use Rattle.words_line.proofs.Lost.{lineIndexes, lost-are}
-use Rattle.library_readers.specs.Readings.{sentNumbers, lostMessages, lostReading}
-use Rattle.library_readers.specs.Written.{lostBelow}
+use Rattle.library_readers.specs.{Readings.sentNumbers, Readings.lostMessages, Readings.lostReading, Written.lostBelow}
 use Rattle.library_readers.proofs.Readings.{refusedBy, read, refused-by, read-by}
 
 pub few-lost : (indexes : List CheckpointIndex) (w : List ℕ) (k : ℕ) → length (lostBelow indexes w k) ≤ k

@@ -1,36 +1,16 @@
 -- What each reader's outcome is, by the words: refused, and accepted.
 -- Assumes nothing.
-use mathlib.Core.Path.{_≡_, refl, sym, _∙_, ap}
-use mathlib.Core.Bool.{true, false, not}
-use mathlib.Core.List.{List, [], _∷_}
-use mathlib.Core.Option.{Option, none, some}
-use Prim.Native.Nat.{ℕ, zero, suc, _+_, _*_, _≤_, _<_}
-use native.Mathlib.Omega.{arith}
-use lib.Dec.{ltb, leb}
-use lib.ListN.{length, getD}
-use lib.Seq.{sets}
-use borrow.Author.Tests.{lt-ltb, le-ltb, le-leb, lt-leb}
-use Rattle.laws.specs.Lists.{table}
-use Rattle.laws.specs.Rows.{by-lt}
-use Rattle.laws.specs.Select.{select-length}
-use Rattle.laws.specs.Tables.{table-same, length-table, getD-table}
-use Rattle.model.specs.declared.Interval.{Interval}
-use Rattle.model.specs.declared.Pin.the-variants.{Nothing}
-use Rattle.model.specs.declared.Checkpoint.{Checkpoint}
-use Rattle.model.specs.declared.Message.{Message}
-use Rattle.model.specs.declared.Run.{Run}
-use Rattle.model.specs.declared.Refusal.{Refusal}
+use Rattle.laws.specs.Basics.{_≡_, refl, sym, _∙_, ap, true, false, not, List, [], _∷_, Option, none, some, ℕ, zero, suc, _+_, _*_, _≤_, _<_, arith, ltb, leb, length, getD, sets, lt-ltb, le-ltb, le-leb, lt-leb}
+use Rattle.laws.specs.{Lists.table, Rows.by-lt, Select.select-length, Tables.table-same, Tables.length-table, Tables.getD-table}
+use Rattle.model.specs.declared.{Interval.Interval, Pin.the-variants.Nothing, Checkpoint.Checkpoint, Message.Message, Run.Run, Refusal.Refusal}
 use Rattle.model.specs.declared.Refusal.the-variants.{UnsoundState, ListTooShort, NoSuchProcess, NotUnderWay}
-use Rattle.model.specs.Words.{entry, Process, process, underWay}
-use Rattle.model.specs.Sound.{sound}
-use Rattle.model.specs.Refusals.{Rule, firstOf, unsound}
+use Rattle.model.specs.{Words.entry, Words.Process, Words.process, Words.underWay, Sound.sound, Refusals.Rule, Refusals.firstOf, Refusals.unsound}
 use Rattle.model.specs.laws.Refusals.{Gives, refusal-in}
 use Rattle.whole_runs.specs.Outcomes.{refusing, accepting}
 use Rattle.listing.specs.answers.Codes.{coded, valueCode}
 use Rattle.words.specs.Layout.{word, wide2, wide4, countOf, endOf, keptCountAt, partAt, pinsAt, indexAt, pinOf, vectorIn, pinsIn, checkpointIn, messageIn, isMessage, messagesIn, runOf}
 use Rattle.words.specs.Parts.{processIn}
-use Rattle.words.proofs.Same.{vector-word}
-use Rattle.words.proofs.View.{count-is, underway-is, last-is, written-is, deleted-is}
+use Rattle.words.proofs.{Same.vector-word, View.count-is, View.underway-is, View.last-is, View.written-is, View.deleted-is}
 use Rattle.words.proofs.ViewSound.{SoundWords, sound-words, sound-process-is, sound-kept-is}
 use Rattle.library_readers.specs.Readings.{Reading, reading, short, numbersReading, ofProcess, vectorReading, pinNumber, pinsReading, storedNumbers, keptReading, sentNumbers, messagesReading}
 use Rattle.library_readers.specs.Written.{wordsFrom, rowReading, messagesBelow}

@@ -1,22 +1,10 @@
 -- Three numbers of each element, written one element after the other.
 -- Assumes nothing.
-use mathlib.Core.Path.{_≡_, refl, sym, _∙_, ap}
-use mathlib.Core.Bool.{Bool}
-use mathlib.Core.List.{List, [], _∷_, _++_, append-nil}
-use Prim.Native.Nat.{ℕ, zero, suc, _+_, _*_, _≤_, _<_}
+use Rattle.laws.specs.Basics.{_≡_, refl, sym, _∙_, ap, Bool, List, [], _∷_, _++_, append-nil, ℕ, zero, suc, _+_, _*_, _≤_, _<_, arith, length, length-append, sets, pick, by-bool}
 use native.Mathlib.Numerals.{add-one}
-use native.Mathlib.Omega.{arith}
-use lib.ListN.{length, length-append}
-use lib.Seq.{sets}
-use Rattle.laws.specs.Choice.{pick, by-bool}
-use Rattle.laws.specs.Lists.{select, table}
-use Rattle.laws.specs.Select.{select-append, select-one}
-use Rattle.laws.specs.Tables.{length-table}
-use Rattle.laws.specs.Written.{sets-after}
-use Rattle.model.specs.declared.Checkpoint.{Checkpoint}
-use Rattle.model.specs.declared.Message.{Message}
-use Rattle.library_readers.specs.Readings.{storedNumbers, sentNumbers}
-use Rattle.library_readers.specs.Written.{threeStored, threeOf}
+use Rattle.laws.specs.{Lists.select, Lists.table, Select.select-append, Select.select-one, Tables.length-table, Written.sets-after}
+use Rattle.model.specs.declared.{Checkpoint.Checkpoint, Message.Message}
+use Rattle.library_readers.specs.{Readings.storedNumbers, Readings.sentNumbers, Written.threeStored, Written.threeOf}
 
 pub stored-more : (l : List Checkpoint) (c : Checkpoint) → storedNumbers (l ++ (c ∷ [])) ≡ storedNumbers l ++ (c .index .0 ∷ c .cause ∷ c .blocks ∷ [])
 unfolding storedNumbers

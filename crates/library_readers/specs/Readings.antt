@@ -2,20 +2,11 @@
 -- sound, 3 for a list that is too short, 4 for a process not below n, 7 for a failed set with a process not below n, 8 for a message not under way. "Where several hold,
 -- the lowest number is given."
 -- Assumes nothing.
-use mathlib.Core.List.{List, [], _∷_}
-use mathlib.Core.Option.{Option, none, some}
-use Prim.Native.Nat.{ℕ, _+_, _*_}
-use lib.Dec.{ltb}
-use lib.ListN.{length, getD}
+use Rattle.laws.specs.Basics.{List, [], _∷_, Option, none, some, ℕ, _+_, _*_, ltb, length, getD}
 use Rattle.laws.specs.Lists.{select, table}
-use Rattle.model.specs.declared.Pin.{Pin}
-use Rattle.model.specs.declared.Pin.the-variants.{Nothing, At}
-use Rattle.model.specs.declared.Checkpoint.{Checkpoint}
-use Rattle.model.specs.declared.Message.{Message}
-use Rattle.model.specs.declared.Run.{Run}
+use Rattle.model.specs.declared.{Pin.Pin, Pin.the-variants.Nothing, Pin.the-variants.At, Checkpoint.Checkpoint, Message.Message, Run.Run}
 use Rattle.model.specs.declared.Refusal.the-variants.{UnsoundState, ListTooShort, NoSuchProcess, NoSuchFailedProcess, NotUnderWay}
-use Rattle.model.specs.Words.{mostUnderWay, entry, process, underWay}
-use Rattle.model.specs.Steps.{found, lostBy}
+use Rattle.model.specs.{Words.mostUnderWay, Words.entry, Words.process, Words.underWay, Steps.found, Steps.lostBy}
 use Rattle.model.specs.Refusals.{Rule, firstOf, unsound, absent, missing, outside, noMember}
 use Rattle.whole_runs.specs.Outcomes.{judged, written, Report, refusing, accepting, message}
 

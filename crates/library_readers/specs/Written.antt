@@ -1,13 +1,8 @@
 -- What the readers write, by the words that they read.
 -- Assumes nothing.
-use mathlib.Core.Bool.{_&&_}
-use mathlib.Core.List.{List, [], _∷_}
-use mathlib.Core.Option.{none}
-use Prim.Native.Nat.{ℕ, _+_}
+use Rattle.laws.specs.Basics.{_&&_, List, [], _∷_, none, ℕ, _+_}
 use Rattle.laws.specs.Lists.{select, table}
-use Rattle.model.specs.declared.Checkpoint.{Checkpoint}
-use Rattle.model.specs.declared.CheckpointIndex.{CheckpointIndex}
-use Rattle.model.specs.declared.Message.{Message}
+use Rattle.model.specs.declared.{Checkpoint.Checkpoint, CheckpointIndex.CheckpointIndex, Message.Message}
 use Rattle.words.specs.Layout.{word, wide2, wide4, countOf, partAt, messageIn, isMessage, runOf}
 use Rattle.words_line.specs.Sifted.{lostTo}
 use Rattle.library_readers.specs.Readings.{Reading, reading, ofProcess}

@@ -1,23 +1,15 @@
 // What a run-time reads of the words, each by one reader: specs/Readings says what is answered and what the lent list then holds. The words stand for a sound state;
 // whoever exports these functions tests that first.
-use listing::answers::code_of;
 use listing::Summary;
 use listing::Value;
-use words::messages::Found;
+use listing::answers::code_of;
 use model::MESSAGES;
 use model::Refusal;
+use words::messages::Found;
 use words::places;
-ghost use mathlib.Core.Path.{_≡_};
-ghost use mathlib.Core.Bool.{true};
-ghost use mathlib.Core.List.{[], _∷_};
-ghost use mathlib.Core.Option.{none, some};
-ghost use Prim.Native.Nat.{ℕ, _+_, _*_, _≤_, _<_};
-ghost use lib.ListN.{length};
-ghost use lib.Seq.{sets};
-ghost use Rattle.laws.specs.Choice.{pick};
+ghost use Rattle.laws.specs.Basics.{_≡_, true, [], _∷_, none, some, ℕ, _+_, _*_, _≤_, _<_, length, sets, pick};
 ghost use Rattle.laws.specs.Lists.{table};
-ghost use Rattle.model.specs.Sound.{sound};
-ghost use Rattle.model.specs.Words.{mostProcesses, mostUnderWay};
+ghost use Rattle.model.specs.{Sound.sound, Words.mostProcesses, Words.mostUnderWay};
 ghost use Rattle.whole_runs.specs.Outcomes.{refusing, accepting};
 ghost use Rattle.listing.specs.answers.Codes.{coded};
 ghost use Rattle.words.specs.Layout.{word, countOf, endOf, keptCountAt, indexAt, checkpointIn, messageIn, isMessage, messagesIn, runOf, stateSize};

@@ -9,20 +9,12 @@ use model::CheckpointIndex;
 use model::MESSAGES;
 use model::PROCESSES;
 use model::Refusal;
-ghost use mathlib.Core.Path.{_≡_};
-ghost use mathlib.Core.Bool.{true, false, _&&_};
-ghost use Prim.Native.Nat.{_+_, _*_, _^_, _≤_, _<_};
-ghost use lib.Dec.{leb};
-ghost use lib.ListN.{length};
-ghost use lib.Seq.{sets};
-ghost use Rattle.laws.specs.Choice.{pick};
-ghost use Rattle.model.specs.Sound.{sound};
-ghost use Rattle.model.specs.Words.{mostProcesses, mostUnderWay};
+ghost use Rattle.laws.specs.Basics.{_≡_, true, false, _&&_, _+_, _*_, _^_, _≤_, _<_, leb, length, sets, pick};
+ghost use Rattle.model.specs.{Sound.sound, Words.mostProcesses, Words.mostUnderWay};
 ghost use Rattle.listing.specs.answers.Codes.{coded};
 ghost use Rattle.words.specs.Layout.{word, countOf, senderAt, messageIn, isMessage, runOf, stateSize};
 ghost use Rattle.words_line.specs.Sifted.{lostTo, SendersPresent};
-ghost use Rattle.library_readers.specs.Readings.{sentNumbers, lostReading};
-ghost use Rattle.library_readers.specs.Written.{threeOf, lostBelow};
+ghost use Rattle.library_readers.specs.{Readings.sentNumbers, Readings.lostReading, Written.threeOf, Written.lostBelow};
 
 // The message in place k, if it is lost where the line has these indexes, after `many` others. The result says how many they are then.
 fn write_if_lost(

@@ -1,10 +1,10 @@
 // A state saved to bytes and loaded from them. Both ask nothing of what they are lent: specs/Saving says what is refused and what is left.
-use model::Refusal;
 use crate::copy_words;
 use crate::counted;
 use crate::refused;
+use model::Refusal;
 use words::WORDS;
-ghost use mathlib.Core.Path.{_≡_};
+ghost use Rattle.laws.specs.Basics.{_≡_};
 ghost use Rattle.listing.specs.answers.Codes.{coded};
 ghost use Rattle.library_readers.specs.saved.Saving.{saving, loading};
 

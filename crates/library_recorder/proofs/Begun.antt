@@ -1,32 +1,16 @@
 -- The three ways of a start in place through the recorder: refused by itself, refused for an empty buffer, and done.
 -- Assumes nothing.
-use mathlib.Core.Path.{_≡_, refl, sym, _∙_, ap}
-use mathlib.Core.Bool.{Bool, true, false, not}
-use mathlib.Core.List.{List, [], _∷_}
-use mathlib.Core.Option.{none, some}
-use Prim.Native.Nat.{ℕ, _+_, _≤_}
-use native.Mathlib.Omega.{arith}
-use lib.Dec.{eqb, ltb}
-use lib.ListN.{length}
-use lib.Seq.{sets}
-use borrow.Author.Tests.{lt-ltb, le-ltb, eq-eqb}
-use Rattle.laws.specs.Choice.{by-bool}
-use Rattle.model.specs.declared.Refusal.{Refusal}
-use Rattle.model.specs.declared.Refusal.the-variants.{BufferTooShort, CountOutsideRange}
-use Rattle.model.specs.declared.StartAnswer.{StartAnswer}
+use Rattle.laws.specs.Basics.{_≡_, refl, sym, _∙_, ap, Bool, true, false, not, List, [], _∷_, none, some, ℕ, _+_, _≤_, arith, eqb, ltb, length, sets, eq-eqb, lt-ltb, le-ltb, by-bool}
+use Rattle.model.specs.declared.{Refusal.Refusal, Refusal.the-variants.BufferTooShort, Refusal.the-variants.CountOutsideRange, StartAnswer.StartAnswer}
 use Rattle.model.specs.declared.StartAnswer.the-variants.{Refused}
-use Rattle.model.specs.Words.{blank}
-use Rattle.model.specs.Refusals.{firstOf}
-use Rattle.model.specs.laws.Refusals.{by-refusal}
+use Rattle.model.specs.{Words.blank, Refusals.firstOf, laws.Refusals.by-refusal}
 use Rattle.whole_runs.specs.Outcomes.{Outcome, startReport}
 use Rattle.whole_runs.proofs.whole.Reached.{refused-number}
 use Rattle.theory_recording.specs.Recording.{Recorded, unwritten, appended}
-use Rattle.words.specs.Clean.{Clean}
-use Rattle.words.specs.Layout.{stateSize, runOf}
+use Rattle.words.specs.{Clean.Clean, Layout.stateSize, Layout.runOf}
 use Rattle.in_place.specs.Starting.{zeros, startRefusalIn, startOutcomeIn, startWords}
 use Rattle.in_place.proofs.Starting.{zeros-run, zeros-clean, accepted-size, start-length}
-use Rattle.library_recorder.proofs.record.Leaves.{leaves-all, leaves-written}
-use Rattle.library_recorder.proofs.record.Ways.{negated, affirmed}
+use Rattle.library_recorder.proofs.{record.Leaves.leaves-all, record.Leaves.leaves-written, record.Ways.negated, record.Ways.affirmed}
 use Rattle.library_recorder.specs.Recorded.{recordedStartIn, recordedStartWords}
 
 clash : {P : Type 0} (b : Bool) → b ≡ true → b ≡ false → P

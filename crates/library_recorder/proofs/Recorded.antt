@@ -1,34 +1,17 @@
 -- Note 9 of the calls in place: the words, the buffer and the place are what the definitions of the crate recording say, and there the theorem is proved.
 -- Assumes nothing.
-use mathlib.Core.Path.{_≡_, refl, sym, _∙_, ap}
-use mathlib.Core.Bool.{true, false}
-use mathlib.Core.List.{List, [], _∷_}
-use mathlib.Core.Option.{none, some}
-use Prim.Native.Nat.{ℕ, _-_, _≤_}
-use native.Mathlib.Omega.{arith}
-use lib.Dec.{ltb}
-use lib.ListN.{length}
-use borrow.Author.Tests.{le-ltb, ltb-false}
-use Rattle.laws.specs.Choice.{by-bool}
-use Rattle.model.specs.declared.Run.{Run}
-use Rattle.model.specs.declared.Refusal.{Refusal}
-use Rattle.model.specs.declared.Refusal.the-variants.{BufferTooShort}
-use Rattle.model.specs.declared.StartAnswer.{StartAnswer}
+use Rattle.laws.specs.Basics.{_≡_, refl, sym, _∙_, ap, true, false, List, [], _∷_, none, some, ℕ, _-_, _≤_, arith, ltb, length, le-ltb, ltb-false, by-bool}
+use Rattle.model.specs.declared.{Run.Run, Refusal.Refusal, Refusal.the-variants.BufferTooShort, StartAnswer.StartAnswer}
 use Rattle.model.specs.declared.StartAnswer.the-variants.{Refused, Started}
-use Rattle.model.specs.Refusals.{startRefusal}
-use Rattle.model.specs.laws.Refusals.{by-refusal}
-use Rattle.whole_runs.specs.Outcomes.{Outcome, startOutcome}
-use Rattle.whole_runs.specs.Calls.{Call}
+use Rattle.model.specs.{Refusals.startRefusal, laws.Refusals.by-refusal}
+use Rattle.whole_runs.specs.{Outcomes.Outcome, Outcomes.startOutcome, Calls.Call}
 use Rattle.theory_recording.specs.Recording.{Recorded, unwritten, appended, recording, recordedStart, Tape, begun, tapeAfter, RecordingReplays}
 use Rattle.theory_recording.proofs.Recording.{recording-replays}
-use Rattle.words.specs.Clean.{Clean}
-use Rattle.words.specs.Layout.{stateSize, runOf}
+use Rattle.words.specs.{Clean.Clean, Layout.stateSize, Layout.runOf}
 use Rattle.in_place.specs.Starting.{startRefusalIn, startOutcomeIn, startWords, StartsTheSame}
-use Rattle.in_place.proofs.Judging.{starts-the-same}
-use Rattle.in_place.proofs.Starting.{accepted-size, accepted-long, start-run, start-clean}
-use Rattle.library_recorder.proofs.record.Leaves.{leaves-written}
+use Rattle.in_place.proofs.{Judging.starts-the-same, Starting.accepted-size, Starting.accepted-long, Starting.start-run, Starting.start-clean}
+use Rattle.library_recorder.proofs.{record.Leaves.leaves-written, Begun.done-is, Begun.done-words}
 use Rattle.library_recorder.specs.Recorded.{recordedStartIn, recordedStartWords, WordTape, tapeOf, RecordedAll, begunIn, RecordingReplaysIn}
-use Rattle.library_recorder.proofs.Begun.{done-is, done-words}
 
 pub tape-after : (t : WordTape) (calls : List Call) (u : WordTape) → RecordedAll t calls u → tapeOf u ≡ tapeAfter (tapeOf t) calls
 unfolding RecordedAll tapeAfter

@@ -1,23 +1,14 @@
 -- The recorder on the calls in place. `recordedCheckpoint` .. `recordedEarliest` of the crate recording are of the run that the words stand for; here are a start in place
 -- through the recorder, and what a replay of the buffer gives. proofs/Recorded has the theorem.
 -- Assumes nothing.
-use mathlib.Core.Path.{_≡_}
-use mathlib.Core.List.{List, [], _∷_}
-use Prim.Native.Nat.{ℕ}
-use lib.Dec.{ltb}
-use lib.ListN.{length}
-use Rattle.laws.specs.Choice.{pick}
-use Rattle.model.specs.declared.Refusal.the-variants.{BufferTooShort}
-use Rattle.model.specs.declared.StartAnswer.{StartAnswer}
+use Rattle.laws.specs.Basics.{_≡_, List, [], _∷_, ℕ, ltb, length, pick}
+use Rattle.model.specs.declared.{Refusal.the-variants.BufferTooShort, StartAnswer.StartAnswer}
 use Rattle.model.specs.declared.StartAnswer.the-variants.{Refused, Started}
 use Rattle.model.specs.Words.{blank}
-use Rattle.whole_runs.specs.Outcomes.{judged}
-use Rattle.whole_runs.specs.Calls.{Call}
+use Rattle.whole_runs.specs.{Outcomes.judged, Calls.Call}
 use Rattle.theory_recording.specs.Recording.{Recorded, unwritten, appended, Tape, recorded, begun, entries, ReplaysTheSame}
-use Rattle.words.specs.Clean.{Clean}
-use Rattle.words.specs.Layout.{runOf}
-use Rattle.in_place.specs.Left.{Leaves}
-use Rattle.in_place.specs.Starting.{startRefusalIn, startOutcomeIn, startWords}
+use Rattle.words.specs.{Clean.Clean, Layout.runOf}
+use Rattle.in_place.specs.{Left.Leaves, Starting.startRefusalIn, Starting.startOutcomeIn, Starting.startWords}
 
 -- "whose first byte is the count; the start writes that byte". "21, after all numbers of the call itself": a refused start writes no byte and leaves the place as it was.
 unfoldable pub recordedStartIn : ℕ → ℕ → List ℕ → List ℕ → ℕ → Recorded StartAnswer

@@ -2,6 +2,8 @@
 // "A writer takes a call, does it, and appends the record to a lent buffer". What each function returns and leaves, refused or accepted, is in specs/Recording of the crate
 // recording, of the run that the words stand for; a start in place is in specs/Recorded here, with what a replay of the buffer gives.
 
+use crate::record::accepted;
+use crate::record::bytes;
 use model::CheckpointAnswer;
 use model::DeliverAnswer;
 use model::Event;
@@ -11,14 +13,10 @@ use model::RecoverAnswer;
 use model::Refusal;
 use model::SendAnswer;
 use model::StartAnswer;
-use crate::record::accepted;
-use crate::record::bytes;
-ghost use mathlib.Core.Path.{_≡_};
-ghost use lib.ListN.{length};
+ghost use Rattle.laws.specs.Basics.{_≡_, length};
 ghost use Rattle.model.specs.declared.Refusal.{Refusal};
 ghost use Rattle.theory_recording.specs.Recording.{recordedCheckpoint, recordedSend, recordedDeliver, recordedLose, recordedLine, recordedRecover, recordedEarliest};
-ghost use Rattle.words.specs.Clean.{Clean};
-ghost use Rattle.words.specs.Layout.{runOf, stateSize};
+ghost use Rattle.words.specs.{Clean.Clean, Layout.runOf, Layout.stateSize};
 ghost use Rattle.words_line.specs.Through.{namedIn};
 ghost use Rattle.in_place.specs.Left.{Leaves};
 ghost use Rattle.library_recorder.specs.Recorded.{recordedStartIn, recordedStartWords};

@@ -1,5 +1,6 @@
 // What a call answers where the buffer has no room for its record: its own refusal, else 21. "A refused call writes no byte", and the words and the lent lists keep every
 // entry: so the call is made on a copy of the words, with lists of its own. A refusal looks at the length of a lent list alone, and 512 entries, or 16, are as good as more.
+use crate::record::accepted;
 use model::CheckpointAnswer;
 use model::DELETIONS;
 use model::DeliverAnswer;
@@ -8,13 +9,8 @@ use model::PROCESSES;
 use model::RecoverAnswer;
 use model::Refusal;
 use model::SendAnswer;
-use crate::record::accepted;
 use words::WORDS;
-ghost use mathlib.Core.Path.{_≡_};
-ghost use mathlib.Core.Bool.{true};
-ghost use mathlib.Core.List.{List};
-ghost use Prim.Native.Nat.{ℕ, _≤_, min};
-ghost use lib.ListN.{length};
+ghost use Rattle.laws.specs.Basics.{_≡_, true, List, ℕ, _≤_, min, length};
 ghost use Rattle.model.specs.declared.Refusal.the-variants.{BufferTooShort};
 ghost use Rattle.model.specs.Refusals.{checkpointRefusal, sendRefusal, deliverRefusal, loseRefusal, recoverRefusal};
 ghost use Rattle.model.specs.Sound.{sound};

@@ -1,14 +1,9 @@
 -- The text of deletions that were written to the front of a list: it is the same whatever the list held, where the list is long enough.
 -- Assumes nothing.
-use mathlib.Core.Path.{_≡_, refl, sym, _∙_, ap}
-use mathlib.Core.List.{List, [], _∷_, _++_}
-use Prim.Native.Nat.{ℕ, _+_, _*_, _≤_}
-use native.Mathlib.Omega.{arith}
-use lib.ListN.{length, drop}
-use lib.Seq.{sets, sets-eq}
+use Rattle.laws.specs.Basics.{_≡_, refl, sym, _∙_, ap, List, [], _∷_, _++_, ℕ, _+_, _*_, _≤_, arith, length, drop, sets}
+use lib.Seq.{sets-eq}
 use Rattle.model.specs.Steps.{Deletion}
-use Rattle.whole_runs.specs.Outcomes.{pairs}
-use Rattle.whole_runs.specs.Listing.{deletionsText, decimal, space, colon}
+use Rattle.whole_runs.specs.{Outcomes.pairs, Listing.deletionsText, Listing.decimal, Listing.space, Listing.colon}
 
 -- two numbers for each
 pairs-many : (ds : List Deletion) → length (pairs ds) ≡ 2 * length ds

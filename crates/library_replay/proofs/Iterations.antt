@@ -1,35 +1,17 @@
 -- The iterations of the loop over a block: nothing taken yet, one record more, and where it stops.
 -- Assumes nothing.
-use mathlib.Core.Path.{_≡_, refl, sym, _∙_, ap}
-use mathlib.Core.Bool.{Bool, true, false, _&&_}
-use mathlib.Core.List.{List, [], _∷_}
-use mathlib.Core.Option.{Option, none, some}
-use Prim.Native.Nat.{ℕ, suc, _+_, _-_, _*_, _≤_, _<_}
-use native.Mathlib.Omega.{arith}
-use lib.Dec.{ltb, leb}
-use lib.ListN.{length, take, drop, length-drop}
-use lib.Seq.{sets, length-sets, drop-drop, length-take-le}
-use borrow.Author.Tests.{ltb-true, leb-true, leb-false, le-leb, lt-leb, eq-eqb}
-use Rattle.laws.specs.Choice.{pick, by-bool}
+use Rattle.laws.specs.Basics.{_≡_, refl, sym, _∙_, ap, Bool, true, false, _&&_, List, [], _∷_, Option, none, some, ℕ, suc, _+_, _-_, _*_, _≤_, _<_, arith, ltb, leb, length, take, drop, length-drop, sets, length-take-le, eq-eqb, ltb-true, le-leb, lt-leb, leb-true, leb-false, pick, by-bool}
+use lib.Seq.{length-sets, drop-drop}
 use Rattle.laws.specs.Truth.{and-left, and-right}
-use Rattle.model.specs.declared.Event.{Event}
-use Rattle.model.specs.declared.Run.{Run}
+use Rattle.model.specs.declared.{Event.Event, Run.Run}
 use Rattle.model.specs.Trace.{decoded}
-use Rattle.whole_runs.specs.Outcomes.{Report}
-use Rattle.whole_runs.specs.Calls.{Answered}
+use Rattle.whole_runs.specs.{Outcomes.Report, Calls.Answered, WholeRuns.Reachable}
 use Rattle.whole_runs.specs.Listing.{lineText, callOf, perform, mostRecords, goesOn, records, goesOnAfterAll, stateAfterRecords}
-use Rattle.whole_runs.specs.WholeRuns.{Reachable}
-use Rattle.whole_runs.proofs.Blocks.{next-line, next-goes-on, next-state}
-use Rattle.whole_runs.proofs.Sizes.{Small, record-small}
-use Rattle.whole_runs.proofs.WholeRuns.{reachable-call}
-use Rattle.trace.specs.Answers.{recordAt, eventIn}
-use Rattle.trace.specs.reader.Reading.{recordAfter}
+use Rattle.whole_runs.proofs.{Blocks.next-line, Blocks.next-goes-on, Blocks.next-state, Sizes.Small, Sizes.record-small, WholeRuns.reachable-call}
+use Rattle.trace.specs.{Answers.recordAt, Answers.eventIn, reader.Reading.recordAfter}
 use Rattle.listing.specs.declared.Summary.{Summary}
-use Rattle.listing.specs.Lines.{longestLine, replyOf}
-use Rattle.listing.specs.Printed.{Printed}
-use Rattle.listing.specs.Summarised.{reportIn, Performs}
-use Rattle.listing.proofs.Summarised.{says-line}
-use Rattle.listing.proofs.Texts.{then, nothing}
+use Rattle.listing.specs.{Lines.longestLine, Lines.replyOf, Printed.Printed, Summarised.reportIn, Summarised.Performs}
+use Rattle.listing.proofs.{Summarised.says-line, Texts.then, Texts.nothing}
 use Rattle.in_place.specs.Left.{Leaves}
 use Rattle.library_replay.specs.Taken.{mayTake, takenOf, BlockOutcome, outcomeOf, blockOutcome, isLeft, recordIn, takesNext}
 

@@ -1,20 +1,11 @@
 -- Block by block: the records that are taken are in the block and no more than a replay takes, before each there was room and the replay went on, and one is taken where
 -- one may be.
 -- Assumes nothing.
-use mathlib.Core.Path.{_≡_, refl, sym, _∙_, ap}
-use mathlib.Core.Bool.{Bool, true, false, _&&_}
-use mathlib.Core.List.{List, [], _∷_, _++_}
-use Prim.Native.Nat.{ℕ, zero, suc, _+_, _-_, _*_, _≤_, _<_}
-use native.Mathlib.Omega.{arith}
-use lib.Dec.{ltb, leb}
-use lib.ListN.{length, take, length-append}
-use borrow.Author.Tests.{lt-ltb, ltb-true, leb-true}
-use Rattle.laws.specs.Choice.{pick, by-bool}
+use Rattle.laws.specs.Basics.{_≡_, refl, sym, _∙_, ap, Bool, true, false, _&&_, List, [], _∷_, _++_, ℕ, zero, suc, _+_, _-_, _*_, _≤_, _<_, arith, ltb, leb, length, take, length-append, lt-ltb, ltb-true, leb-true, pick, by-bool}
 use Rattle.laws.specs.Truth.{and-left, and-right, never-both}
 use Rattle.model.specs.declared.Run.{Run}
 use Rattle.model.specs.Trace.{decoded}
-use Rattle.whole_runs.specs.Calls.{Answered}
-use Rattle.whole_runs.specs.Listing.{lineText, perform, mostRecords, goesOn, records, goesOnAfterAll}
+use Rattle.whole_runs.specs.{Calls.Answered, Listing.lineText, Listing.perform, Listing.mostRecords, Listing.goesOn, Listing.records, Listing.goesOnAfterAll}
 use Rattle.listing.specs.Lines.{longestLine}
 use Rattle.library_replay.specs.Taken.{mayTake, takenOf, Within, BlocksGoOn}
 

@@ -1,35 +1,16 @@
 -- What the calls in place say of a record, with lists of 512 and 16 entries whatever these hold: the state and the reply of the record by the model, whose lists hold zeros.
 -- Assumes nothing.
-use mathlib.Core.Path.{_≡_, refl, sym, _∙_, ap}
-use mathlib.Core.Bool.{false}
-use mathlib.Core.List.{List, []}
-use mathlib.Core.Option.{none, some}
-use Prim.Native.Nat.{ℕ, _≤_}
-use native.Mathlib.Omega.{arith}
-use lib.ListN.{length, replicate, length-replicate}
-use lib.Seq.{sets}
-use Rattle.model.specs.declared.Event.{Event}
+use Rattle.laws.specs.Basics.{_≡_, refl, sym, _∙_, ap, false, List, [], none, some, ℕ, _≤_, arith, length, replicate, length-replicate, sets, by-bool}
+use Rattle.model.specs.declared.{Event.Event, Refusal.the-variants.UnsoundState, Refusal.the-variants.MalformedRecord, Run.Run, SendAnswer.SendAnswer}
 use Rattle.model.specs.declared.Event.the-variants.{Checkpoint, Send, Deliver, Lose, Recover}
-use Rattle.model.specs.declared.Refusal.the-variants.{UnsoundState, MalformedRecord}
-use Rattle.model.specs.declared.Run.{Run}
-use Rattle.model.specs.declared.CheckpointAnswer.{CheckpointAnswer}
-use Rattle.model.specs.declared.SendAnswer.{SendAnswer}
-use Rattle.model.specs.declared.DeliverAnswer.{DeliverAnswer}
-use Rattle.model.specs.declared.LoseAnswer.{LoseAnswer}
-use Rattle.model.specs.declared.RecoverAnswer.{RecoverAnswer}
-use Rattle.model.specs.Steps.{Deletion, checkpointDeletions, deliverDeletions, recoverDeletions, forces}
-use Rattle.model.specs.Words.{process}
-use Rattle.model.specs.Sound.{sound}
+use Rattle.model.specs.declared.{CheckpointAnswer.CheckpointAnswer, DeliverAnswer.DeliverAnswer, LoseAnswer.LoseAnswer, RecoverAnswer.RecoverAnswer}
+use Rattle.model.specs.{Steps.Deletion, Steps.checkpointDeletions, Steps.deliverDeletions, Steps.recoverDeletions, Steps.forces, Words.process, Sound.sound}
 use Rattle.model.specs.Refusals.{checkpointRefusal, sendRefusal, deliverRefusal, loseRefusal, recoverRefusal}
 use Rattle.model.specs.laws.Refusals.{by-refusal}
-use Rattle.laws.specs.Choice.{by-bool}
 use Rattle.whole_runs.specs.Outcomes.{Report, Outcome, refusing, pairs, message, deliverAnswer, checkpointOutcome, checkpointReport, sendOutcome, sendReport, deliverOutcome, deliverReport, loseOutcome, loseReport, recoverOutcome, recoverReport}
-use Rattle.whole_runs.specs.Calls.{recover, answered, call}
-use Rattle.whole_runs.specs.Listing.{deletionsText, callOf, perform}
-use Rattle.whole_runs.specs.WholeRuns.{Reachable}
-use Rattle.whole_runs.proofs.WholeRuns.{reachable-call}
+use Rattle.whole_runs.specs.{Calls.recover, Calls.answered, Calls.call, Listing.deletionsText, Listing.callOf, Listing.perform, WholeRuns.Reachable}
+use Rattle.whole_runs.proofs.{WholeRuns.reachable-call, Sizes.record-small}
 use Rattle.whole_runs.proofs.Unsound.{checkpoint-unsound, send-unsound, deliver-unsound, lose-unsound, recover-unsound}
-use Rattle.whole_runs.proofs.Sizes.{record-small}
 use Rattle.listing.specs.declared.Summary.{Summary}
 use Rattle.listing.specs.Summarised.{reportIn, Says, Performs}
 use Rattle.listing.proofs.Summarised.{none-listed}

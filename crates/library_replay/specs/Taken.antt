@@ -1,12 +1,6 @@
 -- A block of records, each of four bytes: how many of them are taken, and what they come to by whole_runs's specs/Listing, on any state, sound or not.
 -- Assumes nothing.
-use mathlib.Core.Path.{_≡_}
-use mathlib.Core.Bool.{Bool, true, _&&_}
-use mathlib.Core.List.{List, [], _∷_}
-use Prim.Native.Nat.{ℕ, suc, _+_, _-_, _*_, _≤_, _<_}
-use lib.Dec.{ltb, leb}
-use lib.ListN.{length, take}
-use Rattle.laws.specs.Choice.{pick}
+use Rattle.laws.specs.Basics.{_≡_, Bool, true, _&&_, List, [], _∷_, ℕ, suc, _+_, _-_, _*_, _≤_, _<_, ltb, leb, length, take, pick}
 use Rattle.model.specs.declared.Run.{Run}
 use Rattle.model.specs.Trace.{decoded}
 use Rattle.whole_runs.specs.Listing.{perform, lineText, mostRecords, goesOn, records, goesOnAfterAll, stateAfterRecords}

@@ -4,13 +4,8 @@ use listing::LONGEST_LINE;
 use model::DELETIONS;
 use model::PROCESSES;
 use whole_runs::MOST_RECORDS;
-ghost use mathlib.Core.Path.{_≡_};
-ghost use mathlib.Core.Bool.{true};
-ghost use Prim.Native.Nat.{_≤_};
-ghost use lib.ListN.{length};
-ghost use lib.Seq.{sets};
-ghost use Rattle.model.specs.Sound.{sound};
-ghost use Rattle.model.specs.Words.{mostProcesses, mostDeletions};
+ghost use Rattle.laws.specs.Basics.{_≡_, true, _≤_, length, sets};
+ghost use Rattle.model.specs.{Sound.sound, Words.mostProcesses, Words.mostDeletions};
 ghost use Rattle.whole_runs.specs.WholeRuns.{Reachable};
 ghost use Rattle.words.specs.Layout.{runOf};
 ghost use Rattle.in_place.specs.Left.{Leaves};
@@ -93,7 +88,13 @@ fn replay_with_lists(
         let summary = applied.summary;
         still = applied.sound;
         going = listing::output::line::goes_on(all, summary.refused);
-        written = listing::output::line::print(summary, deleted, done + (taken as u64), out, written);
+        written = listing::output::line::print(
+            summary,
+            deleted,
+            done + (taken as u64),
+            out,
+            written,
+        );
     }
     Progress {
         taken,

@@ -3,21 +3,14 @@ use listing::Summary;
 use model::Event;
 use model::Refusal;
 use trace::Decoded;
-ghost use mathlib.Core.Path.{_≡_};
-ghost use mathlib.Core.Bool.{true};
-ghost use mathlib.Core.List.{List};
-ghost use mathlib.Core.Option.{some};
-ghost use Prim.Native.Nat.{ℕ};
-ghost use lib.ListN.{length};
-ghost use Rattle.model.specs.declared.Event.the-variants as event;
-ghost use Rattle.model.specs.Sound.{sound};
-ghost use Rattle.model.specs.Words.{mostDeletions, mostProcesses};
-ghost use Rattle.whole_runs.specs.Outcomes.{refusing};
-ghost use Rattle.whole_runs.specs.WholeRuns.{Reachable};
+ghost use Rattle.laws.specs.Basics.{_≡_, true, List, some, ℕ, length};
+ghost use Rattle.model.specs.{Sound.sound, Words.mostDeletions, Words.mostProcesses};
+ghost use Rattle.whole_runs.specs.{Outcomes.refusing, WholeRuns.Reachable};
 ghost use Rattle.trace.specs.Answers.{eventRead};
 ghost use Rattle.listing.specs.Summarised.{reportIn, Performs};
 ghost use Rattle.words.specs.Layout.{runOf};
 ghost use Rattle.in_place.specs.Left.{Leaves};
+ghost use Rattle.model.specs.declared.Event.the-variants as event;
 
 // What a record comes to: what its line says, and whether the words then stand for a sound state.
 pub struct Applied {
@@ -29,7 +22,10 @@ fn refuse(why: Refusal, still: bool) -> Applied
     ensures { λ r. ⌜ (reportIn (r .summary) ≡ refusing why) × (r .sound ≡ still) ⌝ }
 {
     let summary = listing::summaries::refused(why);
-    Applied { summary, sound: still }
+    Applied {
+        summary,
+        sound: still,
+    }
 }
 
 fn checkpoint(w: &mut [u16], i: usize, deleted: &mut [u16]) -> Applied
@@ -40,7 +36,10 @@ fn checkpoint(w: &mut [u16], i: usize, deleted: &mut [u16]) -> Applied
 {
     let answer = in_place::checkpoint::checkpoint_on(w, i, deleted);
     let summary = listing::summaries::of_checkpoint(answer);
-    Applied { summary, sound: true }
+    Applied {
+        summary,
+        sound: true,
+    }
 }
 
 fn send(w: &mut [u16], i: usize, j: usize) -> Applied
@@ -51,7 +50,10 @@ fn send(w: &mut [u16], i: usize, j: usize) -> Applied
 {
     let answer = in_place::send::send_on(w, i, j);
     let summary = listing::summaries::of_send(answer);
-    Applied { summary, sound: true }
+    Applied {
+        summary,
+        sound: true,
+    }
 }
 
 fn deliver(w: &mut [u16], m: u32, deleted: &mut [u16]) -> Applied
@@ -63,7 +65,10 @@ fn deliver(w: &mut [u16], m: u32, deleted: &mut [u16]) -> Applied
     let delivered = in_place::deliver::deliver_on(w, m, deleted);
     let answer = delivered.answer;
     let summary = listing::summaries::of_deliver(answer);
-    Applied { summary, sound: true }
+    Applied {
+        summary,
+        sound: true,
+    }
 }
 
 fn lose(w: &mut [u16], m: u32) -> Applied
@@ -74,7 +79,10 @@ fn lose(w: &mut [u16], m: u32) -> Applied
 {
     let answer = in_place::lose::lose_on(w, m);
     let summary = listing::summaries::of_lose(answer);
-    Applied { summary, sound: true }
+    Applied {
+        summary,
+        sound: true,
+    }
 }
 
 // Whether the words stand for a sound state after a recovery that deleted so many checkpoints. They do where calls from a start led to them, and where none was deleted, as
@@ -107,7 +115,10 @@ fn recover(
     let answer = in_place_recover::recover_on(w, failed, deleted, line);
     let summary = listing::summaries::of_recover(answer);
     let still = sound_after(w, reached, summary.deletions);
-    Applied { summary, sound: still }
+    Applied {
+        summary,
+        sound: still,
+    }
 }
 
 // The call of an event, on words that stand for a sound state.

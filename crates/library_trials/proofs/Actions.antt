@@ -1,32 +1,18 @@
 -- What the parts of a step leave behind, from what the calls answer.
 -- Assumes nothing.
-use mathlib.Core.Path.{_≡_, refl, sym, _∙_, ap}
-use mathlib.Core.Bool.{true, false, _&&_}
-use mathlib.Core.List.{List, [], _∷_}
-use mathlib.Core.Option.{Option, none, some}
-use Prim.Native.Nat.{ℕ, _+_, _%_, _≤_, _<_}
-use native.Mathlib.Omega.{arith}
-use lib.Dec.{eqb}
-use lib.ListN.{length, getD, set, replicate}
+use Rattle.laws.specs.Basics.{_≡_, refl, sym, _∙_, ap, true, false, _&&_, List, [], _∷_, Option, none, some, ℕ, _+_, _%_, _≤_, _<_, arith, eqb, length, getD, set, replicate, eq-eqb, ne-eqb, lt-ltb, le-ltb, le-leb, lt-leb, pick, by-bool}
 use lib.Seq.{set-getD}
-use borrow.Author.Tests.{lt-leb, le-leb, le-ltb, lt-ltb, eq-eqb, ne-eqb}
-use Rattle.laws.specs.Choice.{pick, by-bool}
-use Rattle.laws.specs.Lists.{select}
-use Rattle.laws.specs.Truth.{never-both}
-use Rattle.model.specs.declared.Run.{Run}
-use Rattle.model.specs.declared.Event.{Event}
-use Rattle.model.specs.declared.Event.the-variants.{Checkpoint, Send, Deliver}
+use Rattle.laws.specs.{Lists.select, Truth.never-both}
+use Rattle.model.specs.declared.{Run.Run, Event.Event, Event.the-variants.Checkpoint, Event.the-variants.Send, Event.the-variants.Deliver}
 use Rattle.model.specs.declared.DeliverAnswer.{DeliverAnswer}
 use Rattle.model.specs.declared.DeliverAnswer.the-variants.{Refused, Received, Forced}
 use Rattle.model.specs.Words.{mostUnderWay}
-use Rattle.whole_runs.specs.Outcomes.{checkpointOutcome, sendOutcome, deliverOutcome, deliverReport}
-use Rattle.whole_runs.specs.Calls.{answered, call}
+use Rattle.whole_runs.specs.{Outcomes.checkpointOutcome, Outcomes.sendOutcome, Outcomes.deliverOutcome, Outcomes.deliverReport, Calls.answered, Calls.call}
 use Rattle.whole_runs.specs.Listing.{callOf}
 use Rattle.theory_recording.specs.Replay.{stateAfterEvents, performed}
 use Rattle.theory_recording.specs.spacing.Spacing.{oldestTo, chosenReceiver, sends, delivers, action, isDue, withCheckpoint, isDelivery, hasValue, deliveriesIn, forcedIn, counted}
 use Rattle.theory_recording.proofs.spacing.Accepted.{by-option}
-use Rattle.library_trials.specs.declared.Action.{Action}
-use Rattle.library_trials.specs.declared.Found.{Found}
+use Rattle.library_trials.specs.declared.{Action.Action, Found.Found}
 use Rattle.library_trials.specs.Steps.{eventsIn, after, actionOf, forcedBy, foundIn}
 
 forced-one : {A : Type 0} (a : DeliverAnswer) (x : A) → forcedBy a ≡ length (pick (hasValue (deliverReport a .value)) (x ∷ []) [])

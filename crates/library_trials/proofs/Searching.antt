@@ -1,21 +1,12 @@
 -- The first message to a process, and the most that a process keeps, in the words of a sound state.
 -- Assumes nothing.
-use mathlib.Core.Path.{_≡_, refl, sym, _∙_, ap}
-use mathlib.Core.Bool.{Bool, true, false, _&&_, not}
-use mathlib.Core.List.{List, [], _∷_, _++_}
-use mathlib.Core.Option.{Option, none, some}
-use Prim.Native.Nat.{ℕ, zero, suc, _+_, _<_, max}
-use native.Mathlib.Omega.{arith}
+use Rattle.laws.specs.Basics.{_≡_, refl, sym, _∙_, ap, Bool, true, false, not, _&&_, List, [], _∷_, _++_, Option, none, some, ℕ, zero, suc, _+_, _<_, max, arith, eqb, by-eq}
 use native.Mathlib.Numerals.{add-one}
-use lib.Dec.{eqb}
-use Rattle.laws.specs.Choice.{by-eq}
-use Rattle.laws.specs.Lists.{select, table}
-use Rattle.laws.specs.Select.{select-append, select-select}
+use Rattle.laws.specs.{Lists.select, Lists.table, Select.select-append, Select.select-select}
 use Rattle.model.specs.declared.Message.{Message}
 use Rattle.model.specs.Sound.{sound}
 use Rattle.words.specs.Layout.{word, countOf, endOf, keptCountAt, receiverAt, messageIn, isMessage, messagesIn, runOf}
-use Rattle.words.proofs.View.{process-is, kept-count}
-use Rattle.words.proofs.ViewSound.{sound-words}
+use Rattle.words.proofs.{View.process-is, View.kept-count, ViewSound.sound-words}
 use Rattle.theory_recording.specs.spacing.Spacing.{headOf, oldestTo, greatestBelow, mostKept}
 
 not-none : {A P : Type 0} (x : A) → _≡_ {A = Option A} none (some x) → P

@@ -1,37 +1,17 @@
 -- What holds of a trial under way, and a step as the code takes it.
 -- Assumes nothing.
-use mathlib.Core.Path.{_≡_, refl, sym, _∙_, ap}
-use mathlib.Core.Bool.{Bool, true, false, _&&_}
-use mathlib.Core.List.{List, [], _∷_}
-use mathlib.Core.Option.{Option, none, some}
-use Prim.Native.Nat.{ℕ, suc, _+_, _*_, _%_, _≤_, _<_, max}
-use native.Mathlib.Omega.{arith}
+use Rattle.laws.specs.Basics.{_≡_, refl, sym, _∙_, ap, Bool, true, false, _&&_, List, [], _∷_, Option, none, some, ℕ, suc, _+_, _*_, _%_, _≤_, _<_, max, arith, eqb, length, getD, set, replicate, pick}
 use native.Mathlib.Numerals.{add-one}
-use lib.Dec.{eqb}
-use lib.ListN.{length, getD, set, replicate}
-use Rattle.laws.specs.Choice.{pick}
-use Rattle.model.specs.declared.Run.{Run}
-use Rattle.model.specs.declared.Event.{Event}
-use Rattle.model.specs.declared.Event.the-variants.{Checkpoint}
-use Rattle.model.specs.declared.StartAnswer.{StartAnswer}
-use Rattle.model.specs.declared.Refusal.the-variants.{TrialOutsideRange}
-use Rattle.model.specs.Words.{mostProcesses, ones}
-use Rattle.model.specs.Steps.{startState}
-use Rattle.model.specs.Sound.{sound}
-use Rattle.model.specs.laws.Refusals.{refusal-in}
-use Rattle.whole_runs.specs.Outcomes.{Outcome, startOutcome}
-use Rattle.whole_runs.specs.WholeRuns.{Traced}
+use Rattle.model.specs.declared.{Run.Run, Event.Event, Event.the-variants.Checkpoint, StartAnswer.StartAnswer, Refusal.the-variants.TrialOutsideRange}
+use Rattle.model.specs.{Words.mostProcesses, Words.ones, Steps.startState, Sound.sound, laws.Refusals.refusal-in}
+use Rattle.whole_runs.specs.{Outcomes.Outcome, Outcomes.startOutcome, WholeRuns.Traced}
 use Rattle.words.specs.Layout.{runOf}
 use Rattle.in_place.specs.Starting.{startOutcomeIn, StartsTheSame}
 use Rattle.in_place.proofs.Judging.{starts-the-same}
-use Rattle.theory_recording.specs.Replay.{stateAfterEvents}
-use Rattle.whole_runs.proofs.WholeRuns.{started-state, reachable-sound}
-use Rattle.whole_runs.proofs.Traced.{traced-reachable}
-use Rattle.theory_recording.proofs.Replay.{traced-events}
-use Rattle.theory_recording.specs.spacing.Trial.{Trial}
+use Rattle.theory_recording.specs.{Replay.stateAfterEvents, spacing.Trial.Trial}
+use Rattle.whole_runs.proofs.{WholeRuns.started-state, WholeRuns.reachable-sound, Traced.traced-reachable}
+use Rattle.theory_recording.proofs.{Replay.traced-events, spacing.Accepted.ones-start, spacing.Accepted.tried, spacing.Agreement.result-is}
 use Rattle.theory_recording.specs.spacing.Spacing.{draw, generated, drawnProcess, drawnNumber, action, isDue, stepEvents, mostKept, stepped, trialStart, trialAfter, outOfRange, trialRefusal, figures, noFigures, simulated}
-use Rattle.theory_recording.proofs.spacing.Accepted.{ones-start, tried}
-use Rattle.theory_recording.proofs.spacing.Agreement.{result-is}
 use Rattle.theory_recording.proofs.spacing.Counts.{small-trial, trial-traced, going-count}
 use Rattle.library_trials.specs.declared.Action.{Action}
 use Rattle.library_trials.specs.Steps.{trialOf, eventsIn, after, actionOf, Underway}

@@ -1,24 +1,13 @@
 -- What the parts of a step leave behind, by the events that they are.
 -- Assumes nothing.
-use mathlib.Core.Path.{_≡_}
-use mathlib.Core.Bool.{true, false}
-use mathlib.Core.List.{List, [], _∷_}
-use mathlib.Core.Option.{Option, none, some}
-use Prim.Native.Nat.{ℕ, _≤_, _<_}
-use lib.ListN.{length}
-use Rattle.model.specs.declared.Run.{Run}
-use Rattle.model.specs.declared.Event.{Event}
-use Rattle.model.specs.declared.Message.{Message}
-use Rattle.model.specs.declared.DeliverAnswer.{DeliverAnswer}
+use Rattle.laws.specs.Basics.{_≡_, true, false, List, [], _∷_, Option, none, some, ℕ, _≤_, _<_, length}
+use Rattle.model.specs.declared.{Run.Run, Event.Event, Message.Message, DeliverAnswer.DeliverAnswer}
 use Rattle.model.specs.declared.DeliverAnswer.the-variants.{Refused, Received, Forced}
 use Rattle.model.specs.Words.{mostProcesses}
-use Rattle.theory_recording.specs.Replay.{stateAfterEvents, performed}
+use Rattle.theory_recording.specs.{Replay.stateAfterEvents, Replay.performed, spacing.Trial.Trial}
 use Rattle.words.specs.Layout.{runOf}
-use Rattle.theory_recording.specs.spacing.Trial.{Trial}
 use Rattle.theory_recording.specs.spacing.Spacing.{deliveriesIn, forcedIn, trialAfter, mostSteps}
-use Rattle.library_trials.specs.declared.Tally.{Tally}
-use Rattle.library_trials.specs.declared.Action.{Action}
-use Rattle.library_trials.specs.declared.Found.{Found}
+use Rattle.library_trials.specs.declared.{Tally.Tally, Action.Action, Found.Found}
 
 -- The trial that the words and a tally are.
 unfoldable pub trialOf : List ℕ → Tally → Trial

@@ -1,15 +1,7 @@
 -- No line is longer than `longestLine`: a bound for the buffer that lines are printed into.
 -- Assumes nothing.
-use mathlib.Core.Path.{_≡_, refl}
-use mathlib.Core.List.{List, [], _∷_}
-use mathlib.Core.Option.{Option, none, some}
-use Prim.Native.Nat.{ℕ, zero, suc, _*_, _^_, _≤_, _<_}
-use native.Mathlib.Omega.{arith}
-use lib.Dec.{eqb}
-use lib.ListN.{length, getD, length-append}
-use Rattle.laws.specs.Choice.{by-bool}
-use Rattle.whole_runs.specs.Calls.{Reply}
-use Rattle.whole_runs.specs.Listing.{decimal, valueText, deletionsText, acceptedText, lineText}
+use Rattle.laws.specs.Basics.{_≡_, refl, List, [], _∷_, Option, none, some, ℕ, zero, suc, _*_, _^_, _≤_, _<_, arith, eqb, length, getD, length-append, by-bool}
+use Rattle.whole_runs.specs.{Calls.Reply, Listing.decimal, Listing.valueText, Listing.deletionsText, Listing.acceptedText, Listing.lineText}
 use Rattle.listing.specs.Lines.{longestLine}
 use Rattle.listing.proofs.Digits.{no-more, at-most}
 

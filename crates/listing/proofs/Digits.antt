@@ -1,15 +1,8 @@
 -- The decimal digits of a number: how many there are, by powers of ten, and what stands in a buffer while they are stored, the last one first.
 -- Assumes nothing.
-use mathlib.Core.Path.{_≡_, refl, sym, _∙_, ap}
-use mathlib.Core.List.{List, [], _∷_, _++_, append-nil, append-assoc}
-use Prim.Native.Nat.{ℕ, zero, suc, _+_, _-_, _/_, _%_, _^_, _≤_, _<_}
+use Rattle.laws.specs.Basics.{_≡_, refl, sym, _∙_, ap, List, [], _∷_, _++_, append-nil, append-assoc, ℕ, zero, suc, _+_, _-_, _/_, _%_, _^_, _≤_, _<_, arith, ltb, length, set, length-set, length-append, sets, lt-ltb, le-ltb, ltb-true, ltb-false, by-bool}
 use native.Mathlib.Nat.{pow-suc, one-le-pow}
-use native.Mathlib.Omega.{arith}
-use lib.Dec.{ltb}
-use lib.ListN.{length, set, length-append, length-set}
-use lib.Seq.{sets, set-comm}
-use borrow.Author.Tests.{ltb-true, ltb-false, lt-ltb, le-ltb}
-use Rattle.laws.specs.Choice.{by-bool}
+use lib.Seq.{set-comm}
 use Rattle.whole_runs.specs.Listing.{digits, decimal}
 
 -- One digit, and more than one.

@@ -1,14 +1,9 @@
 -- A summary that says what a reply says prints the same line.
 -- Assumes nothing.
-use mathlib.Core.Path.{_≡_, sym, _∙_, ap}
-use mathlib.Core.List.{List}
-use Prim.Native.Nat.{ℕ}
-use Rattle.whole_runs.specs.Outcomes.{Report}
-use Rattle.whole_runs.specs.Calls.{Reply}
-use Rattle.whole_runs.specs.Listing.{deletionsText, acceptedText, lineText}
+use Rattle.laws.specs.Basics.{_≡_, sym, _∙_, ap, List, ℕ}
+use Rattle.whole_runs.specs.{Outcomes.Report, Calls.Reply, Listing.deletionsText, Listing.acceptedText, Listing.lineText}
 use Rattle.listing.specs.declared.Summary.{Summary}
-use Rattle.listing.specs.Lines.{valueIn, replyOf}
-use Rattle.listing.specs.Summarised.{reportIn, Says}
+use Rattle.listing.specs.{Lines.valueIn, Lines.replyOf, Summarised.reportIn, Summarised.Says}
 
 -- The same line is printed of both.
 pub says-line : (summary : Summary) (deleted : List ℕ) (reply : Reply) → Says summary deleted reply → (k : ℕ) → lineText k (replyOf summary deleted) ≡ lineText k reply

@@ -1,19 +1,11 @@
 -- Texts printed one after the other, and the text of a deletion list by its last pair.
 -- Assumes nothing.
-use mathlib.Core.Path.{_≡_, refl, sym, _∙_, ap}
-use mathlib.Core.List.{List, [], _∷_, _++_, append-nil, append-assoc}
-use Prim.Native.Nat.{ℕ, zero, suc, _+_, _*_, _≤_, _<_}
-use native.Mathlib.Omega.{arith}
-use lib.Dec.{eqb}
-use lib.ListN.{length, getD, length-append}
+use Rattle.laws.specs.Basics.{_≡_, refl, sym, _∙_, ap, List, [], _∷_, _++_, append-nil, append-assoc, ℕ, zero, suc, _+_, _*_, _≤_, _<_, arith, eqb, length, getD, length-append, ne-eqb, pick}
 use lib.Seq.{length-sets}
-use borrow.Author.Tests.{ne-eqb}
-use Rattle.laws.specs.Choice.{pick}
 use Rattle.laws.specs.Written.{sets-append}
 use Rattle.whole_runs.specs.Calls.{Reply}
 use Rattle.whole_runs.specs.Listing.{digits, decimal, space, colon, lineFeed, deletionsText, acceptedText, lineText}
-use Rattle.listing.specs.Lines.{pairText, refusalLine}
-use Rattle.listing.specs.Printed.{Room, Printed}
+use Rattle.listing.specs.{Lines.pairText, Lines.refusalLine, Printed.Room, Printed.Printed}
 
 -- A text after a text is the two together.
 pub then : {l m n s t : List ℕ} {at p q : ℕ} → Printed l at s m p → Printed m p t n q → Printed l at (s ++ t) n q

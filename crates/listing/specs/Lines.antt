@@ -1,13 +1,8 @@
 -- What a line says, as the model has it: a summary of a reply, and the text of one deletion.
 -- Assumes nothing.
-use mathlib.Core.List.{List, [], _∷_, _++_}
-use mathlib.Core.Option.{Option, none, some}
-use Prim.Native.Nat.{ℕ}
-use Rattle.whole_runs.specs.Calls.{Reply}
-use Rattle.whole_runs.specs.Listing.{decimal, space, colon, lineFeed}
-use Rattle.listing.specs.declared.Value.{Value}
-use Rattle.listing.specs.declared.Value.the-variants.{Hyphen, Number}
-use Rattle.listing.specs.declared.Summary.{Summary}
+use Rattle.laws.specs.Basics.{List, [], _∷_, _++_, Option, none, some, ℕ}
+use Rattle.whole_runs.specs.{Calls.Reply, Listing.decimal, Listing.space, Listing.colon, Listing.lineFeed}
+use Rattle.listing.specs.declared.{Value.Value, Value.the-variants.Hyphen, Value.the-variants.Number, Summary.Summary}
 
 unfoldable pub valueIn : Value → Option ℕ
 valueIn Hyphen = none

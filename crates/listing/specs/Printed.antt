@@ -1,10 +1,6 @@
 -- A text printed into a lent buffer from a place on: what the buffer then holds, and where the next byte goes.
 -- Assumes nothing.
-use mathlib.Core.Path.{_≡_}
-use mathlib.Core.List.{List}
-use Prim.Native.Nat.{ℕ, _+_, _≤_}
-use lib.ListN.{length}
-use lib.Seq.{sets}
+use Rattle.laws.specs.Basics.{_≡_, List, ℕ, _+_, _≤_, length, sets}
 
 -- The text fits between the place and the buffer's end.
 abbrev pub Room : List ℕ → ℕ → List ℕ → Type 0

@@ -1,14 +1,8 @@
 -- What a replayed record says: a summary and a deletion list against the reply of the model, and the line that is printed of both.
 -- Assumes nothing.
-use mathlib.Core.Path.{_≡_}
-use mathlib.Core.List.{List}
-use mathlib.Core.Option.{Option}
-use Prim.Native.Nat.{ℕ}
-use Rattle.model.specs.declared.Run.{Run}
-use Rattle.model.specs.declared.Event.{Event}
-use Rattle.whole_runs.specs.Outcomes.{Report}
-use Rattle.whole_runs.specs.Calls.{Reply}
-use Rattle.whole_runs.specs.Listing.{deletionsText, perform}
+use Rattle.laws.specs.Basics.{_≡_, List, Option, ℕ}
+use Rattle.model.specs.declared.{Run.Run, Event.Event}
+use Rattle.whole_runs.specs.{Outcomes.Report, Calls.Reply, Listing.deletionsText, Listing.perform}
 use Rattle.listing.specs.declared.Summary.{Summary}
 use Rattle.listing.specs.Lines.{valueIn}
 

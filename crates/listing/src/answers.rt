@@ -9,11 +9,8 @@ use model::LoseAnswer;
 use model::RecoverAnswer;
 use model::SendAnswer;
 use model::StartAnswer;
-ghost use mathlib.Core.Path.{_≡_};
-ghost use mathlib.Core.Option.{some};
-ghost use Prim.Native.Nat.{ℕ, _≤_, _<_};
-ghost use Rattle.listing.specs.Lines.{valueIn};
-ghost use Rattle.listing.specs.Summarised.{reportIn};
+ghost use Rattle.laws.specs.Basics.{_≡_, some, ℕ, _≤_, _<_};
+ghost use Rattle.listing.specs.{Lines.valueIn, Summarised.reportIn};
 ghost use Rattle.whole_runs.specs.Outcomes.{startReport, checkpointReport, sendReport, deliverReport, loseReport, lineReport, recoverReport};
 ghost use Rattle.listing.specs.answers.Codes.{valueCode, coded, Fits, startCode, checkpointCode, sendCode, deliverCode, loseCode, lineCode, recoverCode};
 

@@ -1,12 +1,8 @@
 // A record's line of text, printed into a lent buffer. Every function that writes prints one text of whole_runs's specs/Listing from a place
 // on, asks for room for that text and no more, and hands back the place after it. proofs/Bounds says how long a line can be.
-ghost use mathlib.Core.Path.{_≡_};
-ghost use mathlib.Core.List.{[], _∷_};
-ghost use Prim.Native.Nat.{_*_, _≤_};
-ghost use lib.ListN.{length};
+ghost use Rattle.laws.specs.Basics.{_≡_, [], _∷_, _*_, _≤_, length};
 ghost use Rattle.whole_runs.specs.Listing.{decimal, valueText, deletionsText, acceptedText, lineText};
-ghost use Rattle.listing.specs.Lines.{valueIn, replyOf, pairText, refusalLine};
-ghost use Rattle.listing.specs.Printed.{Room, Printed};
+ghost use Rattle.listing.specs.{Lines.valueIn, Lines.replyOf, Lines.pairText, Lines.refusalLine, Printed.Room, Printed.Printed};
 
 // summaries.rt: what a line says of each answer: the number that document 01 gives a refusal, the value, the count of deletions.
 pub mod summaries;
@@ -146,7 +142,13 @@ pub fn write_refusal(out: &mut [u8], at: usize, number: u64, refused: u8) -> usi
 
 // The line of a record. Most records are accepted, so their 0 does not go through `write_number`. It is called in one place of the replay alone, so that it is compiled into
 // the loop over the records.
-pub fn write_line(out: &mut [u8], at: usize, number: u64, summary: Summary, deleted: &[u16]) -> usize
+pub fn write_line(
+    out: &mut [u8],
+    at: usize,
+    number: u64,
+    summary: Summary,
+    deleted: &[u16],
+) -> usize
     requires { ⌜ (2 * summary .deletions ≤ length (now deleted)) × Room (now out) at (lineText number (replyOf summary (now deleted))) ⌝ }
     ensures { λ r. ⌜ Printed (now (out .entry)) at (lineText number (replyOf summary (now (deleted .entry)))) (now (out .exit)) r ⌝ }
 {

@@ -9,7 +9,7 @@ use model::RecoverAnswer;
 use model::Refusal;
 use model::SendAnswer;
 use model::StartAnswer;
-ghost use mathlib.Core.Path.{_≡_};
+ghost use Rattle.laws.specs.Basics.{_≡_};
 ghost use Rattle.model.specs.Refusals.{number};
 ghost use Rattle.whole_runs.specs.Outcomes.{refusing, startReport, checkpointReport, sendReport, deliverReport, loseReport, lineReport, recoverReport};
 ghost use Rattle.listing.specs.Summarised.{reportIn};

@@ -1,28 +1,17 @@
 -- The numbers of a state, and the states that they stand for.
 -- Assumes nothing.
-use mathlib.Core.Path.{_≡_, refl, sym, _∙_, ap}
-use mathlib.Core.Bool.{true, false}
-use mathlib.Core.List.{List, [], _∷_}
-use Prim.Native.Nat.{ℕ, _+_, _-_, _≤_, _<_}
-use native.Mathlib.Omega.{arith}
-use lib.Dec.{eqb, ltb}
-use lib.ListN.{length, getD, take}
-use lib.Seq.{length-sets, length-take-le}
-use borrow.Author.Tests.{lt-ltb, le-ltb, le-leb, eq-eqb, ne-eqb}
-use Rattle.laws.specs.Choice.{by-bool}
+use Rattle.laws.specs.Basics.{_≡_, refl, sym, _∙_, ap, true, false, List, [], _∷_, ℕ, _+_, _-_, _≤_, _<_, arith, eqb, ltb, length, getD, take, length-take-le, eq-eqb, ne-eqb, lt-ltb, le-ltb, le-leb, by-bool}
+use lib.Seq.{length-sets}
 use Rattle.model.specs.declared.Run.{Run}
 use Rattle.model.specs.Refusals.{number}
 use Rattle.listing.specs.Printed.{Printed}
 use Rattle.machines.proofs.programs.Texts.{front-text}
 use Rattle.words.specs.Layout.{runOf}
 use Rattle.machines.specs.Machines.{Answer, stepped}
-use Rattle.machine_console.specs.Made.{madeOn, opened}
-use Rattle.machine_console.specs.Text.{firstCall, lineText, callText, refusedText, refusedAt}
+use Rattle.machine_console.specs.{Made.madeOn, Made.opened, Text.firstCall, Text.lineText, Text.callText, Text.refusedText, Text.refusedAt, Replied.Makes}
 use Rattle.machine_console.specs.Consoling.{mostCalls, State, Opening, Reading, Printing, Ending, Failing, Stopped, next, begun, called, onward, atEnd, furtherOn, consoling}
-use Rattle.machine_console.specs.script.Script.{callOf}
+use Rattle.machine_console.specs.{script.Script.callOf, Lent.mostDone, Lent.inBounds, Lent.betweenOf, Lent.stateIn, Lent.Arrives}
 use Rattle.machine_console.specs.declared.marks.Marks.{Marks}
-use Rattle.machine_console.specs.Replied.{Makes}
-use Rattle.machine_console.specs.Lent.{mostDone, inBounds, betweenOf, stateIn, Arrives}
 
 pub bounds : (m : Marks) (out : ℕ) → m .done ≤ mostDone (m .phase) → m .kept ≤ 7 → m .size ≤ out → inBounds m out ≡ true
 unfolding inBounds

@@ -1,24 +1,17 @@
 -- Which state an answer leads to, by what the code was handed of it.
 -- Assumes nothing.
-use mathlib.Core.Path.{_≡_, refl, sym, _∙_, ap, subst}
-use mathlib.Core.Bool.{Bool, true, false}
-use mathlib.Core.List.{List, [], _∷_, _++_}
-use Prim.Native.Nat.{ℕ, zero, suc, _+_, _-_, _≤_, _<_}
-use native.Mathlib.Omega.{arith}
-use lib.ListN.{length, getD, take, drop}
-use lib.Seq.{length-take-le, take-add}
-use Rattle.laws.specs.Choice.{pick}
+use Rattle.laws.specs.Basics.{_≡_, refl, sym, _∙_, ap, subst, Bool, true, false, List, [], _∷_, _++_, ℕ, zero, suc, _+_, _-_, _≤_, _<_, arith, length, getD, take, drop, length-take-le, pick}
+use lib.Seq.{take-add}
 use Rattle.model.specs.Refusals.{number}
 use Rattle.words.specs.Layout.{runOf}
+use Rattle.machines.specs.Machines.{Answer, Done, Failed, heard, heardRead, heardDone, stepped}
+use Rattle.machines.specs.Forms.{answerOf, takenOf}
+use Rattle.machine_console.specs.{Text.lineText, Text.refusedText, Lent.betweenOf, Lent.Arrives}
+use Rattle.machine_console.specs.Consoling.{inputName, outputName, Between, State, Opening, Reading, Printing, Ending, Failing, Stopped, ask, next, begun, afterFirst, onward, atEnd, afterRead, furtherOn, afterWrite, consoling}
+use Rattle.machine_console.specs.declared.marks.Marks.{Marks}
 use Rattle.machines.specs.declared.Answer as answers
 use Rattle.machines.specs.declared.heard.Taken as takens
 use Rattle.machines.specs.declared.heard.Taken.the-variants as taken
-use Rattle.machines.specs.Machines.{Answer, Done, Failed, heard, heardRead, heardDone, stepped}
-use Rattle.machines.specs.Forms.{answerOf, takenOf}
-use Rattle.machine_console.specs.Text.{lineText, refusedText}
-use Rattle.machine_console.specs.Consoling.{inputName, outputName, Between, State, Opening, Reading, Printing, Ending, Failing, Stopped, ask, next, begun, afterFirst, onward, atEnd, afterRead, furtherOn, afterWrite, consoling}
-use Rattle.machine_console.specs.declared.marks.Marks.{Marks}
-use Rattle.machine_console.specs.Lent.{betweenOf, Arrives}
 
 pub led : {m : Marks} {words input out : List ℕ} {s t : State} → t ≡ s → Arrives m words input out s → Arrives m words input out t
 led {m} {words} {input} {out} e w = subst (λ (x : State). Arrives m words input out x) (sym e) w

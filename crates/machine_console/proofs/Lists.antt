@@ -1,15 +1,7 @@
 -- A call is made with the lists that are lent for it, and its line is at the front of the buffer.
 -- Assumes nothing.
-use mathlib.Core.Path.{_≡_, refl, sym, _∙_, ap}
-use mathlib.Core.Bool.{Bool, true, false}
-use mathlib.Core.List.{List, [], _∷_, _++_}
-use mathlib.Core.Option.{Option, none, some}
-use Prim.Native.Nat.{ℕ, zero, suc, _+_, _-_, _*_, _≤_, min}
-use native.Mathlib.Omega.{arith}
-use lib.Dec.{eqb}
-use lib.ListN.{length, take, replicate, length-replicate}
+use Rattle.laws.specs.Basics.{_≡_, refl, sym, _∙_, ap, Bool, true, false, List, [], _∷_, _++_, Option, none, some, ℕ, zero, suc, _+_, _-_, _*_, _≤_, min, arith, eqb, length, take, replicate, length-replicate, pick, by-bool}
 use lib.Seq.{length-sets}
-use Rattle.laws.specs.Choice.{pick, by-bool}
 use Rattle.model.specs.declared.Run.{Run}
 use Rattle.model.specs.Refusals.{number}
 use Rattle.whole_runs.specs.Calls.{Answered}
@@ -17,12 +9,11 @@ use Rattle.admissions.proofs.Room.{twice-square}
 use Rattle.listing.specs.Printed.{Printed}
 use Rattle.machines.proofs.programs.Texts.{front-text}
 use Rattle.words.specs.Layout.{runOf}
-use Rattle.machine_console.specs.declared.script.Call.{Call}
+use Rattle.machine_console.specs.declared.{script.Call.Call, calls.Replied.Replied}
 use Rattle.machine_console.specs.declared.script.Read.the-variants.{Ended, LeftOver, Malformed, Asks}
 use Rattle.machine_console.specs.script.Script.{callOf, asked, nextOf}
 use Rattle.machine_console.specs.Made.{processes, lent, lentLine, lentPairs, madeWith, madeOn}
 use Rattle.machine_console.specs.Text.{answerText, lineText, tailText, callText}
-use Rattle.machine_console.specs.declared.calls.Replied.{Replied}
 use Rattle.machine_console.specs.Replied.{longestLine, replyOf, Replies, Makes}
 
 -- The lent lists are no longer than those for 16 processes.

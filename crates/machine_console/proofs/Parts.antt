@@ -1,21 +1,12 @@
 -- The texts of pairs and of a line list: how long they are, and what one entry more adds.
 -- Assumes nothing.
-use mathlib.Core.Path.{_≡_, refl, sym, _∙_, ap, subst}
-use mathlib.Core.List.{List, [], _∷_, _++_, append-nil, append-assoc}
-use mathlib.Core.Option.{Option, none, some}
-use Prim.Native.Nat.{ℕ, zero, suc, _+_, _*_, _/_, _≤_, _<_, min}
-use native.Mathlib.Omega.{arith}
+use Rattle.laws.specs.Basics.{_≡_, refl, sym, _∙_, ap, subst, List, [], _∷_, _++_, append-nil, append-assoc, Option, none, some, ℕ, zero, suc, _+_, _*_, _/_, _≤_, _<_, min, arith, eqb, ltb, length, getD, take, length-append, ne-eqb, ltb-true, ltb-false, by-bool}
 use native.Mathlib.Numerals.{add-one}
-use lib.Dec.{eqb, ltb}
-use lib.ListN.{length, getD, take, length-append}
 use lib.Seq.{take-all}
-use borrow.Author.Tests.{ltb-true, ltb-false, ne-eqb}
-use Rattle.laws.specs.Choice.{by-bool}
 use Rattle.whole_runs.specs.Listing.{decimal, space, colon, lineFeed, valueText, deletionsText}
 use Rattle.listing.specs.Printed.{Printed}
 use Rattle.listing.proofs.Bounds.{twenty-digits}
-use Rattle.theory_roles.specs.declared.Caller.{Caller}
-use Rattle.theory_roles.specs.declared.Role.the-variants.{Operator}
+use Rattle.theory_roles.specs.declared.{Caller.Caller, Role.the-variants.Operator}
 use Rattle.theory_roles.specs.Console.{entitledBy, entitled}
 use Rattle.machine_console.specs.Text.{fieldText, entriesText, memberShown, membersText, lineText}
 

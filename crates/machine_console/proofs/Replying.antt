@@ -1,34 +1,21 @@
 -- A call in place is the call of the caller who claims its role, and its line says what it answered.
 -- Assumes nothing.
-use mathlib.Core.Path.{_≡_, refl, sym, _∙_, ap, subst}
-use mathlib.Core.List.{List, [], _∷_, _++_}
-use mathlib.Core.Option.{some}
-use Prim.Native.Nat.{ℕ}
-use Rattle.model.specs.declared.Run.{Run}
-use Rattle.model.specs.declared.Named.{Named}
-use Rattle.model.specs.declared.CheckpointAnswer.{CheckpointAnswer}
-use Rattle.model.specs.declared.SendAnswer.{SendAnswer}
-use Rattle.model.specs.declared.DeliverAnswer.{DeliverAnswer}
-use Rattle.model.specs.declared.LoseAnswer.{LoseAnswer}
-use Rattle.model.specs.declared.LineAnswer.{LineAnswer}
-use Rattle.model.specs.declared.RecoverAnswer.{RecoverAnswer}
+use Rattle.laws.specs.Basics.{_≡_, refl, sym, _∙_, ap, subst, List, [], _∷_, _++_, some, ℕ}
+use Rattle.model.specs.declared.{Run.Run, Named.Named, CheckpointAnswer.CheckpointAnswer, SendAnswer.SendAnswer, DeliverAnswer.DeliverAnswer}
+use Rattle.model.specs.declared.{LoseAnswer.LoseAnswer, LineAnswer.LineAnswer, RecoverAnswer.RecoverAnswer}
 use Rattle.whole_runs.specs.Outcomes.{Outcome, Report, checkpointReport, sendReport, deliverReport, loseReport, lineReport, recoverReport}
 use Rattle.whole_runs.specs.Calls.{answered}
 use Rattle.laws.specs.Lists.{table}
 use Rattle.listing.specs.Summarised.{reportIn}
 use Rattle.words.specs.Layout.{runOf}
 use Rattle.words_line.specs.Through.{pairCount, namedAt, namedIn}
-use Rattle.theory_roles.specs.declared.Caller.{Caller}
-use Rattle.theory_roles.specs.declared.ListAnswer.{ListAnswer}
-use Rattle.theory_roles.specs.declared.Operation.{Operation}
+use Rattle.theory_roles.specs.declared.{Caller.Caller, ListAnswer.ListAnswer, Operation.Operation}
 use Rattle.theory_roles.specs.declared.Operation.the-variants.{Checkpoint, Send, Deliver, Lose, Recover, Line, Earliest, List as Listing, Counts}
 use Rattle.theory_roles.specs.Console.{consoleCheckpoint, consoleSend, consoleDeliver, consoleLose, consoleRecover, consoleLine, consoleEarliest, consoleList, consoleCounts, listReport}
 use Rattle.theory_roles.specs.Runs.{consoleAnswered}
-use Rattle.machine_console.specs.declared.script.Call.{Call}
+use Rattle.machine_console.specs.declared.{script.Call.Call, calls.Replied.Replied}
 use Rattle.library_console.specs.Asked.{claimOf, asked, checkpointAs, sendAs, deliverAs, loseAs, recoverAs, lineAs, earliestAs, listAs, countsAs}
-use Rattle.machine_console.specs.Made.{madeWith}
-use Rattle.machine_console.specs.Text.{fieldText, pairsText, listText, entriesText, membersText, answerText}
-use Rattle.machine_console.specs.declared.calls.Replied.{Replied}
+use Rattle.machine_console.specs.{Made.madeWith, Text.fieldText, Text.pairsText, Text.listText, Text.entriesText, Text.membersText, Text.answerText}
 use Rattle.machine_console.specs.Replied.{Claims, Replies}
 
 pub asked-as : {A : Type 0} (role owned : ℕ) (c : Caller) (refusal : Outcome A) (call : Caller → Outcome A) → Claims role owned c → asked (claimOf role) owned refusal call ≡ call c

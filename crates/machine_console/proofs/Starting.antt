@@ -1,38 +1,23 @@
 -- A start on words is the console's start with the block count 1 at each process.
 -- Assumes nothing.
-use mathlib.Core.Path.{_≡_, refl, sym, _∙_, ap}
-use mathlib.Core.Bool.{true, false, _&&_}
-use mathlib.Core.List.{List, []}
-use Prim.Native.Nat.{ℕ}
-use native.Mathlib.Omega.{arith}
-use lib.Dec.{eqb, leb}
-use lib.ListN.{length}
-use borrow.Author.Tests.{le-ltb, leb-true, eq-eqb, ne-eqb}
-use Rattle.laws.specs.Choice.{pick, by-bool}
+use Rattle.laws.specs.Basics.{_≡_, refl, sym, _∙_, ap, true, false, _&&_, List, [], ℕ, arith, eqb, leb, length, eq-eqb, ne-eqb, le-ltb, leb-true, pick, by-bool}
 use Rattle.laws.specs.Truth.{and-right}
-use Rattle.model.specs.declared.Run.{Run}
-use Rattle.model.specs.declared.Refusal.the-variants.{Denied}
-use Rattle.model.specs.declared.StartAnswer.{StartAnswer}
-use Rattle.model.specs.declared.StartAnswer.the-variants.{Refused}
-use Rattle.model.specs.Words.{ones, mostProcesses}
-use Rattle.model.specs.Refusals.{firstOf, startRefusal}
-use Rattle.whole_runs.specs.Outcomes.{Outcome, Report, startReport, startOutcome}
-use Rattle.whole_runs.specs.Calls.{answered}
+use Rattle.model.specs.declared.{Run.Run, Refusal.the-variants.Denied, StartAnswer.StartAnswer, StartAnswer.the-variants.Refused}
+use Rattle.model.specs.{Words.ones, Words.mostProcesses, Refusals.firstOf, Refusals.startRefusal}
+use Rattle.whole_runs.specs.{Outcomes.Outcome, Outcomes.Report, Outcomes.startReport, Outcomes.startOutcome, Calls.answered}
 use Rattle.whole_runs.proofs.whole.Reached.{refused-number}
 use Rattle.listing.specs.declared.Summary.{Summary}
 use Rattle.listing.specs.Summarised.{reportIn}
 use Rattle.words.specs.Layout.{runOf}
 use Rattle.in_place.specs.Starting.{startRefusalIn, startOutcomeIn}
 use Rattle.theory_roles.specs.declared.Caller.{Caller}
-use Rattle.theory_roles.specs.declared.Operation.the-variants as operation
 use Rattle.theory_roles.specs.Console.{denied, denial, consoleStart}
-use Rattle.machine_console.specs.declared.script.Call.{Call}
+use Rattle.machine_console.specs.declared.{script.Call.Call, calls.Replied.Replied}
 use Rattle.library_console.specs.Asked.{claimOf, consoleStartIn, startAs}
-use Rattle.machine_console.specs.Made.{startedOver, madeWith, operator, opened}
-use Rattle.machine_console.specs.Text.{answerText, refusedAt}
-use Rattle.machine_console.specs.declared.calls.Replied.{Replied}
+use Rattle.machine_console.specs.{Made.startedOver, Made.madeWith, Made.operator, Made.opened, Text.answerText, Text.refusedAt}
 use Rattle.machine_console.specs.Replied.{Claims, Replies}
 use Rattle.machine_console.proofs.Replying.{asked-as, same-number}
+use Rattle.theory_roles.specs.declared.Operation.the-variants as operation
 
 clash : {P : Type 0} → true ≡ false → P
 clash e = absurd (let z : _≡_ {A = ℕ} 0 1 = cc in omega arith)

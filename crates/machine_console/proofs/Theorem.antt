@@ -1,24 +1,14 @@
 -- What the machine does with every list of answers.
 -- Assumes nothing.
-use mathlib.Core.Path.{_≡_, refl, sym, _∙_, ap, subst}
-use mathlib.Core.Bool.{Bool, true, false, _&&_, _||_}
-use mathlib.Core.List.{List, [], _∷_, _++_, append-nil, append-assoc}
-use Prim.Native.Nat.{ℕ, suc, _+_, _-_, _*_, _/_, _%_, _≤_, _<_}
-use native.Mathlib.Omega.{arith}
+use Rattle.laws.specs.Basics.{_≡_, refl, sym, _∙_, ap, subst, Bool, true, false, _&&_, _||_, List, [], _∷_, _++_, append-nil, append-assoc, ℕ, suc, _+_, _-_, _*_, _/_, _%_, _≤_, _<_, arith, eqb, ltb, leb, length, getD, length-append, eqb-true, ltb-true, ltb-false, leb-true, pick, by-bool}
 use native.Mathlib.Numerals.{add-one}
-use lib.Dec.{eqb, ltb, leb}
-use lib.ListN.{length, getD, length-append}
-use borrow.Author.Tests.{leb-true, ltb-true, ltb-false, eqb-true}
-use Rattle.laws.specs.Choice.{pick, by-bool}
-use Rattle.model.specs.declared.Run.{Run}
-use Rattle.model.specs.declared.Refusal.the-variants.{NoFirstByte, LeftOverBytes}
+use Rattle.model.specs.declared.{Run.Run, Refusal.the-variants.NoFirstByte, Refusal.the-variants.LeftOverBytes}
 use Rattle.machines.specs.Machines.{Request, Count, Argument, Open, Read, Write, Say, Fail, Stop, Answer, Number, Bytes, End, Done, Failed, Machine, Exchange, heard, heardRead, heardDone, stepped, exchanged, stateAfter, exchanges, asked, written, errorText, writtenOf, errorTextOf, brought, readBy, readOf, requestsOf}
 use Rattle.machines.proofs.Runs.{throughout, read-next, written-next, error-text-next, written-is, error-text-is, stops}
 use Rattle.machine_console.specs.Made.{madeOn, opened}
 use Rattle.machine_console.specs.Text.{callSize, firstCall, callText, lineText, refusedText, refusedAt, callLines, runAfter, leftOver, linesOf, factsOf}
 use Rattle.machine_console.specs.Consoling.{mostCalls, inputName, outputName, Between, State, Opening, Reading, Printing, Ending, Failing, Stopped, ask, next, begun, afterFirst, called, onward, atEnd, afterRead, furtherOn, afterWrite, consoling, isEnd, endMet, failure, failures, factsSoFar, isOpen, Consoles, ConsolesAlways}
-use Rattle.machine_console.proofs.Lines.{lines-front, one-line, one-run, whole-calls, left-over}
-use Rattle.machine_console.proofs.Ending.{consoling-ends}
+use Rattle.machine_console.proofs.{Lines.lines-front, Lines.one-line, Lines.one-run, Lines.whole-calls, Lines.left-over, Ending.consoling-ends}
 
 abbrev printedIn : List Exchange → List ℕ
 printedIn talk = writtenOf (requestsOf talk)

@@ -1,14 +1,7 @@
 -- The program `console` as a machine: it reads a script, makes its calls, eight bytes each, writes the line of each before it reads on, and stops.
 -- Assumes nothing.
-use mathlib.Core.Path.{_≡_}
-use mathlib.Core.Bool.{Bool, true, false, _||_}
-use mathlib.Core.List.{List, [], _∷_, _++_}
-use Prim.Native.Nat.{ℕ, _+_, _-_, _*_, _≤_, _<_}
-use lib.Dec.{eqb, ltb}
-use lib.ListN.{length, getD}
-use Rattle.laws.specs.Choice.{pick}
-use Rattle.model.specs.declared.Run.{Run}
-use Rattle.model.specs.declared.Refusal.the-variants.{NoFirstByte, LeftOverBytes}
+use Rattle.laws.specs.Basics.{_≡_, Bool, true, false, _||_, List, [], _∷_, _++_, ℕ, _+_, _-_, _*_, _≤_, _<_, eqb, ltb, length, getD, pick}
+use Rattle.model.specs.declared.{Run.Run, Refusal.the-variants.NoFirstByte, Refusal.the-variants.LeftOverBytes}
 use Rattle.machines.specs.Machines.{Request, Count, Argument, Open, Read, Write, Say, Fail, Stop, Answer, Number, Bytes, End, Done, Failed, Machine, Exchange, asked, exchanges, stateAfter, writtenOf, errorTextOf, readOf}
 use Rattle.machine_console.specs.Made.{madeOn, opened}
 use Rattle.machine_console.specs.Text.{callSize, firstCall, callText, lineText, refusedText, refusedAt, linesOf, factsOf}

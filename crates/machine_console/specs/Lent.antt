@@ -1,20 +1,13 @@
 -- The machine's state in what a caller lends: four numbers; the words of the state; the buffer that the script is read into; the buffer for what is written and reported.
 -- Assumes nothing.
-use mathlib.Core.Path.{_≡_}
-use mathlib.Core.Bool.{Bool, true, _&&_}
-use mathlib.Core.List.{List}
-use Prim.Native.Nat.{ℕ, _-_}
-use lib.Dec.{eqb, leb}
-use lib.ListN.{length, getD, take}
-use Rattle.laws.specs.Choice.{pick}
+use Rattle.laws.specs.Basics.{_≡_, Bool, true, _&&_, List, ℕ, _-_, eqb, leb, length, getD, take, pick}
 use Rattle.words.specs.Layout.{runOf, stateSize}
-use Rattle.machines.specs.declared.Request as requests
-use Rattle.machines.specs.declared.Request.the-variants as request
 use Rattle.machines.specs.Forms.{Asks}
-use Rattle.machine_console.specs.Text.{callSize}
+use Rattle.machine_console.specs.{Text.callSize, Replied.longestLine}
 use Rattle.machine_console.specs.Consoling.{mostCalls, Between, State, Opening, Reading, Printing, Ending, Failing, Stopped, ask}
 use Rattle.machine_console.specs.declared.marks.Marks.{Marks}
-use Rattle.machine_console.specs.Replied.{longestLine}
+use Rattle.machines.specs.declared.Request as requests
+use Rattle.machines.specs.declared.Request.the-variants as request
 
 -- There is room for the numbers and the words, for a call, and for the longest line.
 unfoldable pub hasRoom : ℕ → ℕ → ℕ → ℕ → Bool

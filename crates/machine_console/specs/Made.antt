@@ -1,23 +1,13 @@
 -- The calls of a script, made on a state: "The console works on states reached by its own calls", an operator's start first.
 -- Assumes nothing.
-use mathlib.Core.Bool.{Bool}
-use mathlib.Core.List.{List, [], _∷_}
-use mathlib.Core.Option.{Option, none, some}
-use Prim.Native.Nat.{ℕ, _-_, _*_, min}
-use lib.Dec.{eqb}
-use lib.ListN.{replicate}
-use Rattle.laws.specs.Choice.{pick}
-use Rattle.model.specs.declared.Run.{Run}
-use Rattle.model.specs.declared.Refusal.the-variants.{MalformedRecord}
+use Rattle.laws.specs.Basics.{Bool, List, [], _∷_, Option, none, some, ℕ, _-_, _*_, min, eqb, replicate, pick}
+use Rattle.model.specs.declared.{Run.Run, Refusal.the-variants.MalformedRecord}
 use Rattle.model.specs.Words.{ones, mostProcesses}
 use Rattle.whole_runs.specs.Outcomes.{refusing, startReport}
 use Rattle.whole_runs.specs.Calls.{checkpoint, send, deliver, lose, recover, line, earliest, Answered, answered}
-use Rattle.theory_roles.specs.declared.Caller.{Caller}
-use Rattle.theory_roles.specs.declared.Role.the-variants.{Operator}
-use Rattle.theory_roles.specs.declared.Operation.{Operation}
+use Rattle.theory_roles.specs.declared.{Caller.Caller, Role.the-variants.Operator, Operation.Operation}
 use Rattle.theory_roles.specs.declared.Operation.the-variants.{Start, Checkpoint, Send, Deliver, Lose, Recover, Line, Earliest, List as Listing, Counts}
-use Rattle.theory_roles.specs.Console.{consoleStart}
-use Rattle.theory_roles.specs.Runs.{made, list, counts, consoleAnswered}
+use Rattle.theory_roles.specs.{Console.consoleStart, Runs.made, Runs.list, Runs.counts, Runs.consoleAnswered}
 use Rattle.machine_console.specs.declared.script.Call.{Call}
 
 -- How many processes the lent lists are for: those of the run, 16 at most.

@@ -1,22 +1,15 @@
 -- What the functions leave that make a call on words and write its line.
 -- Assumes nothing.
-use mathlib.Core.Path.{_≡_}
-use mathlib.Core.List.{List}
-use mathlib.Core.Option.{Option}
-use Prim.Native.Nat.{ℕ, _≤_}
-use lib.ListN.{length, take}
+use Rattle.laws.specs.Basics.{_≡_, List, Option, ℕ, _≤_, length, take}
 use Rattle.model.specs.declared.Run.{Run}
 use Rattle.whole_runs.specs.Calls.{Reply, Answered}
 use Rattle.listing.specs.Summarised.{reportIn}
 use Rattle.words.specs.Layout.{runOf}
-use Rattle.theory_roles.specs.declared.Caller.{Caller}
-use Rattle.theory_roles.specs.declared.Operation.{Operation}
-use Rattle.machine_console.specs.declared.script.Call.{Call}
+use Rattle.theory_roles.specs.declared.{Caller.Caller, Operation.Operation}
+use Rattle.machine_console.specs.declared.{script.Call.Call, calls.Replied.Replied}
 use Rattle.library_console.specs.declared.denied.Claim.the-variants.{As}
 use Rattle.library_console.specs.Asked.{claimOf}
-use Rattle.machine_console.specs.Made.{madeOn}
-use Rattle.machine_console.specs.Text.{answerText, callText}
-use Rattle.machine_console.specs.declared.calls.Replied.{Replied}
+use Rattle.machine_console.specs.{Made.madeOn, Text.answerText, Text.callText}
 
 -- A field has a space and 20 digits at most; what an answer says has no more bytes than this.
 abbrev pub longestField : ℕ

@@ -1,25 +1,15 @@
 -- The facts of a script, one line a call, decimal, single spaces: the number of the call, from 1; 0 or the number of its refusal; if accepted, what the call answered and
 -- wrote.
 -- Assumes nothing.
-use mathlib.Core.List.{List, [], _∷_, _++_}
-use mathlib.Core.Option.{Option, none, some}
-use Prim.Native.Nat.{ℕ, zero, suc, _+_, _*_, _/_, _%_}
-use lib.Dec.{eqb}
-use lib.ListN.{length, take, drop}
-use Rattle.laws.specs.Choice.{pick}
-use Rattle.model.specs.declared.Run.{Run}
-use Rattle.model.specs.declared.Refusal.{Refusal}
-use Rattle.model.specs.declared.Refusal.the-variants.{NoFirstByte, LeftOverBytes}
+use Rattle.laws.specs.Basics.{List, [], _∷_, _++_, Option, none, some, ℕ, zero, suc, _+_, _*_, _/_, _%_, eqb, length, take, drop, pick}
+use Rattle.model.specs.declared.{Run.Run, Refusal.Refusal, Refusal.the-variants.NoFirstByte, Refusal.the-variants.LeftOverBytes}
 use Rattle.model.specs.Refusals.{number}
-use Rattle.whole_runs.specs.Calls.{Reply}
-use Rattle.whole_runs.specs.Listing.{decimal, space, lineFeed, valueText, deletionsText}
-use Rattle.theory_roles.specs.declared.Caller.{Caller}
-use Rattle.theory_roles.specs.declared.Operation.{Operation}
+use Rattle.whole_runs.specs.{Calls.Reply, Listing.decimal, Listing.space, Listing.lineFeed, Listing.valueText, Listing.deletionsText}
+use Rattle.theory_roles.specs.declared.{Caller.Caller, Operation.Operation}
 use Rattle.theory_roles.specs.declared.Operation.the-variants.{Start, Checkpoint, Send, Deliver, Lose, Recover, Line, Earliest, List as Listing, Counts}
 use Rattle.theory_roles.specs.Console.{entitled}
 use Rattle.machine_console.specs.declared.script.Call.{Call}
-use Rattle.machine_console.specs.script.Script.{callOf}
-use Rattle.machine_console.specs.Made.{processes, madeOn, opened}
+use Rattle.machine_console.specs.{script.Script.callOf, Made.processes, Made.madeOn, Made.opened}
 
 -- A value after a space, or a hyphen where there is none.
 unfoldable pub fieldText : Option ℕ → List ℕ

@@ -7,18 +7,14 @@ use theory_roles::ListAnswer;
 use theory_roles::Operation;
 use theory_roles::Role;
 use words::WORDS;
-ghost use mathlib.Core.Path.{_≡_};
-ghost use mathlib.Core.List.{List};
-ghost use Prim.Native.Nat.{ℕ};
-ghost use lib.ListN.{length};
+ghost use Rattle.laws.specs.Basics.{_≡_, List, ℕ, length};
 ghost use Rattle.listing.specs.Summarised.{reportIn};
 ghost use Rattle.words.specs.Layout.{runOf, stateSize};
 ghost use Rattle.theory_roles.specs.Console.{listReport};
-ghost use Rattle.theory_roles.specs.declared.Operation.the-variants as operation;
 ghost use Rattle.library_console.specs.declared.denied.Claim.the-variants.{As};
 ghost use Rattle.library_console.specs.Asked.{claimOf};
-ghost use Rattle.machine_console.specs.Made.{madeWith};
-ghost use Rattle.machine_console.specs.Replied.{Claims, Replies};
+ghost use Rattle.machine_console.specs.{Made.madeWith, Replied.Claims, Replied.Replies};
+ghost use Rattle.theory_roles.specs.declared.Operation.the-variants as operation;
 
 // What a call answered: what its line says, and the set of the entries that rose.
 pub struct Replied {
@@ -156,7 +152,13 @@ fn start_fresh(w: &mut [u16], role: u32, owned: u32, c: Call, fresh: &mut [u16])
     ensures { λ r. ⌜ ((pairs line : List ℕ) → Replies operation.Start (madeWith operation.Start (runOf (now (w .entry))) c pairs line) (now (w .exit)) r pairs line) ⌝ }
 {
     let block_counts = [1u32; PROCESSES];
-    let answer = library_console::calls::start(role, owned, fresh, c.process as usize, &block_counts);
+    let answer = library_console::calls::start(
+        role,
+        owned,
+        fresh,
+        c.process as usize,
+        &block_counts,
+    );
     let summary = listing::summaries::of_start(answer);
     if summary.refused == 0 {
         library_readers::copy_words(fresh, 0, WORDS, w);

@@ -7,17 +7,11 @@ use machines::Answer;
 use machines::heard;
 use machines::heard::Taken;
 use model::PROCESSES;
-ghost use mathlib.Core.Path.{_≡_};
-ghost use mathlib.Core.List.{List, []};
-ghost use Prim.Native.Nat.{ℕ, _+_, _≤_, _<_};
-ghost use lib.ListN.{length, take};
+ghost use Rattle.laws.specs.Basics.{_≡_, List, [], ℕ, _+_, _≤_, _<_, length, take};
 ghost use Rattle.words.specs.Layout.{runOf, stateSize};
-ghost use Rattle.machines.specs.Machines.{stepped};
-ghost use Rattle.machines.specs.Forms.{answerOf};
-ghost use Rattle.machine_console.specs.Text.{lineText};
+ghost use Rattle.machines.specs.{Machines.stepped, Forms.answerOf};
+ghost use Rattle.machine_console.specs.{Text.lineText, Replied.longestLine, Lent.mostDone, Lent.betweenOf, Lent.stateIn, Lent.Arrives};
 ghost use Rattle.machine_console.specs.Consoling.{mostCalls, Opening, Reading, Printing, Ending, Failing, Stopped, begun, called, onward, atEnd, furtherOn, consoling};
-ghost use Rattle.machine_console.specs.Replied.{longestLine};
-ghost use Rattle.machine_console.specs.Lent.{mostDone, betweenOf, stateIn, Arrives};
 
 fn stop() -> Marks
     ensures { λ r. ⌜ ((words input out : List ℕ) → Arrives r words input out Stopped) ⌝ }

@@ -25,13 +25,9 @@ pub mod script;
 use machines::Answer;
 use machines::Request;
 use words::WORDS;
-ghost use mathlib.Core.Path.{_≡_};
-ghost use mathlib.Core.Bool.{true};
-ghost use lib.ListN.{length};
-ghost use Rattle.machines.specs.Machines.{stepped};
-ghost use Rattle.machines.specs.Forms.{answerOf};
-ghost use Rattle.machine_console.specs.Consoling.{consoling, Opening};
-ghost use Rattle.machine_console.specs.Lent.{hasRoom, stateOf, placeOf, StandsFor};
+ghost use Rattle.laws.specs.Basics.{_≡_, true, length};
+ghost use Rattle.machines.specs.{Machines.stepped, Forms.answerOf};
+ghost use Rattle.machine_console.specs.{Consoling.consoling, Consoling.Opening, Lent.hasRoom, Lent.stateOf, Lent.placeOf, Lent.StandsFor};
 
 // How many bytes a caller lends: for a call (callSize in the specs of console_machine), and for the longest line (longestLine in specs/Replied).
 pub const CALL_SIZE: usize = 8;

@@ -1,19 +1,14 @@
 // The line of a call, printed to the front of a lent buffer.
 use crate::calls::Replied;
-use crate::text;
 use crate::script::Call;
+use crate::text;
 use listing::Summary;
 use listing::Value;
 use theory_roles::Operation;
-ghost use mathlib.Core.Path.{_≡_};
-ghost use mathlib.Core.List.{[], _++_};
-ghost use mathlib.Core.Option.{some};
-ghost use Prim.Native.Nat.{_+_, _*_, _≤_};
-ghost use lib.ListN.{length};
+ghost use Rattle.laws.specs.Basics.{_≡_, [], _++_, some, _+_, _*_, _≤_, length};
 ghost use Rattle.model.specs.Words.{mostProcesses, mostDeletions};
 ghost use Rattle.whole_runs.specs.Listing.{decimal};
-ghost use Rattle.listing.specs.Lines.{valueIn};
-ghost use Rattle.listing.specs.Printed.{Printed};
+ghost use Rattle.listing.specs.{Lines.valueIn, Printed.Printed};
 ghost use Rattle.machine_console.specs.Text.{fieldText, pairsText, listText, entriesText, answerText, lineText};
 ghost use Rattle.machine_console.specs.Replied.{longestLine, replyOf, longestField, longestAnswer};
 
@@ -39,7 +34,13 @@ fn write_delivered(out: &mut [u8], at: usize, summary: Summary, rose: u16, pairs
 }
 
 // The members of the line, how many were rolled back, and the deletions.
-fn write_recovered(out: &mut [u8], at: usize, summary: Summary, pairs: &[u16], line: &[u16]) -> usize
+fn write_recovered(
+    out: &mut [u8],
+    at: usize,
+    summary: Summary,
+    pairs: &[u16],
+    line: &[u16],
+) -> usize
     requires { ⌜ at + (longestField * length (now line) + (2 * longestField + longestField * length (now pairs))) ≤ length (now out) ⌝ }
     ensures { λ r. ⌜ Printed (now (out .entry)) at (entriesText (now (line .entry)) ++ (fieldText (valueIn (summary .value)) ++ pairsText (summary .deletions) (now (pairs .entry)))) (now (out .exit)) r × (r ≤ at + (longestField * length (now (line .entry)) + (2 * longestField + longestField * length (now (pairs .entry))))) ⌝ }
 {

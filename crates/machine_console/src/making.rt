@@ -1,20 +1,14 @@
 // A call of a script is made on the words, and its line put to the front of a buffer.
 use crate::calls;
 use crate::line;
-use crate::text;
 use crate::script::Call;
 use crate::script::Read;
+use crate::text;
 use model::DELETIONS;
 use model::PROCESSES;
-ghost use mathlib.Core.Path.{_≡_};
-ghost use mathlib.Core.Option.{some};
-ghost use Prim.Native.Nat.{_-_, _≤_};
-ghost use lib.ListN.{length};
-ghost use Rattle.laws.specs.Choice.{pick};
+ghost use Rattle.laws.specs.Basics.{_≡_, some, _-_, _≤_, length, pick};
 ghost use Rattle.words.specs.Layout.{runOf, stateSize};
-ghost use Rattle.machine_console.specs.script.Script.{callOf};
-ghost use Rattle.machine_console.specs.Made.{processes, lentLine, lentPairs};
-ghost use Rattle.machine_console.specs.Replied.{longestLine, Makes};
+ghost use Rattle.machine_console.specs.{script.Script.callOf, Made.processes, Made.lentLine, Made.lentPairs, Replied.longestLine, Replied.Makes};
 
 // How many processes the lent lists are for.
 fn processes(w: &[u16]) -> usize

@@ -1,8 +1,6 @@
 // The numbers that a caller lends for the state, read and put.
 use machines::Request;
-ghost use mathlib.Core.Path.{_≡_};
-ghost use Prim.Native.Nat.{_≤_};
-ghost use lib.ListN.{length};
+ghost use Rattle.laws.specs.Basics.{_≡_, _≤_, length};
 ghost use Rattle.machine_console.specs.Lent.{marksOf, mostDone, inBounds, asksFor};
 
 // The phase; how many calls were made; how many bytes of `input` are kept, and how many of `out` are asked for.

@@ -3,8 +3,7 @@
 use theory_roles::Caller;
 use theory_roles::Operation;
 use theory_roles::Role;
-ghost use mathlib.Core.Path.{_≡_};
-ghost use Prim.Native.Nat.{_+_, _*_, _<_};
+ghost use Rattle.laws.specs.Basics.{_≡_, _+_, _*_, _<_};
 ghost use Rattle.machine_console.specs.script.Script.{roleOf, operationOf, isClear, callIn, callOf, asked, nextOf};
 
 // A call as a script asks for it.

@@ -2,14 +2,9 @@
 use listing::Value;
 use theory_roles::Caller;
 use theory_roles::Role;
-ghost use mathlib.Core.Path.{_≡_};
-ghost use mathlib.Core.Option.{some};
-ghost use Prim.Native.Nat.{_+_, _*_, _≤_, min};
-ghost use lib.ListN.{length};
-ghost use Rattle.machine_console.specs.Replied.{longestField};
-ghost use Rattle.listing.specs.Lines.{valueIn};
-ghost use Rattle.listing.specs.Printed.{Printed};
-ghost use Rattle.machine_console.specs.Text.{fieldText, pairsText, entriesText, memberShown, membersText};
+ghost use Rattle.laws.specs.Basics.{_≡_, some, _+_, _*_, _≤_, min, length};
+ghost use Rattle.machine_console.specs.{Replied.longestField, Text.fieldText, Text.pairsText, Text.entriesText, Text.memberShown, Text.membersText};
+ghost use Rattle.listing.specs.{Lines.valueIn, Printed.Printed};
 
 // The smaller of two numbers.
 pub fn least(x: usize, y: usize) -> usize

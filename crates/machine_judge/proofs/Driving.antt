@@ -1,20 +1,13 @@
 -- The loop that obeys the machine: where it stands before each request.
 -- Assumes nothing.
-use mathlib.Core.Path.{_≡_, refl, sym, _∙_, ap, subst}
-use mathlib.Core.Bool.{Bool, true, false}
-use mathlib.Core.List.{List, []}
-use Prim.Native.Nat.{ℕ, _≤_, _<_}
-use native.Mathlib.Omega.{arith}
-use lib.ListN.{length, getD, take}
-use Rattle.laws.specs.Choice.{pick}
-use Rattle.machines.specs.declared.Request as requests
+use Rattle.laws.specs.Basics.{_≡_, refl, sym, _∙_, ap, subst, Bool, true, false, List, [], ℕ, _≤_, _<_, arith, length, getD, take, pick}
 use Rattle.machines.specs.Machines.{Answer, Stop, stepped, Reached, Ended}
 use Rattle.machines.specs.Forms.{requestOf, goesOn, Leaves, Asks}
-use Rattle.machines.proofs.Runs.{reached-first, reached-next}
-use Rattle.machines.proofs.Places.{going-is, stopped-is, leaves-front}
+use Rattle.machines.proofs.{Runs.reached-first, Runs.reached-next, Places.going-is, Places.stopped-is, Places.leaves-front}
 use Rattle.machine_judge.specs.Judging.{State, Reading, Stopped, ask, judging}
 use Rattle.machine_judge.specs.Words.{EnoughRoom, inPhase, stateOf, placeOf, StandsFor}
 use Rattle.machine_judge.proofs.Ending.{left, judging-ends}
+use Rattle.machines.specs.declared.Request as requests
 
 pub record Driven (memory input out : List ℕ) (r : requests.Request) : Type 0 where
   pub room : EnoughRoom (length memory) (length input) (length out)

@@ -1,14 +1,6 @@
 -- The machine ends: a number falls with each answer.
 -- Assumes nothing.
-use mathlib.Core.Path.{_≡_, refl, sym, _∙_, ap}
-use mathlib.Core.Bool.{Bool, true, false, _&&_, _||_}
-use mathlib.Core.List.{List, [], _∷_, _++_}
-use Prim.Native.Nat.{ℕ, _+_, _-_, _≤_, _<_}
-use native.Mathlib.Omega.{arith}
-use lib.Dec.{ltb, leb}
-use lib.ListN.{length, length-append}
-use borrow.Author.Tests.{leb-true, leb-false}
-use Rattle.laws.specs.Choice.{pick, by-bool}
+use Rattle.laws.specs.Basics.{_≡_, refl, sym, _∙_, ap, Bool, true, false, _&&_, _||_, List, [], _∷_, _++_, ℕ, _+_, _-_, _≤_, _<_, arith, ltb, leb, length, length-append, leb-true, leb-false, pick, by-bool}
 use Rattle.machines.specs.Machines.{Request, Read, Stop, Answer, Number, Bytes, End, Done, Failed, heard, heardRead, heardDone, stepped, Ends}
 use Rattle.machine_judge.specs.Judging.{mostRead, settled, wanted, State, Reading, Printing, Failing, Stopped, ask, next, printing, onward, afterRead, afterWrite, judging}
 use Rattle.machine_judge.proofs.Stepping.{or-false}

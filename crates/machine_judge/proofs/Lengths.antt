@@ -1,29 +1,16 @@
 -- How long the line of a verdict can be, and that the processes of a right one are among 16.
 -- Assumes nothing.
-use mathlib.Core.Path.{_≡_, refl, sym}
-use mathlib.Core.Bool.{Bool, true, false, not, _&&_, false≢true}
-use mathlib.Core.List.{List, [], _∷_, _++_}
-use mathlib.Core.Option.{none}
-use Prim.Native.Nat.{ℕ, _≤_, _<_}
-use native.Mathlib.Omega.{arith}
-use lib.Dec.{leb}
-use lib.ListN.{length, length-append}
-use borrow.Author.Tests.{leb-true, ne-eqb}
-use Rattle.model.specs.declared.Refusal.{Refusal}
-use Rattle.model.specs.Words.{ones}
-use Rattle.model.specs.Refusals.{number, startRefusal}
-use Rattle.model.specs.laws.Refusals.{no-rule, by-refusal, number-range}
-use Rattle.listing.specs.Lines.{pairText}
-use Rattle.listing.specs.Printed.{Printed}
+use Rattle.laws.specs.Basics.{_≡_, refl, sym, Bool, true, false, not, _&&_, false≢true, List, [], _∷_, _++_, none, ℕ, _≤_, _<_, arith, leb, length, length-append, ne-eqb, leb-true}
+use Rattle.model.specs.declared.{Refusal.Refusal, CheckpointIndex.CheckpointIndex}
+use Rattle.model.specs.{Words.ones, Refusals.number, Refusals.startRefusal, laws.Refusals.no-rule, laws.Refusals.by-refusal, laws.Refusals.number-range}
+use Rattle.listing.specs.{Lines.pairText, Printed.Printed}
 use Rattle.listing.proofs.Bounds.{twenty-digits}
 use Rattle.machines.specs.programs.Texts.{refusedText}
 use Rattle.machines.proofs.programs.Texts.{refused-length}
-use Rattle.theory_patterns.specs.declared.Verdict.{Verdict}
-use Rattle.theory_patterns.specs.declared.Verdict.the-variants.{Refused, Trackable, Breaks}
+use Rattle.theory_patterns.specs.declared.{Verdict.Verdict, Verdict.the-variants.Refused, Verdict.the-variants.Trackable, Verdict.the-variants.Breaks}
 use Rattle.theory_patterns.specs.Patterns.{Pattern, refused, whole, reading}
 use Rattle.theory_patterns.specs.Verdicts.{countOf, verdict, judgeReport, RightVerdict}
 use Rattle.theory_patterns.proofs.Right.{verdict-right}
-use Rattle.model.specs.declared.CheckpointIndex.{CheckpointIndex}
 use Rattle.whole_runs.specs.Listing.{decimal, colon, lineFeed}
 use Rattle.machine_judge.specs.Text.{trackableWord, breaksWord, breaksText, reportText, verdictText, Small}
 

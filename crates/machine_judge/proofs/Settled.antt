@@ -1,20 +1,8 @@
 -- A settled verdict is settled for good.
 -- Assumes nothing.
-use mathlib.Core.Path.{_≡_, refl, sym}
-use mathlib.Core.Bool.{Bool, true, false, not, _&&_, _||_, false≢true}
-use mathlib.Core.List.{List, [], _∷_, _++_}
-use mathlib.Core.Option.{none}
-use Prim.Native.Nat.{ℕ, _≤_, _<_}
-use native.Mathlib.Omega.{arith}
-use lib.Dec.{ltb, leb}
-use lib.ListN.{length}
-use borrow.Author.Tests.{leb-true, le-ltb}
-use Rattle.laws.specs.Choice.{by-bool}
-use Rattle.model.specs.Words.{ones}
-use Rattle.model.specs.Refusals.{startRefusal}
-use Rattle.model.specs.laws.Refusals.{no-rule, by-refusal}
-use Rattle.theory_patterns.specs.Patterns.{reading}
-use Rattle.theory_patterns.specs.Verdicts.{countOf, verdict}
+use Rattle.laws.specs.Basics.{_≡_, refl, sym, Bool, true, false, not, _&&_, _||_, false≢true, List, [], _∷_, _++_, none, ℕ, _≤_, _<_, arith, ltb, leb, length, le-ltb, leb-true, by-bool}
+use Rattle.model.specs.{Words.ones, Refusals.startRefusal, laws.Refusals.no-rule, laws.Refusals.by-refusal}
+use Rattle.theory_patterns.specs.{Patterns.reading, Verdicts.countOf, Verdicts.verdict}
 use Rattle.theory_patterns.proofs.Ends.{long-traces-end}
 use Rattle.machine_judge.specs.Judging.{mostRead, settled, SettledForGood}
 

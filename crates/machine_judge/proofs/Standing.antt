@@ -1,21 +1,12 @@
 -- Which state the lent numbers and buffers stand for once a phase and a count are put.
 -- Assumes nothing.
-use mathlib.Core.Path.{_≡_, refl, sym, _∙_, ap}
-use mathlib.Core.Bool.{Bool, true, false, _&&_}
-use mathlib.Core.List.{List, [], _∷_}
-use Prim.Native.Nat.{ℕ, zero, suc, _+_, _-_, _≤_, _<_}
-use native.Mathlib.Omega.{arith}
-use lib.Dec.{eqb, leb}
-use lib.ListN.{length, getD, set, take, drop, length-set}
-use lib.Seq.{getD-set-same, getD-set-other, length-take-le}
-use borrow.Author.Tests.{le-leb, lt-leb, eq-eqb, ne-eqb, leb-true, lt-ltb, le-ltb}
-use Rattle.laws.specs.Choice.{pick, pick-same, by-bool, by-eq}
+use Rattle.laws.specs.Basics.{_≡_, refl, sym, _∙_, ap, Bool, true, false, _&&_, List, [], _∷_, ℕ, zero, suc, _+_, _-_, _≤_, _<_, arith, eqb, leb, length, getD, take, drop, set, length-set, getD-set-same, getD-set-other, length-take-le, eq-eqb, ne-eqb, lt-ltb, le-ltb, le-leb, lt-leb, leb-true, pick, by-bool, by-eq}
+use Rattle.laws.specs.Choice.{pick-same}
+use Rattle.machines.specs.Forms.{requestOf, Placed, GoesTo, Asks}
+use Rattle.machine_judge.specs.{Text.longestVerdict, Words.EnoughRoom, Words.lacksRoom, Words.inPhase, Words.stateOf, Words.placeOf, Words.StandsFor}
+use Rattle.machine_judge.specs.Judging.{mostRead, wanted, settled, State, Reading, Printing, Failing, Stopped, ask, printing, onward}
 use Rattle.machines.specs.declared.Request as requests
 use Rattle.machines.specs.declared.Request.the-variants as request
-use Rattle.machines.specs.Forms.{requestOf, Placed, GoesTo, Asks}
-use Rattle.machine_judge.specs.Text.{longestVerdict}
-use Rattle.machine_judge.specs.Judging.{mostRead, wanted, settled, State, Reading, Printing, Failing, Stopped, ask, printing, onward}
-use Rattle.machine_judge.specs.Words.{EnoughRoom, lacksRoom, inPhase, stateOf, placeOf, StandsFor}
 
 -- No more is asked for than there is room for.
 pub wanted-fits : (buffered : ℕ) → buffered ≤ mostRead → buffered + wanted buffered ≤ mostRead

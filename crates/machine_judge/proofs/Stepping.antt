@@ -1,26 +1,17 @@
 -- Which state an answer leads to, by its form.
 -- Assumes nothing.
-use mathlib.Core.Path.{_≡_, refl, sym, _∙_, ap, subst}
-use mathlib.Core.Bool.{Bool, true, false, _&&_, _||_}
-use mathlib.Core.List.{List, _++_}
-use Prim.Native.Nat.{ℕ, _+_, _≤_, _<_}
-use native.Mathlib.Omega.{arith}
-use lib.Dec.{eqb, ltb, leb}
-use lib.ListN.{length, getD, take, drop}
-use lib.Seq.{length-take-le, take-add}
-use borrow.Author.Tests.{lt-leb, ltb-false, ne-eqb}
-use Rattle.laws.specs.Choice.{pick, by-bool}
+use Rattle.laws.specs.Basics.{_≡_, refl, sym, _∙_, ap, subst, Bool, true, false, _&&_, _||_, List, _++_, ℕ, _+_, _≤_, _<_, arith, eqb, ltb, leb, length, getD, take, drop, length-take-le, ne-eqb, ltb-false, lt-leb, pick, by-bool}
+use lib.Seq.{take-add}
+use Rattle.machines.specs.Machines.{Answer, Done, Failed, heard, heardRead, heardDone, stepped}
+use Rattle.machines.specs.Forms.{answerOf, takenOf, Between, requestOf, Placed, GoesTo}
+use Rattle.machine_judge.specs.{Text.longestVerdict, Words.EnoughRoom, Words.lacksRoom, Words.inPhase, Words.stateOf, Words.placeOf, Words.StandsFor}
+use Rattle.machine_judge.specs.Judging.{mostRead, wanted, State, Reading, Printing, Failing, Stopped, inputName, outputName, ask, next, printing, onward, afterRead, afterWrite, judging}
+use Rattle.machine_judge.proofs.Standing.{wanted-fits, state-in, phase-read, phase-printed}
 use Rattle.machines.specs.declared.Request as requests
 use Rattle.machines.specs.declared.Request.the-variants as request
 use Rattle.machines.specs.declared.Answer as answers
 use Rattle.machines.specs.declared.heard.Taken as takens
 use Rattle.machines.specs.declared.heard.Taken.the-variants as taken
-use Rattle.machines.specs.Machines.{Answer, Done, Failed, heard, heardRead, heardDone, stepped}
-use Rattle.machines.specs.Forms.{answerOf, takenOf, Between, requestOf, Placed, GoesTo}
-use Rattle.machine_judge.specs.Text.{longestVerdict}
-use Rattle.machine_judge.specs.Judging.{mostRead, wanted, State, Reading, Printing, Failing, Stopped, inputName, outputName, ask, next, printing, onward, afterRead, afterWrite, judging}
-use Rattle.machine_judge.specs.Words.{EnoughRoom, lacksRoom, inPhase, stateOf, placeOf, StandsFor}
-use Rattle.machine_judge.proofs.Standing.{wanted-fits, state-in, phase-read, phase-printed}
 
 -- What an answer to a read comes to.
 module _ (input : List ℕ) (buffered : ℕ) (fits : buffered ≤ mostRead) (long : mostRead ≤ length input) (a : answers.Answer) (most : ℕ) (asks : most ≡ wanted buffered) where

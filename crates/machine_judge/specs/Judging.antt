@@ -1,12 +1,6 @@
 -- The program `judge` as a machine: it reads a trace, writes the line of its verdict, and stops. It reads no more than settles the verdict.
 -- Assumes nothing.
-use mathlib.Core.Path.{_≡_}
-use mathlib.Core.Bool.{Bool, true, false, _||_}
-use mathlib.Core.List.{List, [], _∷_, _++_}
-use Prim.Native.Nat.{ℕ, _+_, _-_, _≤_, _<_}
-use lib.Dec.{eqb, ltb, leb}
-use lib.ListN.{length}
-use Rattle.laws.specs.Choice.{pick}
+use Rattle.laws.specs.Basics.{_≡_, Bool, true, false, _||_, List, [], _∷_, _++_, ℕ, _+_, _-_, _≤_, _<_, eqb, ltb, leb, length, pick}
 use Rattle.model.specs.Words.{mostProcesses}
 use Rattle.machines.specs.Machines.{Request, Count, Argument, Open, Read, Write, Say, Fail, Stop, Answer, Number, Bytes, End, Done, Failed, Machine, Exchange, asked, exchanges, stateAfter, writtenOf, errorTextOf, readOf}
 use Rattle.theory_patterns.specs.Verdicts.{verdict}

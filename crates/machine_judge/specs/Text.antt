@@ -1,18 +1,12 @@
 -- The line of a verdict, by its number and its pair: `refused R`, `trackable` or `breaks P:K Q:X`, decimal, with a line feed; and what it is for a line to be the verdict on
 -- a trace.
 -- Assumes nothing.
-use mathlib.Core.Path.{_≡_}
-use mathlib.Core.List.{List, [], _∷_, _++_}
-use mathlib.Core.Option.{Option, none, some}
-use Prim.Native.Nat.{ℕ, _<_}
-use lib.Dec.{eqb}
-use Rattle.laws.specs.Choice.{pick}
+use Rattle.laws.specs.Basics.{_≡_, List, [], _∷_, _++_, Option, none, some, ℕ, _<_, eqb, pick}
 use Rattle.model.specs.Words.{mostProcesses}
 use Rattle.whole_runs.specs.Listing.{lineFeed}
 use Rattle.listing.specs.Lines.{pairText}
 use Rattle.machines.specs.programs.Texts.{figureText, refusedName}
-use Rattle.theory_patterns.specs.declared.Verdict.{Verdict}
-use Rattle.theory_patterns.specs.declared.Verdict.the-variants.{Refused, Trackable, Breaks}
+use Rattle.theory_patterns.specs.declared.{Verdict.Verdict, Verdict.the-variants.Refused, Verdict.the-variants.Trackable, Verdict.the-variants.Breaks}
 use Rattle.theory_patterns.specs.Verdicts.{Pair, JudgeReport, judgeReport, verdict}
 
 -- "trackable" and "breaks", byte by byte.

@@ -1,16 +1,10 @@
 -- The machine's state in what a caller lends: two numbers, the phase and a count; the buffer that the trace is read into; the buffer for what is written and reported.
 -- Assumes nothing.
-use mathlib.Core.Path.{_≡_}
-use mathlib.Core.Bool.{Bool, _&&_, _||_}
-use mathlib.Core.List.{List}
-use Prim.Native.Nat.{ℕ, _≤_}
-use lib.Dec.{eqb, ltb, leb}
-use lib.ListN.{length, getD, take}
-use Rattle.laws.specs.Choice.{pick}
-use Rattle.machines.specs.declared.Request as requests
+use Rattle.laws.specs.Basics.{_≡_, Bool, _&&_, _||_, List, ℕ, _≤_, eqb, ltb, leb, length, getD, take, pick}
 use Rattle.machines.specs.Forms.{Asks}
 use Rattle.machine_judge.specs.Text.{longestVerdict}
 use Rattle.machine_judge.specs.Judging.{mostRead, State, Reading, Printing, Failing, Stopped, ask}
+use Rattle.machines.specs.declared.Request as requests
 
 -- There is room for the two numbers, for all bytes that count, and for the longest line.
 abbrev pub EnoughRoom : ℕ → ℕ → ℕ → Type 0

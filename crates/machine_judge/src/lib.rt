@@ -10,15 +10,10 @@ use machines::heard;
 use machines::heard::Taken;
 use model::PROCESSES;
 use theory_patterns::MOST_JUDGED;
-ghost use mathlib.Core.Path.{_≡_};
-ghost use mathlib.Core.List.{List, []};
-ghost use Prim.Native.Nat.{ℕ, _≤_};
-ghost use lib.ListN.{length, take, set};
-ghost use Rattle.machines.specs.Machines.{stepped};
-ghost use Rattle.machines.specs.Forms.{answerOf};
+ghost use Rattle.laws.specs.Basics.{_≡_, List, [], ℕ, _≤_, length, take, set};
+ghost use Rattle.machines.specs.{Machines.stepped, Forms.answerOf};
 ghost use Rattle.machine_judge.specs.Judging.{mostRead, wanted, settled, Reading, Printing, Failing, Stopped, printing, onward, judging};
-ghost use Rattle.machine_judge.specs.Words.{EnoughRoom, lacksRoom, stateOf, placeOf, StandsFor};
-ghost use Rattle.machine_judge.specs.Text.{longestVerdict};
+ghost use Rattle.machine_judge.specs.{Words.EnoughRoom, Words.lacksRoom, Words.stateOf, Words.placeOf, Words.StandsFor, Text.longestVerdict};
 
 // The phases. Every other number stands for a machine that has stopped.
 const READING: u64 = 0;

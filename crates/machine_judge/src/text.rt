@@ -1,10 +1,9 @@
 // The line of a verdict, printed to the front of a lent buffer.
-use model::CheckpointIndex;
-use theory_patterns::Verdict;
 use machines::programs::text::write_refused;
 use machines::programs::text::write_word;
-ghost use Prim.Native.Nat.{_≤_, _<_};
-ghost use lib.ListN.{length};
+use model::CheckpointIndex;
+use theory_patterns::Verdict;
+ghost use Rattle.laws.specs.Basics.{_≤_, _<_, length};
 ghost use Rattle.model.specs.Words.{mostProcesses};
 ghost use Rattle.listing.specs.Printed.{Printed};
 ghost use Rattle.theory_patterns.specs.declared.Verdict.the-variants.{Breaks};

@@ -1,14 +1,7 @@
 -- The numbers of a state, and the states that they stand for.
 -- Assumes nothing.
-use mathlib.Core.Path.{_≡_, refl, sym, _∙_, ap, subst}
-use mathlib.Core.Bool.{false}
-use mathlib.Core.List.{List, _++_}
-use Prim.Native.Nat.{ℕ, _+_, _-_, _≤_, _<_}
-use native.Mathlib.Omega.{arith}
-use lib.Dec.{eqb}
-use lib.ListN.{length, take, drop, length-append, length-drop}
-use lib.Seq.{length-sets, length-take-le}
-use Rattle.laws.specs.Choice.{by-bool}
+use Rattle.laws.specs.Basics.{_≡_, refl, sym, _∙_, ap, subst, false, List, _++_, ℕ, _+_, _-_, _≤_, _<_, arith, eqb, length, take, drop, length-append, length-drop, length-take-le, by-bool}
+use lib.Seq.{length-sets}
 use Rattle.listing.specs.Printed.{Printed}
 use Rattle.listing.proofs.Texts.{then}
 use Rattle.machines.proofs.programs.Texts.{front-text}
@@ -18,9 +11,7 @@ use Rattle.machine_merge.specs.declared.marks.Marks.{Marks}
 use Rattle.machine_merge.specs.Buffered.{mostKept, mostCounted}
 use Rattle.machine_merge.specs.Merging.{longestWord, longestName, FirstHalf, SecondHalf, State, Counting, Setting, Naming, Opening, Reading, Writing, Reporting, Failing, Stopped, prefix, fileText, wordOf, ask, next, merging}
 use Rattle.machine_merge.specs.Words.{longestTrace, Fits, atPhase, nameAt, stageOf, nameOf, keptOf, stateIn, placeIn, wordAt, asksFor, Arrives}
-use Rattle.machine_merge.proofs.Parts.{name-most, read-most, wanted-most}
-use Rattle.machine_merge.proofs.Marking.{in-bounds}
-use Rattle.machine_merge.proofs.Leading.{file-text-some}
+use Rattle.machine_merge.proofs.{Parts.name-most, Parts.read-most, Parts.wanted-most, Marking.in-bounds, Leading.file-text-some}
 
 pub led : {m : Marks} {input out : List ℕ} {s t : State} → t ≡ s → Arrives m input out s → Arrives m input out t
 led {m} {input} {out} e w = subst (λ (x : State). Arrives m input out x) (sym e) w

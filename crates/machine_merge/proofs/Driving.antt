@@ -1,25 +1,14 @@
 -- The loop that obeys the machine: where it stands before each request.
 -- Assumes nothing.
-use mathlib.Core.Path.{_≡_, refl, sym, _∙_, ap, subst}
-use mathlib.Core.Bool.{true, false}
-use mathlib.Core.List.{List}
-use Prim.Native.Nat.{ℕ, _+_, _≤_, _<_, min}
-use native.Mathlib.Omega.{arith}
-use lib.Dec.{eqb}
-use lib.ListN.{length, take}
-use Rattle.laws.specs.Choice.{pick, by-bool}
-use Rattle.machines.specs.declared.Request as requests
-use Rattle.machines.specs.Machines.{Answer, stepped, Reached, Ended}
-use Rattle.machines.specs.Forms.{goesOn, Leaves, Asks}
-use Rattle.machines.proofs.Runs.{reached-first, reached-next}
-use Rattle.machines.proofs.Places.{going-is, stopped-is, leaves-front}
+use Rattle.laws.specs.Basics.{_≡_, refl, sym, _∙_, ap, subst, true, false, List, ℕ, _+_, _≤_, _<_, min, arith, eqb, length, take, pick, by-bool}
+use Rattle.machines.specs.{Machines.Answer, Machines.stepped, Machines.Reached, Machines.Ended, Forms.goesOn, Forms.Leaves, Forms.Asks}
+use Rattle.machines.proofs.{Runs.reached-first, Runs.reached-next, Places.going-is, Places.stopped-is, Places.leaves-front}
 use Rattle.machine_merge.specs.declared.marks.Marks.{Marks}
 use Rattle.machine_merge.specs.Buffered.{mostKept}
 use Rattle.machine_merge.specs.Merging.{longestName, SecondHalf, State, Counting, Naming, Opening, Reading, Stopped, ask, merging}
 use Rattle.machine_merge.specs.Words.{EnoughRoom, lacksRoom, marksOf, inBounds, Fits, nameAt, halfAt, readTo, stageOf, nameOf, keptOf, stateIn, stateOf, placeIn, placeOf, StandsFor}
-use Rattle.machine_merge.proofs.Parts.{part-kept, half-is, read-past}
-use Rattle.machine_merge.proofs.Marking.{bounded}
-use Rattle.machine_merge.proofs.Ending.{left, merging-ends}
+use Rattle.machine_merge.proofs.{Parts.part-kept, Parts.half-is, Parts.read-past, Marking.bounded, Ending.left, Ending.merging-ends}
+use Rattle.machines.specs.declared.Request as requests
 
 pub record Driven (memory input out : List ℕ) (r : requests.Request) : Type 0 where
   pub room : EnoughRoom (length memory) (length input) (length out)

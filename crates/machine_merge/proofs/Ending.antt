@@ -1,18 +1,9 @@
 -- The machine ends: a number falls with each answer.
 -- Assumes nothing.
-use mathlib.Core.Path.{_≡_, refl}
-use mathlib.Core.Bool.{Bool, true, false, _&&_}
-use mathlib.Core.List.{List, [], _∷_}
-use Prim.Native.Nat.{ℕ, _+_, _-_, _≤_, _<_}
-use native.Mathlib.Omega.{arith}
-use lib.Dec.{eqb, ltb, leb}
-use lib.ListN.{length, take}
-use borrow.Author.Tests.{leb-true, ltb-true}
-use Rattle.laws.specs.Choice.{by-bool}
+use Rattle.laws.specs.Basics.{_≡_, refl, Bool, true, false, _&&_, List, [], _∷_, ℕ, _+_, _-_, _≤_, _<_, arith, eqb, ltb, leb, length, take, ltb-true, leb-true, by-bool}
 use Rattle.machines.specs.programs.Numbers.{numberIn, noNumber}
 use Rattle.machines.specs.Machines.{Stop, Answer, Number, Bytes, End, Done, Failed, heard, heardCount, heardWord, heardRead, heardDone, isNumber, stepped, Ends}
-use Rattle.machine_merge.specs.Buffered.{mostCounted, bufferedSize, wanted, keeping}
-use Rattle.machine_merge.specs.Printed.{printed}
+use Rattle.machine_merge.specs.{Buffered.mostCounted, Buffered.bufferedSize, Buffered.wanted, Buffered.keeping, Printed.printed}
 use Rattle.machine_merge.specs.Merging.{longestWord, longestName, Stage, FirstHalf, SecondHalf, State, Counting, Setting, Naming, Opening, Reading, Writing, Reporting, Failing, Stopped, ask, shown, showing, halfRead, ended, onward, afterCount, afterSet, afterName, afterOpen, afterRead, afterWrite, next, merging}
 
 abbrev pub stageLeft : Stage → ℕ

@@ -1,29 +1,18 @@
 -- Which state an answer leads to, by what the code was handed of it.
 -- Assumes nothing.
-use mathlib.Core.Path.{_≡_, refl, sym, _∙_, ap}
-use mathlib.Core.Bool.{Bool, true, false}
-use mathlib.Core.List.{List, [], _∷_, _++_}
-use Prim.Native.Nat.{ℕ, _+_, _-_, _≤_, _<_}
-use native.Mathlib.Omega.{arith}
-use lib.Dec.{ltb}
-use lib.ListN.{length, take, drop, length-drop}
-use lib.Seq.{length-take-le}
-use borrow.Author.Tests.{eq-eqb, ne-eqb, lt-ltb, le-ltb, ltb-false}
-use Rattle.laws.specs.Choice.{pick, by-bool}
+use Rattle.laws.specs.Basics.{_≡_, refl, sym, _∙_, ap, Bool, true, false, List, [], _∷_, _++_, ℕ, _+_, _-_, _≤_, _<_, arith, ltb, length, take, drop, length-drop, length-take-le, eq-eqb, ne-eqb, lt-ltb, le-ltb, ltb-false, pick, by-bool}
 use Rattle.model.specs.declared.Refusal.{Refusal}
-use Rattle.machines.specs.programs.Numbers.{numberIn, noNumber, atMost}
-use Rattle.machines.specs.programs.Texts.{figureText, refusedText}
-use Rattle.machines.specs.declared.Answer as answers
-use Rattle.machines.specs.declared.heard.Taken as takens
-use Rattle.machines.specs.declared.heard.Taken.the-variants as taken
+use Rattle.machines.specs.{programs.Numbers.numberIn, programs.Numbers.noNumber, programs.Numbers.atMost, programs.Texts.figureText, programs.Texts.refusedText}
 use Rattle.machines.specs.Machines.{Answer, Bytes, Done, Failed, heard, heardCount, heardWord, heardRead, heardDone, isNumber, stepped}
 use Rattle.machines.specs.Forms.{answerOf, takenOf}
 use Rattle.machine_merge.specs.declared.marks.Marks.{Marks}
-use Rattle.machine_merge.specs.Buffered.{mostCounted, bufferedSize, wanted}
-use Rattle.machine_merge.specs.Printed.{Printed, refusing, printed}
+use Rattle.machine_merge.specs.{Buffered.mostCounted, Buffered.bufferedSize, Buffered.wanted, Printed.Printed, Printed.refusing, Printed.printed}
 use Rattle.machine_merge.specs.Merging.{longestWord, longestName, usage, prefix, firstName, secondName, outputName, Stage, FirstHalf, SecondHalf, State, Counting, Setting, Naming, Opening, Reading, Writing, Reporting, Failing, Stopped, ask, noNameText, fileText, shown, showing, halfRead, ended, onward, afterCount, afterSet, afterName, afterOpen, afterRead, afterWrite, next, merging}
 use Rattle.machine_merge.specs.Words.{halfAt, nameAt, readTo, stageOf, nameOf, keptOf}
 use Rattle.machine_merge.proofs.Parts.{read-most, wanted-most, keeping-is, buffered-part}
+use Rattle.machines.specs.declared.Answer as answers
+use Rattle.machines.specs.declared.heard.Taken as takens
+use Rattle.machines.specs.declared.heard.Taken.the-variants as taken
 
 -- How many words there are.
 module _ (x : Answer) (b : Bool) (h : b ≡ isNumber (heardCount x) 4) where

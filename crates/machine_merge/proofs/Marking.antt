@@ -1,18 +1,9 @@
 -- The numbers of a state, put one after the other, and their bounds.
 -- Assumes nothing.
-use mathlib.Core.Path.{_≡_, refl}
-use mathlib.Core.Bool.{true, _&&_}
-use mathlib.Core.List.{List, [], _∷_}
-use Prim.Native.Nat.{ℕ, _≤_, _<_}
-use native.Mathlib.Omega.{arith}
-use lib.Dec.{leb, ltb}
-use lib.ListN.{length, set}
-use borrow.Author.Tests.{le-leb, lt-ltb, leb-true, ltb-true}
+use Rattle.laws.specs.Basics.{_≡_, refl, true, _&&_, List, [], _∷_, ℕ, _≤_, _<_, arith, ltb, leb, length, set, lt-ltb, ltb-true, le-leb, leb-true}
 use Rattle.laws.specs.Truth.{and-left, and-right}
 use Rattle.machine_merge.specs.declared.marks.Marks.{Marks}
-use Rattle.machine_merge.specs.Buffered.{mostKept, mostCounted}
-use Rattle.machine_merge.specs.Merging.{longestName}
-use Rattle.machine_merge.specs.Words.{marksOf, inBounds, Fits}
+use Rattle.machine_merge.specs.{Buffered.mostKept, Buffered.mostCounted, Merging.longestName, Words.marksOf, Words.inBounds, Words.Fits}
 
 pub all-put : (l : List ℕ) (m : Marks) → 7 ≤ length l
     → marksOf (set (set (set (set (set (set (set l 0 (m .phase)) 1 (m .half)) 2 (m .set)) 3 (m .first)) 4 (m .name)) 5 (m .count)) 6 (m .size)) ≡ m

@@ -1,14 +1,7 @@
 -- Parts of the buffer that files are read into.
 -- Assumes nothing.
-use mathlib.Core.Path.{_≡_, refl, sym, _∙_, ap}
-use mathlib.Core.List.{List, [], _∷_, _++_}
-use Prim.Native.Nat.{ℕ, zero, suc, _+_, _≤_, min}
-use native.Mathlib.Omega.{arith}
-use lib.Dec.{eqb, ltb, leb}
-use lib.ListN.{take, drop}
+use Rattle.laws.specs.Basics.{_≡_, refl, sym, _∙_, ap, List, [], _∷_, _++_, ℕ, zero, suc, _+_, _≤_, min, arith, eqb, ltb, leb, take, drop, leb-true, leb-false, by-bool}
 use lib.Seq.{take-take, drop-drop, take-add}
-use borrow.Author.Tests.{leb-true, leb-false}
-use Rattle.laws.specs.Choice.{by-bool}
 use Rattle.machine_merge.specs.Buffered.{mostKept, bufferedSize, wanted, keeping}
 use Rattle.machine_merge.specs.Words.{nameAt, halfAt, readTo, keptOf}
 use Rattle.machine_merge.proofs.Standing.{sized}

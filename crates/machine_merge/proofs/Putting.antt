@@ -1,24 +1,16 @@
 -- What a merge of what is held comes to: the trace or the line that the program puts.
 -- Assumes nothing.
-use mathlib.Core.Path.{_≡_, refl, sym, _∙_, ap}
-use mathlib.Core.List.{List, [], _∷_}
-use mathlib.Core.Option.{none}
-use Prim.Native.Nat.{ℕ, zero, suc, _+_, _≤_}
-use native.Mathlib.Omega.{arith}
-use lib.ListN.{length, take, drop, replicate}
-use lib.Seq.{sets, sets-eq, take-at}
-use borrow.Author.Tests.{le-ltb}
-use Rattle.model.specs.declared.Fields.{Fields}
-use Rattle.model.specs.declared.Refusal.{Refusal}
-use Rattle.model.specs.declared.MergeAnswer.the-variants as merge-answer
+use Rattle.laws.specs.Basics.{_≡_, refl, sym, _∙_, ap, List, [], _∷_, none, ℕ, zero, suc, _+_, _≤_, arith, length, take, drop, replicate, sets, le-ltb}
+use lib.Seq.{sets-eq, take-at}
+use Rattle.model.specs.declared.{Fields.Fields, Refusal.Refusal}
 use Rattle.theory_merges.specs.Halves.{HalfEvent}
 use Rattle.theory_merges.specs.Merge.{halfEventOf, nextRecord, Taken, stopped, took, takeFrom, takeAll, countOf, afterFirstByte, fieldsIn, mergeRefusal, plainBytes, MergeOutcome, finished, mergeOutcome}
 use Rattle.model.specs.laws.Refusals.{by-refusal}
-use Rattle.theory_merges.proofs.Keeping.{next-out, record-out}
-use Rattle.theory_merges.proofs.Replaying.{plain-length, how-many, fine}
+use Rattle.theory_merges.proofs.{Keeping.next-out, Keeping.record-out, Replaying.plain-length, Replaying.how-many, Replaying.fine}
 use Rattle.library_halves.proofs.Rules.{after-first-is}
 use Rattle.machine_merge.specs.Printed.{refusing, putting, printed}
 use Rattle.machine_merge.proofs.Standing.{long-enough, refused-text}
+use Rattle.model.specs.declared.MergeAnswer.the-variants as merge-answer
 
 -- All records are taken, each once.
 took-all : (n set k : ℕ) (T taken : List HalfEvent) (first second : List Fields) → takeFrom k n set taken first second ≡ took T → length T ≡ length taken + k

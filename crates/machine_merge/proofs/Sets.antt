@@ -1,20 +1,9 @@
 -- The set, judged whole: one of 65,536 or more has a bit at 16 or above, and so at n or above in every run. Whichever it is, the same is printed for it.
 -- Assumes nothing.
-use mathlib.Core.Path.{_≡_, sym, _∙_, ap}
-use mathlib.Core.Bool.{true, _||_}
-use mathlib.Core.List.{List}
-use mathlib.Core.Option.{none, some}
-use Prim.Native.Nat.{ℕ, _+_, _^_, _≤_, _<_}
-use native.Mathlib.Omega.{arith}
-use lib.Dec.{leb}
-use lib.ListN.{length, replicate}
+use Rattle.laws.specs.Basics.{_≡_, sym, _∙_, ap, true, _||_, List, none, some, ℕ, _+_, _^_, _≤_, _<_, arith, leb, length, replicate, lt-ltb, le-ltb, le-leb, by-bool}
 use lib.Pow.{pow-mono}
-use borrow.Author.Tests.{le-leb, lt-ltb, le-ltb}
-use Rattle.laws.specs.Choice.{by-bool}
-use Rattle.laws.specs.Rows.{by-lt}
-use Rattle.laws.specs.Truth.{or-none, never-both}
-use Rattle.model.specs.Refusals.{firstOf}
-use Rattle.model.specs.laws.Refusals.{by-refusal, no-rule}
+use Rattle.laws.specs.{Rows.by-lt, Truth.or-none, Truth.never-both}
+use Rattle.model.specs.{Refusals.firstOf, laws.Refusals.by-refusal, laws.Refusals.no-rule}
 use Rattle.theory_merges.specs.Merge.{countOf, badCount, mergeRefusal}
 use Rattle.theory_merges.proofs.Replaying.{good-count, fine}
 use Rattle.machines.specs.programs.Numbers.{decimalIn, numberIn, atMost}

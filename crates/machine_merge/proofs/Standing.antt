@@ -1,23 +1,13 @@
 -- What is held of a half stands for the whole of it: the program prints for it what it prints for the whole.
 -- Assumes nothing.
-use mathlib.Core.Path.{_≡_, refl, sym, _∙_, ap}
-use mathlib.Core.Bool.{false}
-use mathlib.Core.List.{List, [], _∷_}
-use mathlib.Core.Option.{some}
-use Prim.Native.Nat.{ℕ, zero, suc, _+_, _-_, _/_, _%_, _≤_, _<_}
-use native.Mathlib.Omega.{arith}
-use lib.Dec.{eqb, leb, ltb}
-use lib.ListN.{length, take, replicate, length-replicate}
-use lib.Seq.{take-all, length-take-le}
-use borrow.Author.Tests.{eq-eqb, ne-eqb, le-leb, lt-leb, lt-ltb, le-ltb, leb-true, leb-false}
-use Rattle.laws.specs.Choice.{by-bool, by-eq}
+use Rattle.laws.specs.Basics.{_≡_, refl, sym, _∙_, ap, false, List, [], _∷_, some, ℕ, zero, suc, _+_, _-_, _/_, _%_, _≤_, _<_, arith, eqb, ltb, leb, length, take, replicate, length-replicate, length-take-le, eq-eqb, ne-eqb, lt-ltb, le-ltb, le-leb, lt-leb, leb-true, leb-false, by-bool, by-eq}
+use lib.Seq.{take-all}
 use Rattle.model.specs.declared.Refusal.{Refusal}
 use Rattle.theory_merges.specs.Merge.{countOf, afterFirstByte, badCount, leftOver, tooMany, mergeRefusal}
 use Rattle.model.specs.laws.Refusals.{by-refusal}
 use Rattle.theory_merges.proofs.Replaying.{fine}
 use Rattle.library_halves.proofs.Rules.{after-first-is}
-use Rattle.machine_merge.specs.Buffered.{bufferedSize, bufferedOf}
-use Rattle.machine_merge.specs.Printed.{refusing, printed}
+use Rattle.machine_merge.specs.{Buffered.bufferedSize, Buffered.bufferedOf, Printed.refusing, Printed.printed}
 
 -- How many bytes are held: all, or 16,389 to 16,392, as many after whole records as of the whole.
 pub record Size (total : ℕ) : Type 0 where

@@ -1,22 +1,14 @@
 -- What is lent stands for a state, before and after a step.
 -- Assumes nothing.
-use mathlib.Core.Path.{_≡_, refl, sym, subst}
-use mathlib.Core.Bool.{Bool, true, false, not, _||_}
-use mathlib.Core.List.{List}
-use Prim.Native.Nat.{ℕ}
-use native.Mathlib.Omega.{arith}
-use lib.Dec.{ltb}
-use lib.ListN.{length}
-use borrow.Author.Tests.{le-ltb, ltb-false}
+use Rattle.laws.specs.Basics.{_≡_, refl, sym, subst, Bool, true, false, not, _||_, List, ℕ, arith, ltb, length, le-ltb, ltb-false}
 use Rattle.laws.specs.Truth.{or-none}
-use Rattle.machines.specs.declared.Request as requests
-use Rattle.machines.specs.declared.Request.the-variants as request
-use Rattle.machines.specs.declared.Answer as answers
-use Rattle.machines.specs.Machines.{Answer, stepped}
-use Rattle.machines.specs.Forms.{requestOf, Placed, GoesTo, answerOf}
+use Rattle.machines.specs.{Machines.Answer, Machines.stepped, Forms.requestOf, Forms.Placed, Forms.GoesTo, Forms.answerOf}
 use Rattle.machine_merge.specs.declared.marks.Marks.{Marks}
 use Rattle.machine_merge.specs.Merging.{longestWord, State, ask, next, merging}
 use Rattle.machine_merge.specs.Words.{longestTrace, EnoughRoom, lacksRoom, marksOf, inBounds, stateIn, stateOf, placeIn, placeOf, asksFor, StandsFor, Arrives}
+use Rattle.machines.specs.declared.Request as requests
+use Rattle.machines.specs.declared.Request.the-variants as request
+use Rattle.machines.specs.declared.Answer as answers
 
 -- Room, as a test and as a fact.
 pub room-is : (memory input out : ℕ) → EnoughRoom memory input out → lacksRoom memory input out ≡ false

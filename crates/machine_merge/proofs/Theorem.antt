@@ -1,16 +1,8 @@
 -- What the machine does with every list of answers.
 -- Assumes nothing.
-use mathlib.Core.Path.{_≡_, refl, sym, _∙_, ap, subst}
-use mathlib.Core.Bool.{Bool, true, false, _||_}
-use mathlib.Core.List.{List, [], _∷_, _++_, append-nil}
-use mathlib.Core.Option.{Option, none, some}
-use Prim.Native.Nat.{ℕ, zero, suc, _+_, _≤_, _<_}
-use native.Mathlib.Omega.{arith}
-use lib.Dec.{eqb, ltb, leb}
-use lib.ListN.{length, take, replicate, length-append}
+use Rattle.laws.specs.Basics.{_≡_, refl, sym, _∙_, ap, subst, Bool, true, false, _||_, List, [], _∷_, _++_, append-nil, Option, none, some, ℕ, zero, suc, _+_, _≤_, _<_, arith, eqb, ltb, leb, length, take, replicate, length-append, eqb-false, ltb-true, ltb-false, le-leb, lt-leb, pick, by-bool}
 use lib.Seq.{take-take}
-use borrow.Author.Tests.{lt-leb, le-leb, ltb-true, ltb-false, eqb-false}
-use Rattle.laws.specs.Choice.{pick, pick-same, by-bool}
+use Rattle.laws.specs.Choice.{pick-same}
 use Rattle.model.specs.laws.Refusals.{by-refusal}
 use Rattle.machines.specs.programs.Numbers.{decimalIn, standsFor, numberIn, noNumber, atMost}
 use Rattle.machines.specs.Machines.{Read, Write, Say, Fail, Stop, Answer, Number, Bytes, End, Done, Failed, Exchange, heard, heardCount, heardWord, heardRead, heardDone, isNumber, stepped, exchanged, stateAfter, exchanges, written, writtenOf, requestsOf, brought}
@@ -20,8 +12,7 @@ use Rattle.machine_merge.specs.Buffered.{mostKept, mostCounted, buffered
 use Rattle.machine_merge.specs.Printed.{Printed, putting, printed}
 use Rattle.machine_merge.specs.Merging.{usage, longestWord, longestName, outputName, Stage, FirstHalf, SecondHalf, State, Counting, Setting, Naming, Opening, Reading, Writing, Reporting, Failing, Stopped, wordOf, ask, shown, showing, halfRead, ended, onward, afterCount, afterSet, afterName, afterOpen, afterRead, afterWrite, next, merging}
 use Rattle.machine_merge.specs.Promised.{Met, nothing, opened, grown, readOn, worded, met, metIn, wholeFile, isWhole, mergeOf, mergedOf, traceOf, refusalOf, lineOf, MergesAlways, SaysFailures}
-use Rattle.machine_merge.proofs.Standing.{sized, refused-text, printed-same}
-use Rattle.machine_merge.proofs.Sets.{asked-set}
+use Rattle.machine_merge.proofs.{Standing.sized, Standing.refused-text, Standing.printed-same, Sets.asked-set}
 
 -- What is kept and counted of a file.
 record Kept (file kept : List ℕ) (total : ℕ) : Type 0 where

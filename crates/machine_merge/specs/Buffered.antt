@@ -1,11 +1,7 @@
 -- What is held of a half once it is read to its end: of more than 16,392 bytes, 4,097 records and as many bytes after them as are left over. Such a half has too
 -- many records, and no number that it can meet depends on anything else (proofs/Standing).
 -- Assumes nothing.
-use mathlib.Core.List.{List, _++_}
-use Prim.Native.Nat.{ℕ, _+_, _-_, _%_}
-use lib.Dec.{ltb, leb}
-use lib.ListN.{length, take}
-use Rattle.laws.specs.Choice.{pick}
+use Rattle.laws.specs.Basics.{List, _++_, ℕ, _+_, _-_, _%_, ltb, leb, length, take, pick}
 
 -- At most this many bytes of a half are kept; all others are only counted.
 abbrev pub mostKept : ℕ

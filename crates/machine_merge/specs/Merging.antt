@@ -1,15 +1,9 @@
 -- The program `merge` as a machine: it takes the set, reads one half after the other to its end, writes the merged trace or reports why there is none, and stops.
 -- Assumes nothing.
-use mathlib.Core.List.{List, [], _∷_, _++_}
-use mathlib.Core.Option.{none}
-use Prim.Native.Nat.{ℕ, _+_}
-use lib.Dec.{eqb, ltb}
-use lib.ListN.{length, take}
-use Rattle.laws.specs.Choice.{pick}
+use Rattle.laws.specs.Basics.{List, [], _∷_, _++_, none, ℕ, _+_, eqb, ltb, length, take, pick}
 use Rattle.machines.specs.programs.Numbers.{numberIn, noNumber, atMost}
 use Rattle.machines.specs.Machines.{Request, Count, Argument, Open, Read, Write, Say, Fail, Stop, Answer, Number, Bytes, End, Done, Failed, Machine, isNumber}
-use Rattle.machine_merge.specs.Buffered.{mostCounted, bufferedSize, wanted, keeping}
-use Rattle.machine_merge.specs.Printed.{Printed, printed}
+use Rattle.machine_merge.specs.{Buffered.mostCounted, Buffered.bufferedSize, Buffered.wanted, Buffered.keeping, Printed.Printed, Printed.printed}
 
 -- The bytes of the longest word that the system hands to a program, and of the longest name of a file.
 abbrev pub longestWord : ℕ

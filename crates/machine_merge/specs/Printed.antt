@@ -1,8 +1,6 @@
 -- What the program puts for two files and a set: the merged trace, or a line with the number of the refusal.
 -- Assumes nothing.
-use mathlib.Core.List.{List, [], _∷_}
-use Prim.Native.Nat.{ℕ, _+_}
-use lib.ListN.{length, replicate}
+use Rattle.laws.specs.Basics.{List, [], _∷_, ℕ, _+_, length, replicate}
 use Rattle.model.specs.declared.Refusal.{Refusal}
 use Rattle.whole_runs.specs.Outcomes.{judged}
 use Rattle.machines.specs.programs.Texts.{refusedText}

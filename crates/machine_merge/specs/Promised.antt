@@ -1,17 +1,9 @@
 -- What is promised of the program, over every list of answers of the system.
 -- Assumes nothing.
-use mathlib.Core.Path.{_≡_}
-use mathlib.Core.Bool.{Bool, true, false, _||_}
-use mathlib.Core.List.{List, [], _∷_, _++_}
-use mathlib.Core.Option.{Option, none, some}
-use Prim.Native.Nat.{ℕ, _+_}
-use lib.Dec.{eqb, leb}
-use lib.ListN.{length}
-use Rattle.laws.specs.Choice.{pick}
+use Rattle.laws.specs.Basics.{_≡_, Bool, true, false, _||_, List, [], _∷_, _++_, Option, none, some, ℕ, _+_, eqb, leb, length, pick}
 use Rattle.machines.specs.programs.Numbers.{decimalIn}
 use Rattle.machines.specs.Machines.{Request, Count, Argument, Open, Read, Write, Say, Fail, Stop, Answer, Number, Bytes, End, Done, Failed, Exchange, heard, stepped, asked, exchanges, stateAfter, writtenOf, brought}
-use Rattle.machine_merge.specs.Buffered.{mostCounted}
-use Rattle.machine_merge.specs.Printed.{printed}
+use Rattle.machine_merge.specs.{Buffered.mostCounted, Printed.printed}
 use Rattle.machine_merge.specs.Merging.{State, Stage, Naming, Opening, Reading, usage, noNameText, fileText, outputName, ask, merging}
 
 -- What the exchanges brought so far: the word of the set; the bytes that were read of each file that was opened, latest first; whether the latest has ended.

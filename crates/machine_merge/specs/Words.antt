@@ -1,20 +1,13 @@
 -- The machine's state in what a caller lends: seven numbers; the buffer that words and files are read into; the buffer for what is written and reported.
 -- Assumes nothing.
-use mathlib.Core.Path.{_≡_}
-use mathlib.Core.Bool.{Bool, true, _&&_, _||_}
-use mathlib.Core.List.{List}
-use Prim.Native.Nat.{ℕ, _+_, _≤_, min}
-use lib.Dec.{eqb, ltb, leb}
-use lib.ListN.{length, getD, take, drop}
-use Rattle.laws.specs.Choice.{pick}
-use Rattle.machines.specs.declared.Request as requests
-use Rattle.machines.specs.declared.Request.the-variants as request
-use Rattle.machines.specs.declared.Answer as answers
-use Rattle.machines.specs.Machines.{stepped}
-use Rattle.machines.specs.Forms.{answerOf, Asks}
+use Rattle.laws.specs.Basics.{_≡_, Bool, true, _&&_, _||_, List, ℕ, _+_, _≤_, min, eqb, ltb, leb, length, getD, take, drop, pick}
+use Rattle.machines.specs.{Machines.stepped, Forms.answerOf, Forms.Asks}
 use Rattle.machine_merge.specs.declared.marks.Marks.{Marks}
 use Rattle.machine_merge.specs.Buffered.{mostKept, mostCounted, bufferedSize, wanted}
 use Rattle.machine_merge.specs.Merging.{longestWord, longestName, Stage, FirstHalf, SecondHalf, State, Counting, Setting, Naming, Opening, Reading, Writing, Reporting, Failing, Stopped, ask, halfRead, onward, merging}
+use Rattle.machines.specs.declared.Request as requests
+use Rattle.machines.specs.declared.Request.the-variants as request
+use Rattle.machines.specs.declared.Answer as answers
 
 -- There is room for the seven numbers, for the longest word, and for both halves in one trace.
 abbrev pub longestTrace : ℕ

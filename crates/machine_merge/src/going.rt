@@ -8,14 +8,11 @@ use crate::marks::SECOND_HALF;
 use machines::Answer;
 use machines::heard;
 use machines::heard::Taken;
-use model::MergeAnswer;
 use machines::programs::numbers::NO_NUMBER;
-ghost use mathlib.Core.List.{List};
-ghost use Prim.Native.Nat.{ℕ, _+_, _≤_, _<_};
-ghost use lib.ListN.{length};
+use model::MergeAnswer;
+ghost use Rattle.laws.specs.Basics.{List, ℕ, _+_, _≤_, _<_, length};
 ghost use Rattle.machines.specs.Machines.{Bytes};
-ghost use Rattle.machine_merge.specs.Buffered.{mostCounted};
-ghost use Rattle.machine_merge.specs.Printed.{printed};
+ghost use Rattle.machine_merge.specs.{Buffered.mostCounted, Printed.printed};
 ghost use Rattle.machine_merge.specs.Merging.{longestWord, longestName, Counting, Setting, Naming, Opening, Writing, Reporting, Failing, Stopped, noNameText, fileText, showing, afterSet};
 ghost use Rattle.machine_merge.specs.Words.{longestTrace, Fits, nameAt, readTo, stageOf, nameOf, stateIn, openingOf, readingOf, onwardOf, endedOf, placeIn, Arrives, Leads};
 

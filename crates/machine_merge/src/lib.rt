@@ -9,10 +9,8 @@ mod going;
 
 use machines::Answer;
 use machines::Request;
-ghost use mathlib.Core.Path.{_≡_};
-ghost use lib.ListN.{length};
-ghost use Rattle.machines.specs.Machines.{stepped};
-ghost use Rattle.machines.specs.Forms.{answerOf};
+ghost use Rattle.laws.specs.Basics.{_≡_, length};
+ghost use Rattle.machines.specs.{Machines.stepped, Forms.answerOf};
 ghost use Rattle.machine_merge.specs.Merging.{Counting, merging};
 ghost use Rattle.machine_merge.specs.Words.{EnoughRoom, lacksRoom, stateOf, placeOf, StandsFor};
 

@@ -2,11 +2,8 @@
 use library_halves::MOST_OF_HALF;
 use machines::Request;
 use machines::programs::numbers::GREATEST;
-ghost use mathlib.Core.Path.{_≡_};
-ghost use Prim.Native.Nat.{_+_, _*_, _≤_};
-ghost use lib.ListN.{length};
-ghost use Rattle.machine_merge.specs.Buffered.{bufferedSize, wanted, mostKept};
-ghost use Rattle.machine_merge.specs.Merging.{longestName};
+ghost use Rattle.laws.specs.Basics.{_≡_, _+_, _*_, _≤_, length};
+ghost use Rattle.machine_merge.specs.{Buffered.bufferedSize, Buffered.wanted, Buffered.mostKept, Merging.longestName};
 ghost use Rattle.machine_merge.specs.Words.{marksOf, atPhase, inBounds, nameAt, halfAt, readTo, wordAt, asksFor};
 
 // The phase; 0 for the first half, every other number for the second; the set; how many bytes are held of the first half; how long the name of the file is; how many

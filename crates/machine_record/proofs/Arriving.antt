@@ -1,27 +1,17 @@
 -- The numbers of a state, and the states that they stand for.
 -- Assumes nothing.
-use mathlib.Core.Path.{_≡_, refl, sym, _∙_, ap}
-use mathlib.Core.Bool.{true, false}
-use mathlib.Core.List.{List, [], _∷_}
-use Prim.Native.Nat.{ℕ, _+_, _-_, _≤_, _<_}
-use native.Mathlib.Omega.{arith}
-use lib.Dec.{eqb}
-use lib.ListN.{length, take}
-use lib.Seq.{length-sets, length-take-le}
-use borrow.Author.Tests.{lt-ltb, le-ltb, le-leb}
-use Rattle.laws.specs.Choice.{by-bool}
+use Rattle.laws.specs.Basics.{_≡_, refl, sym, _∙_, ap, true, false, List, [], _∷_, ℕ, _+_, _-_, _≤_, _<_, arith, eqb, length, take, length-take-le, lt-ltb, le-ltb, le-leb, by-bool}
+use lib.Seq.{length-sets}
 use Rattle.model.specs.Refusals.{number}
 use Rattle.whole_runs.specs.Listing.{mostRecords}
 use Rattle.listing.specs.Printed.{Printed}
-use Rattle.machines.specs.declared.Request as requests
-use Rattle.machines.specs.declared.Request.the-variants as request
 use Rattle.machines.specs.Machines.{Answer, stepped}
 use Rattle.machine_record.specs.declared.marks.Marks.{Marks}
-use Rattle.machine_record.specs.Recorded.{refusedLine, endLine}
+use Rattle.machine_record.specs.{Recorded.refusedLine, Recorded.endLine, Played.blockLines, Lent.inBounds, Lent.positionOf, Lent.stateIn, Lent.Arrives}
 use Rattle.machine_record.specs.Machine.{Position, counting, naming, beginning, writing, reporting, ending, failing, stopped, machine, next, toRead, toReport, toWrite, toEnd}
-use Rattle.machine_record.specs.Played.{blockLines}
-use Rattle.machine_record.specs.Lent.{inBounds, positionOf, stateIn, Arrives}
 use Rattle.machine_record.proofs.Emptied.{front}
+use Rattle.machines.specs.declared.Request as requests
+use Rattle.machines.specs.declared.Request.the-variants as request
 
 pub bounds : (m : Marks) (out : ℕ) → m .left ≤ 4000000001 → m .done ≤ mostRecords → m .kept ≤ 3 → m .size ≤ out → m .pending ≤ blockLines → inBounds m out ≡ true
 unfolding inBounds

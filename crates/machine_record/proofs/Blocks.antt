@@ -1,23 +1,14 @@
 -- The loop over the records of a block.
 -- Assumes nothing.
-use mathlib.Core.Path.{_≡_, refl, sym, _∙_, ap}
-use mathlib.Core.List.{List, [], _∷_, _++_, append-nil, append-assoc}
-use mathlib.Core.Option.{Option}
-use Prim.Native.Nat.{ℕ, _+_, _-_, _*_, _≤_, _<_}
-use native.Mathlib.Omega.{arith}
-use lib.ListN.{length, take, drop, length-drop}
-use lib.Seq.{length-sets, drop-drop, length-take-le}
-use borrow.Author.Tests.{le-leb, eq-eqb}
-use Rattle.laws.specs.Choice.{pick}
-use Rattle.model.specs.declared.Event.{Event}
-use Rattle.model.specs.declared.Run.{Run}
+use Rattle.laws.specs.Basics.{_≡_, refl, sym, _∙_, ap, List, [], _∷_, _++_, append-nil, append-assoc, Option, ℕ, _+_, _-_, _*_, _≤_, _<_, arith, length, take, drop, length-drop, length-take-le, eq-eqb, le-leb, pick}
+use lib.Seq.{length-sets, drop-drop}
+use Rattle.model.specs.declared.{Event.Event, Run.Run}
 use Rattle.model.specs.Trace.{decoded}
 use Rattle.trace.specs.Answers.{recordAt, eventIn}
 use Rattle.machine_record.specs.declared.block.Taken.{Taken}
 use Rattle.machine_record.specs.Records.{Standing, standingNext, bytesOf, lineOf, standingAfter, bytesAfter, linesAfter}
 use Rattle.machine_record.specs.Played.{longestLine, standingOf, TakesOne, TakesAll}
-use Rattle.machine_record.proofs.Emptied.{front}
-use Rattle.machine_record.proofs.Parts.{few-bytes}
+use Rattle.machine_record.proofs.{Emptied.front, Parts.few-bytes}
 
 -- One record and those after it.
 one-standing : (g : Standing) (l : List ℕ) → 4 ≤ length l → standingAfter g l ≡ standingAfter (standingNext g (decoded (take 4 l))) (drop 4 l)

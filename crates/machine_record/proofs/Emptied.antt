@@ -1,26 +1,11 @@
 -- What is recorded in emptied buffers is what one long buffer holds.
 -- Assumes nothing.
-use mathlib.Core.Path.{_≡_, refl, sym, _∙_, ap, subst}
-use mathlib.Core.Bool.{false}
-use mathlib.Core.List.{List, [], _∷_, _++_, append-nil, append-assoc}
-use mathlib.Core.Logic.{_⊎_, inl, inr}
-use mathlib.Core.Option.{Option, none, some}
-use Prim.Native.Nat.{ℕ, _+_, _-_, _≤_}
-use native.Mathlib.Omega.{arith}
-use lib.Dec.{ltb}
-use lib.ListN.{length, take, drop, replicate, length-append, length-replicate}
-use lib.Seq.{sets, sets-eq, length-sets, take-at, length-take-le}
-use borrow.Author.Tests.{ltb-false, le-ltb}
-use Rattle.laws.specs.Choice.{by-bool}
-use Rattle.model.specs.declared.Event.{Event}
+use Rattle.laws.specs.Basics.{_≡_, refl, sym, _∙_, ap, subst, false, List, [], _∷_, _++_, append-nil, append-assoc, Option, none, some, _⊎_, inl, inr, ℕ, _+_, _-_, _≤_, arith, ltb, length, take, drop, replicate, length-append, length-replicate, sets, length-take-le, le-ltb, ltb-false, by-bool}
+use lib.Seq.{sets-eq, length-sets, take-at}
+use Rattle.model.specs.declared.{Event.Event, Refusal.Refusal, Run.Run}
 use Rattle.model.specs.declared.Event.the-variants.{Checkpoint, Send, Deliver, Lose, Recover}
-use Rattle.model.specs.declared.Refusal.{Refusal}
-use Rattle.model.specs.declared.Run.{Run}
-use Rattle.model.specs.Trace.{decoded, fits, encoded, bytesOf as four-bytes}
-use Rattle.model.specs.laws.Refusals.{by-refusal}
-use Rattle.whole_runs.specs.Outcomes.{Outcome, Report}
-use Rattle.whole_runs.specs.Calls.{Call, Reply, answered}
-use Rattle.whole_runs.specs.Listing.{callOf}
+use Rattle.model.specs.{Trace.decoded, Trace.fits, Trace.encoded, Trace.bytesOf as four-bytes, laws.Refusals.by-refusal}
+use Rattle.whole_runs.specs.{Outcomes.Outcome, Outcomes.Report, Calls.Call, Calls.Reply, Calls.answered, Listing.callOf}
 use Rattle.theory_recording.specs.Replay.{recordBytes}
 use Rattle.theory_recording.specs.Recording.{Recorded, Tape, Taped, unwritten, appended, recording, taped, recorded, recordedCheckpoint, recordedSend, recordedDeliver, recordedLose, recordedRecover, tapeAfter}
 use Rattle.machine_record.specs.Recorded.{callIn, callsIn, lent, inFront, recordedIn, lineFor, linesIn}

@@ -1,22 +1,13 @@
 -- A block that is taken, and the bytes that are left over of it.
 -- Assumes nothing.
-use mathlib.Core.Path.{_≡_, refl, sym, _∙_, ap}
-use mathlib.Core.List.{List, [], _∷_}
-use Prim.Native.Nat.{ℕ, suc, _+_, _-_, _*_, _≤_}
-use native.Mathlib.Omega.{arith}
-use lib.ListN.{length, take, drop, length-drop}
-use lib.Seq.{sets, length-take-le, take-add, drop-at}
+use Rattle.laws.specs.Basics.{_≡_, refl, sym, _∙_, ap, List, [], _∷_, ℕ, suc, _+_, _-_, _*_, _≤_, arith, length, take, drop, length-drop, sets, length-take-le}
+use lib.Seq.{take-add, drop-at}
 use Rattle.model.specs.Trace.{decoded}
 use Rattle.words.specs.Layout.{runOf}
-use Rattle.machine_record.specs.declared.block.Taken.{Taken}
-use Rattle.machine_record.specs.declared.marks.Marks.{Marks}
-use Rattle.machine_record.specs.Recorded.{wholeRecords, leftOver}
-use Rattle.machine_record.specs.Records.{Standing, standingNext, standingAfter}
-use Rattle.machine_record.specs.Machine.{blockTaken, toWrite}
-use Rattle.machine_record.proofs.Emptied.{front}
-use Rattle.machine_record.proofs.Parts.{left-few, counted, done-after}
-use Rattle.machine_record.specs.Played.{TakesAll}
-use Rattle.machine_record.specs.Lent.{positionOf}
+use Rattle.machine_record.specs.declared.{block.Taken.Taken, marks.Marks.Marks}
+use Rattle.machine_record.specs.{Recorded.wholeRecords, Recorded.leftOver, Records.Standing, Records.standingNext, Records.standingAfter, Played.TakesAll}
+use Rattle.machine_record.specs.{Machine.blockTaken, Machine.toWrite, Lent.positionOf}
+use Rattle.machine_record.proofs.{Emptied.front, Parts.left-few, Parts.counted, Parts.done-after}
 
 left-drop : (l : List ℕ) → leftOver l ≡ drop (4 * wholeRecords l) l
 unfolding leftOver wholeRecords

@@ -1,28 +1,18 @@
 -- Which state an answer leads to, by what the code was handed of it.
 -- Assumes nothing.
-use mathlib.Core.Path.{_≡_, refl, sym, _∙_, ap, subst}
-use mathlib.Core.Bool.{Bool, true, false}
-use mathlib.Core.List.{List, [], _∷_, _++_}
-use Prim.Native.Nat.{ℕ, zero, suc, _+_, _-_, _*_, _≤_, _<_, min}
-use native.Mathlib.Omega.{arith}
-use lib.Dec.{leb}
-use lib.ListN.{length, getD, take, drop}
-use lib.Seq.{length-take-le, take-add}
-use borrow.Author.Tests.{lt-ltb, le-ltb, ne-eqb}
-use Rattle.laws.specs.Choice.{pick, by-bool}
+use Rattle.laws.specs.Basics.{_≡_, refl, sym, _∙_, ap, subst, Bool, true, false, List, [], _∷_, _++_, ℕ, zero, suc, _+_, _-_, _*_, _≤_, _<_, min, arith, leb, length, getD, take, drop, length-take-le, ne-eqb, lt-ltb, le-ltb, pick, by-bool}
+use lib.Seq.{take-add}
 use Rattle.model.specs.Refusals.{number}
 use Rattle.whole_runs.specs.Listing.{mostRecords}
-use Rattle.machines.specs.programs.Numbers.{numberIn}
+use Rattle.machines.specs.{programs.Numbers.numberIn, Forms.answerOf, Forms.takenOf}
+use Rattle.machines.specs.Machines.{Answer, Number, Bytes, End, Done, Failed, heard, heardCount, heardWord, heardRead, heardDone, stepped}
+use Rattle.machine_record.specs.declared.marks.Marks.{Marks}
+use Rattle.machine_record.specs.{Recorded.longEnough, Recorded.refusedLine, Recorded.endLine, Lent.positionOf, Lent.Arrives}
+use Rattle.machine_record.specs.Machine.{Position, State, counting, naming, beginning, writing, reporting, reading, ending, failing, machine, ask, next, mostToRead, toRead, toReport, toEnd, counted, sized, begun, beginsWith, blockTaken, usage, argumentsName, inputName, outputName, largestBuffer, longestWord, blockBytes}
 use Rattle.machines.specs.declared.Answer as answers
 use Rattle.machines.specs.declared.Answer.the-variants as answer
 use Rattle.machines.specs.declared.heard.Taken as takens
 use Rattle.machines.specs.declared.heard.Taken.the-variants as taken
-use Rattle.machines.specs.Machines.{Answer, Number, Bytes, End, Done, Failed, heard, heardCount, heardWord, heardRead, heardDone, stepped}
-use Rattle.machines.specs.Forms.{answerOf, takenOf}
-use Rattle.machine_record.specs.declared.marks.Marks.{Marks}
-use Rattle.machine_record.specs.Recorded.{longEnough, refusedLine, endLine}
-use Rattle.machine_record.specs.Machine.{Position, State, counting, naming, beginning, writing, reporting, reading, ending, failing, machine, ask, next, mostToRead, toRead, toReport, toEnd, counted, sized, begun, beginsWith, blockTaken, usage, argumentsName, inputName, outputName, largestBuffer, longestWord, blockBytes}
-use Rattle.machine_record.specs.Lent.{positionOf, Arrives}
 
 pub led : {m : Marks} {words input out lines : List ℕ} {s t : State} → t ≡ s → Arrives m words input out lines s → Arrives m words input out lines t
 led {m} {words} {input} {out} {lines} e w = subst (λ (x : State). Arrives m words input out lines x) (sym e) w

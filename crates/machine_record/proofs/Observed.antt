@@ -1,22 +1,13 @@
 -- Where the machine stands after a list of answers, by what was asked and answered.
 -- Assumes nothing.
-use mathlib.Core.Path.{_≡_, refl, sym, _∙_, ap}
-use mathlib.Core.Bool.{Bool, true, false, _&&_}
-use mathlib.Core.List.{List, [], _∷_, _++_, append-nil, append-assoc}
-use Prim.Native.Nat.{ℕ, _+_, _-_, _≤_, _<_}
-use native.Mathlib.Omega.{arith}
-use lib.Dec.{eqb, ltb, leb}
-use lib.ListN.{length}
-use borrow.Author.Tests.{ltb-true, le-ltb, leb-true, eqb-true}
-use Rattle.laws.specs.Choice.{by-bool}
+use Rattle.laws.specs.Basics.{_≡_, refl, sym, _∙_, ap, Bool, true, false, _&&_, List, [], _∷_, _++_, append-nil, append-assoc, ℕ, _+_, _-_, _≤_, _<_, arith, eqb, ltb, leb, length, eqb-true, le-ltb, ltb-true, leb-true, by-bool}
 use Rattle.whole_runs.specs.Listing.{mostRecords}
 use Rattle.machines.specs.programs.Numbers.{numberIn}
 use Rattle.machines.specs.Machines.{Count, Argument, Read, Write, Say, Fail, Stop, Answer, Number, Bytes, End, Done, Failed, Exchange, heard, heardRead, stepped, stateAfter, exchanges, written, errorText, writtenOf, errorTextOf, brought, readBy, readOf, requestsOf}
 use Rattle.machines.proofs.Runs.{throughout, requests-then, written-then, error-text-then, read-then, written-one, error-text-one}
 use Rattle.machine_record.specs.Recorded.{longEnough, startNumber, recordedTrace, refusedLines, leftOver}
-use Rattle.machine_record.specs.Records.{standingAfter, bytesAfter, linesAfter}
+use Rattle.machine_record.specs.{Records.standingAfter, Records.bytesAfter, Records.linesAfter, Promised.wordsIn, Promised.sizeGiven, Promised.sizeAsked}
 use Rattle.machine_record.specs.Machine.{Position, State, counting, naming, beginning, writing, reporting, reading, ending, failing, stopped, machine, ask, next, mostToRead, toRead, toReport, toWrite, toEnd, counted, sized, begun as machine-begun, beginsWith, blockTaken, longestWord, largestBuffer}
-use Rattle.machine_record.specs.Promised.{wordsIn, sizeGiven, sizeAsked}
 use Rattle.machine_record.proofs.Starts.{first, trace-is, lines-are}
 use Rattle.machine_record.proofs.Parts.{standing-append, left-append, bytes-append, lines-append}
 

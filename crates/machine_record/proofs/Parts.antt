@@ -1,10 +1,6 @@
 -- Records part by part: what two parts come to, one after the other.
 -- Assumes nothing.
-use mathlib.Core.Path.{_≡_, refl, sym, _∙_, ap}
-use mathlib.Core.List.{List, [], _∷_, _++_, append-assoc}
-use Prim.Native.Nat.{ℕ, _+_, _-_, _*_, _<_}
-use native.Mathlib.Omega.{arith}
-use lib.ListN.{length}
+use Rattle.laws.specs.Basics.{_≡_, refl, sym, _∙_, ap, List, [], _∷_, _++_, append-assoc, ℕ, _+_, _-_, _*_, _<_, arith, length}
 use Rattle.model.specs.Trace.{decoded}
 use Rattle.machine_record.specs.Recorded.{wholeRecords, leftOver}
 use Rattle.machine_record.specs.Records.{Standing, standingNext, bytesOf, lineOf, standingAfter, bytesAfter, linesAfter}

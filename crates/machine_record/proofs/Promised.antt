@@ -1,24 +1,13 @@
 -- The promises, proved.
 -- Assumes nothing.
-use mathlib.Core.Path.{_≡_, refl, sym, _∙_, ap}
-use mathlib.Core.Bool.{true, false}
-use mathlib.Core.List.{List, [], _∷_, _++_, append-nil}
-use Prim.Native.Nat.{ℕ, _+_, _-_, _*_, _≤_, _<_}
-use native.Mathlib.Omega.{arith}
-use lib.Dec.{eqb, ltb}
-use lib.ListN.{length}
-use borrow.Author.Tests.{ltb-true, ltb-false}
-use Rattle.laws.specs.Choice.{by-bool}
+use Rattle.laws.specs.Basics.{_≡_, refl, sym, _∙_, ap, true, false, List, [], _∷_, _++_, append-nil, ℕ, _+_, _-_, _*_, _≤_, _<_, arith, eqb, ltb, length, ltb-true, ltb-false, by-bool}
 use Rattle.whole_runs.specs.Listing.{mostRecords}
 use Rattle.machines.specs.Machines.{Request, Read, Write, Say, Fail, Stop, Answer, Bytes, End, Failed, Exchange, heard, heardRead, stepped, stateAfter, asked, exchanges, written, errorText, writtenOf, errorTextOf, readOf, requestsOf}
 use Rattle.machines.proofs.Runs.{asked-is, error-text-then, error-text-one, written-is}
 use Rattle.machine_record.specs.Recorded.{startNumber, recordedTrace, refusedLine, refusedLines, leftOver, endLine, lastLine}
-use Rattle.machine_record.specs.Records.{Standing, standingAfter}
+use Rattle.machine_record.specs.{Records.Standing, Records.standingAfter, Promised.sizeAsked, Promised.RecordsItsInput}
 use Rattle.machine_record.specs.Machine.{Position, State, counting, naming, beginning, writing, reporting, reading, ending, failing, stopped, machine, ask, next, mostToRead, toEnd, begun, beginsWith, inputName, outputName}
-use Rattle.machine_record.specs.Promised.{sizeAsked, RecordsItsInput}
-use Rattle.machine_record.proofs.Parts.{left-few, counted, done-after}
-use Rattle.machine_record.proofs.Starts.{first}
-use Rattle.machine_record.proofs.Observed.{At, Stands, stands}
+use Rattle.machine_record.proofs.{Parts.left-few, Parts.counted, Parts.done-after, Starts.first, Observed.At, Observed.Stands, Observed.stands}
 use Rattle.machine_record.proofs.Ranks.{rank, no-rank, counts, machine-ends}
 
 abbrev Settled : ℕ → List Exchange → Type 0

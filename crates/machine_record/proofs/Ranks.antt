@@ -1,22 +1,13 @@
 -- The machine stops: each answer brings it nearer to its end, or brings bytes.
 -- Assumes nothing.
-use mathlib.Core.Path.{_≡_, refl, _∙_, ap}
-use mathlib.Core.List.{List, [], _∷_, _++_, append-nil}
-use Prim.Native.Nat.{ℕ, _+_, _-_, _*_, _≤_, _<_}
-use native.Mathlib.Omega.{arith}
-use lib.Dec.{eqb, ltb}
-use lib.ListN.{length, length-append}
-use borrow.Author.Tests.{ltb-true, ltb-false}
-use Rattle.laws.specs.Choice.{by-bool}
+use Rattle.laws.specs.Basics.{_≡_, refl, _∙_, ap, List, [], _∷_, _++_, append-nil, ℕ, _+_, _-_, _*_, _≤_, _<_, arith, eqb, ltb, length, length-append, ltb-true, ltb-false, by-bool}
 use Rattle.whole_runs.specs.Listing.{mostRecords}
 use Rattle.machines.specs.programs.Numbers.{numberIn}
 use Rattle.machines.specs.Machines.{Stop, Answer, Number, Bytes, End, Done, Failed, Exchange, Ends, heard, stepped, brought, readBy, readOf, exchanges, stateAfter}
 use Rattle.machines.proofs.Runs.{throughout, read-then}
-use Rattle.machine_record.specs.Recorded.{startNumber, endLine, leftOver}
-use Rattle.machine_record.specs.Records.{standingAfter, bytesAfter, linesAfter}
+use Rattle.machine_record.specs.{Recorded.startNumber, Recorded.endLine, Recorded.leftOver, Records.standingAfter, Records.bytesAfter, Records.linesAfter}
 use Rattle.machine_record.specs.Machine.{Position, State, counting, naming, beginning, writing, reporting, reading, ending, failing, stopped, machine, ask, next, mostToRead, toRead, toReport, toWrite, toEnd, counted, sized, begun, beginsWith, blockTaken, largestBuffer}
-use Rattle.machine_record.proofs.Parts.{counted as all-counted, done-after}
-use Rattle.machine_record.proofs.Observed.{Fits, fits}
+use Rattle.machine_record.proofs.{Parts.counted as all-counted, Parts.done-after, Observed.Fits, Observed.fits}
 
 -- How many bytes may still be read, and how many answers come at most before the next that brings bytes.
 unfoldable pub bytesLeft : Position → ℕ

@@ -1,25 +1,9 @@
 -- A start in place through the recorder, in a buffer of no byte or one, and the start in a long buffer.
 -- Assumes nothing.
-use mathlib.Core.Path.{_≡_, refl, sym, _∙_, ap}
-use mathlib.Core.Bool.{true, false, _&&_}
-use mathlib.Core.List.{List, [], _∷_, _++_}
-use mathlib.Core.Option.{none}
-use Prim.Native.Nat.{ℕ, _+_, _-_, _≤_, min}
-use native.Mathlib.Omega.{arith}
-use lib.Dec.{eqb, ltb, leb}
-use lib.ListN.{length, take, drop, length-append, length-replicate, length-drop}
-use lib.Seq.{sets, length-take-le}
-use borrow.Author.Tests.{lt-ltb, le-ltb, leb-true, ltb-true, ltb-false, eq-eqb, ne-eqb}
-use Rattle.laws.specs.Choice.{by-bool}
+use Rattle.laws.specs.Basics.{_≡_, refl, sym, _∙_, ap, true, false, _&&_, List, [], _∷_, _++_, none, ℕ, _+_, _-_, _≤_, min, arith, eqb, ltb, leb, length, take, drop, length-append, length-replicate, length-drop, sets, length-take-le, eq-eqb, ne-eqb, lt-ltb, le-ltb, ltb-true, ltb-false, leb-true, by-bool}
 use Rattle.laws.specs.Truth.{and-right}
-use Rattle.model.specs.declared.Refusal.{Refusal}
-use Rattle.model.specs.declared.Refusal.the-variants.{BufferTooShort}
-use Rattle.model.specs.declared.StartAnswer.{StartAnswer}
-use Rattle.model.specs.declared.StartAnswer.the-variants.{Refused}
-use Rattle.model.specs.Words.{ones, mostProcesses}
-use Rattle.model.specs.Steps.{startState}
-use Rattle.model.specs.Refusals.{firstOf, startRefusal}
-use Rattle.model.specs.laws.Refusals.{by-refusal}
+use Rattle.model.specs.declared.{Refusal.Refusal, Refusal.the-variants.BufferTooShort, StartAnswer.StartAnswer, StartAnswer.the-variants.Refused}
+use Rattle.model.specs.{Words.ones, Words.mostProcesses, Steps.startState, Refusals.firstOf, Refusals.startRefusal, laws.Refusals.by-refusal}
 use Rattle.whole_runs.specs.Outcomes.{Outcome, Report, startReport, startOutcome}
 use Rattle.whole_runs.proofs.whole.Reached.{refused-number}
 use Rattle.listing.specs.declared.Summary.{Summary}
@@ -28,10 +12,8 @@ use Rattle.theory_recording.specs.Recording.{unwritten, appended, recording, re
 use Rattle.words.specs.Layout.{stateSize, runOf}
 use Rattle.in_place.specs.Starting.{startRefusalIn, startOutcomeIn}
 use Rattle.library_recorder.specs.Recorded.{recordedStartIn}
-use Rattle.machine_record.specs.Recorded.{lent, startNumber, refusedLine}
-use Rattle.machine_record.specs.Machine.{ending, begun as machine-begun}
-use Rattle.machine_record.specs.Played.{longestLine, blockLines}
-use Rattle.machine_record.specs.Lent.{stateIn, Arrives}
+use Rattle.machine_record.specs.{Recorded.lent, Recorded.startNumber, Recorded.refusedLine, Machine.ending, Machine.begun as machine-begun}
+use Rattle.machine_record.specs.{Played.longestLine, Played.blockLines, Lent.stateIn, Lent.Arrives}
 use Rattle.machine_record.proofs.Arriving.{bounds}
 
 refusal-same : (n : ℕ) → startRefusalIn 6464 n ones ≡ startRefusal n ones

@@ -1,26 +1,16 @@
 -- The start of a recording, and Note 9 of what the program writes.
 -- Assumes nothing.
-use mathlib.Core.Path.{_≡_, refl, sym, _∙_, ap}
-use mathlib.Core.Bool.{true, false}
-use mathlib.Core.List.{List, [], _∷_, _++_}
-use Prim.Native.Nat.{ℕ, _+_, _-_, _*_, _≤_}
-use native.Mathlib.Omega.{arith}
-use lib.Dec.{eqb}
-use lib.ListN.{length, take, drop, length-replicate, length-drop}
+use Rattle.laws.specs.Basics.{_≡_, refl, sym, _∙_, ap, true, false, List, [], _∷_, _++_, ℕ, _+_, _-_, _*_, _≤_, arith, eqb, length, take, drop, length-replicate, length-drop}
 use lib.Seq.{take-at}
-use Rattle.model.specs.declared.StartAnswer.{StartAnswer}
-use Rattle.model.specs.declared.StartAnswer.the-variants.{Refused, Started}
-use Rattle.model.specs.Words.{ones}
-use Rattle.model.specs.Steps.{startState}
-use Rattle.whole_runs.specs.Outcomes.{startReport}
-use Rattle.whole_runs.specs.Listing.{stateAfterRecords}
+use Rattle.model.specs.declared.{StartAnswer.StartAnswer, StartAnswer.the-variants.Refused, StartAnswer.the-variants.Started}
+use Rattle.model.specs.{Words.ones, Steps.startState}
+use Rattle.whole_runs.specs.{Outcomes.startReport, Listing.stateAfterRecords}
 use Rattle.whole_runs.proofs.whole.Reached.{refused-number}
 use Rattle.theory_recording.specs.Replay.{recordsOf}
 use Rattle.theory_recording.specs.Recording.{recordedStart, begun, tapeAfter, entries, traceOf, ReplaysTheSame, RecordingReplays}
 use Rattle.theory_recording.proofs.Recording.{recording-replays}
 use Rattle.machine_record.specs.Recorded.{callsIn, lent, startNumber, inFront, tapeOf, recordedTrace, refusedLines}
-use Rattle.machine_record.specs.Records.{Standing, bytesAfter, linesAfter, StandsAt}
-use Rattle.machine_record.specs.Promised.{WrittenReplays}
+use Rattle.machine_record.specs.{Records.Standing, Records.bytesAfter, Records.linesAfter, Records.StandsAt, Promised.WrittenReplays}
 use Rattle.machine_record.proofs.Emptied.{same}
 
 -- An accepted start: a long buffer stands where the emptied one does, with the count in front.

@@ -1,30 +1,15 @@
 -- What the functions leave that take records.
 -- Assumes nothing.
-use mathlib.Core.Path.{_≡_, refl, sym, _∙_, ap}
-use mathlib.Core.Bool.{true, false}
-use mathlib.Core.List.{List, [], _∷_}
-use mathlib.Core.Option.{Option, none, some}
-use Prim.Native.Nat.{ℕ, _+_, _-_, _≤_}
-use native.Mathlib.Omega.{arith}
-use lib.Dec.{ltb}
-use lib.ListN.{length, take, length-replicate}
-use lib.Seq.{sets}
-use borrow.Author.Tests.{ltb-true, ltb-false, lt-ltb, le-ltb}
-use Rattle.laws.specs.Choice.{by-bool}
-use Rattle.model.specs.declared.Event.{Event}
-use Rattle.model.specs.declared.Run.{Run}
+use Rattle.laws.specs.Basics.{_≡_, refl, sym, _∙_, ap, true, false, List, [], _∷_, Option, none, some, ℕ, _+_, _-_, _≤_, arith, ltb, length, take, length-replicate, sets, lt-ltb, le-ltb, ltb-true, ltb-false, by-bool}
+use Rattle.model.specs.declared.{Event.Event, Run.Run}
 use Rattle.model.specs.Refusals.{number}
-use Rattle.whole_runs.specs.Outcomes.{Report}
+use Rattle.whole_runs.specs.{Outcomes.Report, Calls.Reply, Calls.answered}
 use Rattle.listing.specs.declared.Summary.{Summary}
-use Rattle.listing.specs.Summarised.{reportIn}
-use Rattle.listing.specs.Printed.{Printed}
+use Rattle.listing.specs.{Summarised.reportIn, Printed.Printed}
 use Rattle.theory_recording.specs.Recording.{Recorded, Tape, taped}
-use Rattle.trace.specs.declared.Decoded.{Decoded}
-use Rattle.trace.specs.declared.Decoded.the-variants.{Malformed, StandsFor}
+use Rattle.trace.specs.declared.{Decoded.Decoded, Decoded.the-variants.Malformed, Decoded.the-variants.StandsFor}
 use Rattle.trace.specs.Answers.{eventRead}
-use Rattle.whole_runs.specs.Calls.{Reply, answered}
-use Rattle.machine_record.specs.declared.calls.Played.{Played}
-use Rattle.machine_record.specs.declared.block.Taken.{Taken}
+use Rattle.machine_record.specs.declared.{calls.Played.Played, block.Taken.Taken}
 use Rattle.machine_record.specs.Recorded.{lent, inFront, recordedIn, lineFor}
 use Rattle.machine_record.specs.Records.{Standing, emptied, taken, standingNext, bytesOf, lineOf}
 use Rattle.machine_record.specs.Played.{tape, Plays, longestLine, placeFor, standingOf, TakesOne}

@@ -1,21 +1,15 @@
 -- The machine's state in what a caller lends: six numbers; the words of the state; the buffer that the input is read into; the buffer for what is written and reported; and a
 -- buffer for lines that are reported after what is written.
 -- Assumes nothing.
-use mathlib.Core.Path.{_≡_}
-use mathlib.Core.Bool.{Bool, true, _&&_}
-use mathlib.Core.List.{List}
-use Prim.Native.Nat.{ℕ, _-_, _*_, min}
-use lib.Dec.{eqb, leb}
-use lib.ListN.{length, getD, take}
-use Rattle.laws.specs.Choice.{pick}
+use Rattle.laws.specs.Basics.{_≡_, Bool, true, _&&_, List, ℕ, _-_, _*_, min, eqb, leb, length, getD, take, pick}
 use Rattle.words.specs.Layout.{runOf, stateSize}
-use Rattle.machines.specs.declared.Request as requests
-use Rattle.machines.specs.declared.Request.the-variants as request
 use Rattle.machines.specs.Forms.{Asks}
 use Rattle.whole_runs.specs.Listing.{mostRecords}
 use Rattle.machine_record.specs.declared.marks.Marks.{Marks}
 use Rattle.machine_record.specs.Played.{blockLines}
 use Rattle.machine_record.specs.Machine.{Position, State, counting, naming, beginning, writing, reporting, reading, ending, failing, stopped, ask, longestWord, blockBytes}
+use Rattle.machines.specs.declared.Request as requests
+use Rattle.machines.specs.declared.Request.the-variants as request
 
 -- As many bytes as are kept of a record, and a word or a block after them; and as many as the longest trace has (`longEnough`).
 abbrev pub inputSize : ℕ

@@ -1,14 +1,8 @@
 -- The program `record` as a machine: what it asks for in each state, and how it goes on.
 -- Assumes nothing.
-use mathlib.Core.List.{List, [], _∷_, _++_}
-use Prim.Native.Nat.{ℕ, _+_, _-_, _*_, min}
-use lib.Dec.{eqb, ltb}
-use lib.ListN.{length}
-use Rattle.laws.specs.Choice.{pick}
+use Rattle.laws.specs.Basics.{List, [], _∷_, _++_, ℕ, _+_, _-_, _*_, min, eqb, ltb, length, pick}
 use Rattle.model.specs.declared.Refusal.the-variants.{NoFirstByte}
-use Rattle.model.specs.Refusals.{number}
-use Rattle.model.specs.Steps.{startState}
-use Rattle.model.specs.Words.{ones}
+use Rattle.model.specs.{Refusals.number, Steps.startState, Words.ones}
 use Rattle.whole_runs.specs.Listing.{mostRecords}
 use Rattle.machines.specs.programs.Numbers.{numberIn}
 use Rattle.machines.specs.Machines.{Machine, Request, Count, Argument, Read, Write, Say, Fail, Stop, Answer, Number, Bytes, End, Done, Failed}

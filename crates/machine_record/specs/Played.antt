@@ -1,18 +1,9 @@
 -- What the functions leave that take records: in the words of the recorder.
 -- Assumes nothing.
-use mathlib.Core.Path.{_≡_}
-use mathlib.Core.List.{List}
-use mathlib.Core.Option.{Option}
-use Prim.Native.Nat.{ℕ, _+_, _-_, _≤_}
-use lib.Dec.{ltb}
-use lib.ListN.{length, take}
-use lib.Seq.{sets}
-use Rattle.laws.specs.Choice.{pick}
-use Rattle.model.specs.declared.Event.{Event}
-use Rattle.model.specs.declared.Run.{Run}
+use Rattle.laws.specs.Basics.{_≡_, List, Option, ℕ, _+_, _-_, _≤_, ltb, length, take, sets, pick}
+use Rattle.model.specs.declared.{Event.Event, Run.Run}
 use Rattle.theory_recording.specs.Recording.{Tape}
-use Rattle.machine_record.specs.declared.calls.Played.{Played}
-use Rattle.machine_record.specs.declared.block.Taken.{Taken}
+use Rattle.machine_record.specs.declared.{calls.Played.Played, block.Taken.Taken}
 use Rattle.machine_record.specs.Recorded.{recordedIn}
 use Rattle.machine_record.specs.Records.{Standing, standingNext, bytesOf, lineOf, standingAfter, bytesAfter, linesAfter}
 

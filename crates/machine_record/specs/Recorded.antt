@@ -1,19 +1,9 @@
 -- What the recorder leaves of an input: each record's call goes through it, the start first, in one buffer of that many bytes (document 02, Note 9).
 -- Assumes nothing.
-use mathlib.Core.List.{List, [], _∷_, _++_}
-use mathlib.Core.Option.{Option, none, some}
-use Prim.Native.Nat.{ℕ, suc, _+_, _*_}
-use lib.Dec.{eqb}
-use lib.ListN.{take, replicate}
-use Rattle.laws.specs.Choice.{pick}
-use Rattle.model.specs.declared.Event.{Event}
-use Rattle.model.specs.declared.Refusal.the-variants.{MalformedRecord, NoFirstByte, LeftOverBytes}
-use Rattle.model.specs.Refusals.{number}
-use Rattle.model.specs.Trace.{decoded}
-use Rattle.model.specs.Words.{ones}
-use Rattle.whole_runs.specs.Outcomes.{refusing, startReport}
-use Rattle.whole_runs.specs.Calls.{Call}
-use Rattle.whole_runs.specs.Listing.{callOf, decimal, lineFeed, mostRecords}
+use Rattle.laws.specs.Basics.{List, [], _∷_, _++_, Option, none, some, ℕ, suc, _+_, _*_, eqb, take, replicate, pick}
+use Rattle.model.specs.declared.{Event.Event, Refusal.the-variants.MalformedRecord, Refusal.the-variants.NoFirstByte, Refusal.the-variants.LeftOverBytes}
+use Rattle.model.specs.{Refusals.number, Trace.decoded, Words.ones}
+use Rattle.whole_runs.specs.{Outcomes.refusing, Outcomes.startReport, Calls.Call, Listing.callOf, Listing.decimal, Listing.lineFeed, Listing.mostRecords}
 use Rattle.theory_recording.specs.Recording.{Tape, Taped, recordedStart, recorded, begun, tapeAfter}
 
 -- The call that a record stands for. A record that is malformed is no call.

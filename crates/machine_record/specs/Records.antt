@@ -1,13 +1,8 @@
 -- The same, record by record, in emptied buffers: between two records the recorder is left with the state, how many bytes of the buffer are left, and how many records it
 -- took. What it wrote has gone. proofs/Emptied has the theorem that nothing of what is written or reported depends on that.
 -- Assumes nothing.
-use mathlib.Core.Path.{_≡_}
-use mathlib.Core.List.{List, [], _∷_, _++_}
-use mathlib.Core.Option.{Option}
-use Prim.Native.Nat.{ℕ, _+_, _-_, _≤_}
-use lib.ListN.{length}
-use Rattle.model.specs.declared.Event.{Event}
-use Rattle.model.specs.declared.Run.{Run}
+use Rattle.laws.specs.Basics.{_≡_, List, [], _∷_, _++_, Option, ℕ, _+_, _-_, _≤_, length}
+use Rattle.model.specs.declared.{Event.Event, Run.Run}
 use Rattle.model.specs.Trace.{decoded}
 use Rattle.theory_recording.specs.Recording.{Tape, Taped}
 use Rattle.machine_record.specs.Recorded.{lent, inFront, recordedIn, lineFor}

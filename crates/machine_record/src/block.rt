@@ -1,14 +1,11 @@
 // The records of a block, each through the recorder: what is recorded goes to the front of `out`, the lines of refused records to the front of `lines`.
 use crate::calls;
 use crate::text;
-ghost use mathlib.Core.Path.{_≡_};
-ghost use Prim.Native.Nat.{_+_, _*_, _≤_};
-ghost use lib.ListN.{length};
+ghost use Rattle.laws.specs.Basics.{_≡_, _+_, _*_, _≤_, length};
 ghost use Rattle.whole_runs.specs.Listing.{mostRecords};
 ghost use Rattle.trace.specs.Answers.{eventIn};
 ghost use Rattle.words.specs.Layout.{runOf};
-ghost use Rattle.machine_record.specs.Records.{Standing};
-ghost use Rattle.machine_record.specs.Machine.{blockBytes};
+ghost use Rattle.machine_record.specs.{Records.Standing, Machine.blockBytes};
 ghost use Rattle.machine_record.specs.Played.{longestLine, blockLines, placeFor, TakesOne, TakesAll};
 
 // How many bytes of the buffer are left and how many records were taken; how many bytes were recorded, and how many are reported.

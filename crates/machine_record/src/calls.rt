@@ -3,12 +3,11 @@ use model::DELETIONS;
 use model::Event;
 use model::PROCESSES;
 use trace::Decoded;
-ghost use mathlib.Core.Path.{_≡_};
-ghost use mathlib.Core.Option.{some};
+ghost use Rattle.laws.specs.Basics.{_≡_, some};
 ghost use Rattle.trace.specs.Answers.{eventIn};
 ghost use Rattle.words.specs.Layout.{runOf};
-ghost use Rattle.model.specs.declared.Event.the-variants as event;
 ghost use Rattle.machine_record.specs.Played.{Plays};
+ghost use Rattle.model.specs.declared.Event.the-variants as event;
 
 // 0 or the number of the refusal, and the place after what was written.
 pub struct Played {

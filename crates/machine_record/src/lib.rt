@@ -19,13 +19,9 @@ mod going;
 use machines::Answer;
 use machines::Request;
 use words::WORDS;
-ghost use mathlib.Core.Path.{_≡_};
-ghost use mathlib.Core.Bool.{true};
-ghost use lib.ListN.{length};
-ghost use Rattle.machines.specs.Machines.{stepped};
-ghost use Rattle.machines.specs.Forms.{answerOf};
-ghost use Rattle.machine_record.specs.Machine.{machine, counting};
-ghost use Rattle.machine_record.specs.Lent.{hasRoom, stateOf, placeOf, StandsFor};
+ghost use Rattle.laws.specs.Basics.{_≡_, true, length};
+ghost use Rattle.machines.specs.{Machines.stepped, Forms.answerOf};
+ghost use Rattle.machine_record.specs.{Machine.machine, Machine.counting, Lent.hasRoom, Lent.stateOf, Lent.placeOf, Lent.StandsFor};
 
 // The bytes of the longest word that is looked at, and of a block (longestWord, blockBytes in the specs of record_machine).
 const LONGEST_WORD: usize = 4096;

@@ -4,12 +4,9 @@ use crate::BLOCK_LINES;
 use crate::LONGEST_WORD;
 use machines::Request;
 use whole_runs::MOST_RECORDS;
-ghost use mathlib.Core.Path.{_≡_};
-ghost use Prim.Native.Nat.{_-_, _*_, _≤_, min};
-ghost use lib.ListN.{length};
-ghost use Rattle.machine_record.specs.Machine.{blockBytes};
+ghost use Rattle.laws.specs.Basics.{_≡_, _-_, _*_, _≤_, min, length};
+ghost use Rattle.machine_record.specs.{Machine.blockBytes, Lent.marksOf, Lent.inBounds, Lent.asksFor};
 ghost use Rattle.whole_runs.specs.Listing.{mostRecords};
-ghost use Rattle.machine_record.specs.Lent.{marksOf, inBounds, asksFor};
 
 // The phase; how many bytes of the buffer are left, and how many records were taken; how many bytes of `input` are kept, how many of `out` are asked for, and how many of
 // `lines` are still to be reported.

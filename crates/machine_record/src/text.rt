@@ -1,11 +1,9 @@
 // The line that is reported of a refused record.
 use machines::programs::text::write_figure;
 use machines::programs::text::write_word;
-ghost use Prim.Native.Nat.{_+_, _≤_};
-ghost use lib.ListN.{length};
+ghost use Rattle.laws.specs.Basics.{_+_, _≤_, length};
 ghost use Rattle.listing.specs.Printed.{Printed};
-ghost use Rattle.machine_record.specs.Recorded.{refusedLine, lineFor};
-ghost use Rattle.machine_record.specs.Played.{longestLine};
+ghost use Rattle.machine_record.specs.{Recorded.refusedLine, Recorded.lineFor, Played.longestLine};
 
 pub fn write_refused(out: &mut [u8], at: usize, number: u64, x: u64) -> usize
     requires { ⌜ at + longestLine ≤ length (now out) ⌝ }

@@ -1,17 +1,8 @@
 -- Where a block of records leads: to a read, to its lines, or to the last lines.
 -- Assumes nothing.
-use mathlib.Core.Path.{_≡_, refl, sym, _∙_, ap}
-use mathlib.Core.Bool.{Bool, true, false, _&&_}
-use mathlib.Core.List.{List, [], _∷_}
-use Prim.Native.Nat.{ℕ, zero, suc, _+_, _-_, _*_, _≤_, _<_}
-use native.Mathlib.Omega.{arith}
-use lib.Dec.{eqb, ltb, leb}
-use lib.ListN.{length, take, drop, length-drop}
-use lib.Seq.{sets, length-take-le, drop-drop, take-at, take-nil}
-use borrow.Author.Tests.{lt-ltb, le-ltb, le-leb, ne-eqb, leb-true, leb-false}
-use Rattle.laws.specs.Choice.{pick, by-bool}
-use Rattle.laws.specs.Truth.{and-no-right}
-use Rattle.laws.specs.Front.{written-front}
+use Rattle.laws.specs.Basics.{_≡_, refl, sym, _∙_, ap, Bool, true, false, _&&_, List, [], _∷_, ℕ, zero, suc, _+_, _-_, _*_, _≤_, _<_, arith, eqb, ltb, leb, length, take, drop, length-drop, sets, length-take-le, ne-eqb, lt-ltb, le-ltb, le-leb, leb-true, leb-false, pick, by-bool}
+use lib.Seq.{drop-drop, take-at, take-nil}
+use Rattle.laws.specs.{Truth.and-no-right, Front.written-front}
 use Rattle.model.specs.declared.Run.{Run}
 use Rattle.whole_runs.specs.Listing.{mostRecords, stateAfterRecords}
 use Rattle.listing.specs.Lines.{longestLine}

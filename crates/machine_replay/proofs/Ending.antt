@@ -1,19 +1,9 @@
 -- The replay program ends after finitely many answers: a number falls with each.
 -- Assumes nothing.
-use mathlib.Core.Path.{_≡_, refl, sym, _∙_, ap}
-use mathlib.Core.Bool.{Bool, true, false, _&&_, false≢true}
-use mathlib.Core.List.{List, [], _∷_, _++_}
-use mathlib.Core.Option.{Option, none, some}
-use Prim.Native.Nat.{ℕ, _+_, _-_, _*_, _≤_, _<_}
-use native.Mathlib.Omega.{arith}
-use lib.Dec.{eqb, ltb, leb}
-use lib.ListN.{length, take, drop, getD, length-append, length-drop}
-use borrow.Author.Tests.{leb-true, eqb-false}
-use Rattle.laws.specs.Choice.{pick, by-bool}
+use Rattle.laws.specs.Basics.{_≡_, refl, sym, _∙_, ap, Bool, true, false, _&&_, false≢true, List, [], _∷_, _++_, Option, none, some, ℕ, _+_, _-_, _*_, _≤_, _<_, arith, eqb, ltb, leb, length, getD, take, drop, length-append, length-drop, eqb-false, leb-true, pick, by-bool}
 use Rattle.laws.specs.Truth.{and-left, and-right}
 use Rattle.model.specs.declared.Refusal.{Refusal}
-use Rattle.model.specs.Words.{ones}
-use Rattle.model.specs.Refusals.{startRefusal}
+use Rattle.model.specs.{Words.ones, Refusals.startRefusal}
 use Rattle.whole_runs.specs.Listing.{mostRecords}
 use Rattle.library_replay.specs.Taken.{BlockOutcome, outcomeOf, blockOutcome, Within, BlocksGoOn}
 use Rattle.library_replay.proofs.Onward.{blocks-go-on}

@@ -1,24 +1,14 @@
 -- Where a replay stands after the bytes that it read: the records taken are the first of them, their lines are written, and the bytes held are the others.
 -- Assumes nothing.
-use mathlib.Core.Path.{_≡_, refl, sym, _∙_, ap}
-use mathlib.Core.Bool.{Bool, true, false, _&&_}
-use mathlib.Core.List.{List, [], _∷_, _++_, append-nil, append-assoc}
-use mathlib.Core.Option.{none}
-use Prim.Native.Nat.{ℕ, _+_, _-_, _*_, _/_, _≤_, _<_}
-use native.Mathlib.Omega.{arith}
-use lib.Dec.{ltb}
-use lib.ListN.{length, take, drop, length-append, length-drop, take-append-drop}
-use lib.Seq.{length-take-le, take-append-le, drop-append-le, take-add, drop-drop}
-use borrow.Author.Tests.{ltb-false}
-use Rattle.laws.specs.Choice.{pick, pick-same, by-bool}
+use Rattle.laws.specs.Basics.{_≡_, refl, sym, _∙_, ap, Bool, true, false, _&&_, List, [], _∷_, _++_, append-nil, append-assoc, none, ℕ, _+_, _-_, _*_, _/_, _≤_, _<_, arith, ltb, length, take, drop, length-append, length-drop, length-take-le, ltb-false, pick, by-bool}
+use lib.ListN.{take-append-drop}
+use lib.Seq.{take-append-le, drop-append-le, take-add, drop-drop}
+use Rattle.laws.specs.Choice.{pick-same}
 use Rattle.model.specs.declared.Run.{Run}
-use Rattle.model.specs.Words.{ones}
-use Rattle.model.specs.Refusals.{startRefusal}
-use Rattle.model.specs.Steps.{startState}
+use Rattle.model.specs.{Words.ones, Refusals.startRefusal, Steps.startState}
 use Rattle.whole_runs.specs.Listing.{mostRecords, records, goesOnAfterAll, stateAfterRecords, started, listing}
 use Rattle.whole_runs.proofs.Blocks.{past-limit, block-by-block, goes-on-by-block, states-by-block}
-use Rattle.machine_replay.specs.Replaying.{Between}
-use Rattle.machine_replay.specs.Printing.{linesOf, goesOnAfter, isStart}
+use Rattle.machine_replay.specs.{Replaying.Between, Printing.linesOf, Printing.goesOnAfter, Printing.isStart}
 
 pub record Going (read written : List ℕ) (b : Between) : Type 0 where
   pub n : ℕ

@@ -1,15 +1,7 @@
 -- The state that stands in lent lists, by the numbers of its place.
 -- Assumes nothing.
-use mathlib.Core.Path.{_≡_, refl, sym, _∙_, ap}
-use mathlib.Core.Bool.{Bool, true, false, _&&_}
-use mathlib.Core.List.{List, [], _∷_}
-use Prim.Native.Nat.{ℕ, _+_, _-_, _≤_, _<_}
-use native.Mathlib.Omega.{arith}
-use lib.Dec.{eqb, ltb, leb}
-use lib.ListN.{length, take, drop, getD, set}
-use borrow.Author.Tests.{lt-ltb, le-leb, eq-eqb, ltb-true, leb-true, eqb-true, ne-eqb}
-use Rattle.laws.specs.Choice.{pick, by-bool, by-eq, pick-same}
-use Rattle.laws.specs.Truth.{and-left, and-right}
+use Rattle.laws.specs.Basics.{_≡_, refl, sym, _∙_, ap, Bool, true, false, _&&_, List, [], _∷_, ℕ, _+_, _-_, _≤_, _<_, arith, eqb, ltb, leb, length, getD, take, drop, set, eq-eqb, ne-eqb, eqb-true, lt-ltb, ltb-true, le-leb, leb-true, pick, by-bool, by-eq}
+use Rattle.laws.specs.{Choice.pick-same, Truth.and-left, Truth.and-right}
 use Rattle.whole_runs.specs.Listing.{mostRecords}
 use Rattle.listing.specs.Lines.{longestLine}
 use Rattle.words.specs.Layout.{stateSize}

@@ -1,31 +1,19 @@
 -- What the replay program asks to be written is the listing of what it read, over every list of answers.
 -- Assumes nothing.
-use mathlib.Core.Path.{_≡_, refl, sym, _∙_, ap, subst}
-use mathlib.Core.Bool.{Bool, true, false, _&&_, _||_, false≢true}
-use mathlib.Core.List.{List, [], _∷_, _++_, append-nil, append-assoc}
-use mathlib.Core.Option.{Option, none, some}
-use Prim.Native.Nat.{ℕ, _+_, _-_, _*_, _≤_, _<_}
-use native.Mathlib.Omega.{arith}
-use lib.Dec.{eqb, ltb, leb}
-use lib.ListN.{length, take, drop, getD, length-append}
-use borrow.Author.Tests.{lt-ltb, le-leb, leb-true, leb-false, ltb-true, eqb-true, eqb-false}
-use Rattle.laws.specs.Choice.{pick, by-bool}
-use Rattle.laws.specs.Truth.{and-left, and-right, or-left}
-use Rattle.laws.specs.Tests.{same}
-use Rattle.model.specs.declared.Refusal.{Refusal}
-use Rattle.model.specs.declared.Run.{Run}
-use Rattle.model.specs.Words.{ones}
-use Rattle.model.specs.Refusals.{startRefusal}
+use Rattle.laws.specs.Basics.{_≡_, refl, sym, _∙_, ap, subst, Bool, true, false, _&&_, _||_, false≢true, List, [], _∷_, _++_, append-nil, append-assoc, Option, none, some, ℕ, _+_, _-_, _*_, _≤_, _<_, arith, eqb, ltb, leb, length, getD, take, drop, length-append, eqb-true, eqb-false, lt-ltb, ltb-true, le-leb, leb-true, leb-false, pick, by-bool}
+use Rattle.laws.specs.{Truth.and-left, Truth.and-right, Truth.or-left, Tests.same}
+use Rattle.model.specs.declared.{Refusal.Refusal, Run.Run}
+use Rattle.model.specs.{Words.ones, Refusals.startRefusal}
 use Rattle.whole_runs.specs.Listing.{mostRecords, asksForAll, records, started, listing}
 use Rattle.listing.specs.Lines.{longestLine}
 use Rattle.library_replay.specs.Taken.{BlockOutcome, mayTake, takenOf, outcomeOf, blockOutcome, Within, BlocksGoOn}
 use Rattle.library_replay.proofs.Onward.{blocks-go-on}
-use Rattle.machines.specs.Machines as m
 use Rattle.machines.specs.Machines.{Request, Count, Argument, Open, Read, Write, Say, Fail, Stop, Answer, Number, Bytes, End, Done, Failed, Machine, Exchange, stepped, exchanged, stateAfter, exchanges, asked, writtenOf, errorTextOf, readBy, readOf, requestsOf, brought, isNumber, heard, heardRead, heardDone, heardCount, heardWord}
 use Rattle.machines.proofs.Runs.{throughout, asked-is, requests-then, written-then, error-text-then, read-then, written-one, error-text-one, written-is}
 use Rattle.machine_replay.specs.Replaying.{Between, State, starting, counted, opening, reading, printing, ending, failing, stopped, allWord, inputText, outputText, mostToRead, asks, taking, onward, begun, opened, filled, wrote, next, replaying}
 use Rattle.machine_replay.specs.Printing.{numberOf, wayOf, isEnd, hasEnded, linesOf, goesOnAfter, MayFollow, PrintsTheListing}
 use Rattle.machine_replay.proofs.Going.{Going, begun-going, read-length, owed, going-filled, going-taken, owed-last, buffered-length, lines-so-far, goes-on-after}
+use Rattle.machines.specs.Machines as m
 
 -- What was asked and answered so far comes to.
 record Account (all : Bool) (read written : List ℕ) (ended : Bool) (talk : List Exchange) : Type 0 where

@@ -1,32 +1,18 @@
 -- The first byte: the start in place, and what was read.
 -- Assumes nothing.
-use mathlib.Core.Path.{_≡_, refl, sym, _∙_, ap}
-use mathlib.Core.Bool.{Bool, true, false, _&&_}
-use mathlib.Core.List.{List, [], _∷_, _++_}
-use mathlib.Core.Option.{Option, none, some}
-use Prim.Native.Nat.{ℕ, zero, suc, _+_, _-_, _*_, _≤_, _<_, min}
-use native.Mathlib.Omega.{arith}
-use lib.Dec.{leb}
-use lib.ListN.{length, take, drop, getD, length-drop}
-use lib.Seq.{length-take-le, take-add}
-use borrow.Author.Tests.{leb-true}
-use Rattle.laws.specs.Choice.{by-bool}
+use Rattle.laws.specs.Basics.{_≡_, refl, sym, _∙_, ap, Bool, true, false, _&&_, List, [], _∷_, _++_, Option, none, some, ℕ, zero, suc, _+_, _-_, _*_, _≤_, _<_, min, arith, leb, length, getD, take, drop, length-drop, length-take-le, leb-true, by-bool}
+use lib.Seq.{take-add}
 use Rattle.laws.specs.Truth.{and-no-right}
-use Rattle.model.specs.declared.Run.{Run}
-use Rattle.model.specs.declared.Refusal.{Refusal}
-use Rattle.model.specs.declared.StartAnswer.{StartAnswer}
-use Rattle.model.specs.declared.StartAnswer.the-variants as start-answer
-use Rattle.model.specs.Words.{ones}
-use Rattle.model.specs.Refusals.{startRefusal, firstOf}
-use Rattle.model.specs.Steps.{startState}
-use Rattle.whole_runs.specs.Outcomes.{Outcome, startOutcome}
-use Rattle.whole_runs.specs.Listing.{mostRecords}
+use Rattle.model.specs.declared.{Run.Run, Refusal.Refusal, StartAnswer.StartAnswer}
+use Rattle.model.specs.{Words.ones, Refusals.startRefusal, Refusals.firstOf, Steps.startState}
+use Rattle.whole_runs.specs.{Outcomes.Outcome, Outcomes.startOutcome, Listing.mostRecords}
 use Rattle.words.specs.Layout.{stateSize, runOf}
 use Rattle.in_place.specs.Starting.{startRefusalIn, startOutcomeIn, StartsTheSame}
 use Rattle.in_place.proofs.Judging.{starts-the-same}
 use Rattle.machine_replay.specs.declared.place.Place.{Place}
 use Rattle.machine_replay.specs.Replaying.{Between, State, reading, ending, begun, mostToRead}
 use Rattle.machine_replay.specs.Standing.{betweenIn, holding}
+use Rattle.model.specs.declared.StartAnswer.the-variants as start-answer
 
 by-refusal : {P : Type 0} (o : Option Refusal) → (o ≡ none → P) → ((x : Refusal) → o ≡ some x → P) → P
 by-refusal none a b = a refl

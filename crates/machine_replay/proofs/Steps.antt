@@ -1,31 +1,20 @@
 -- A step on lent lists: the state that stands in them, and that calls from a start led to its run.
 -- Assumes nothing.
-use mathlib.Core.Path.{_≡_, refl, sym, _∙_, ap, subst}
-use mathlib.Core.Bool.{Bool, true, false, _&&_}
-use mathlib.Core.List.{List}
-use mathlib.Core.Option.{Option, none, some}
-use Prim.Native.Nat.{ℕ, _+_, _≤_, _<_}
-use native.Mathlib.Omega.{arith}
-use lib.Dec.{eqb, ltb, leb}
-use lib.ListN.{length, take, getD}
-use borrow.Author.Tests.{le-leb, lt-leb}
-use Rattle.laws.specs.Choice.{pick, by-bool}
+use Rattle.laws.specs.Basics.{_≡_, refl, sym, _∙_, ap, subst, Bool, true, false, _&&_, List, Option, none, some, ℕ, _+_, _≤_, _<_, arith, eqb, ltb, leb, length, getD, take, le-leb, lt-leb, pick, by-bool}
 use Rattle.model.specs.declared.Refusal.{Refusal}
-use Rattle.model.specs.Words.{ones}
-use Rattle.model.specs.Refusals.{startRefusal}
-use Rattle.whole_runs.specs.Outcomes.{startOutcome}
-use Rattle.whole_runs.specs.WholeRuns.{Reachable}
+use Rattle.model.specs.{Words.ones, Refusals.startRefusal}
+use Rattle.whole_runs.specs.{Outcomes.startOutcome, WholeRuns.Reachable}
 use Rattle.whole_runs.proofs.WholeRuns.{reachable-start}
 use Rattle.library_replay.specs.Taken.{BlockOutcome, blockOutcome}
 use Rattle.library_replay.proofs.Iterations.{block-reachable}
-use Rattle.machines.specs.declared.Answer as answers
-use Rattle.machines.specs.declared.Request as requests
-use Rattle.machines.specs.declared.Request.the-variants as request
 use Rattle.machines.specs.Machines.{Answer, Number, Bytes, End, Done, Failed, stepped, heard}
 use Rattle.machines.specs.Forms.{requestOf, answerOf, Placed, GoesTo, Asks}
 use Rattle.machine_replay.specs.declared.place.Place.{Place}
 use Rattle.machine_replay.specs.Replaying.{Between, State, starting, counted, opening, reading, printing, ending, failing, stopped, asks, taking, onward, begun, opened, filled, wrote, next, replaying}
 use Rattle.machine_replay.specs.Standing.{placeIn, placeOf, stateIn, stateOf, FromStart}
+use Rattle.machines.specs.declared.Answer as answers
+use Rattle.machines.specs.declared.Request as requests
+use Rattle.machines.specs.declared.Request.the-variants as request
 
 module _ (words memory input out : List ℕ) where
   pub state-of : 6 ≤ length memory → (p : Place) → p ≡ placeIn memory → stateOf words memory input out ≡ stateIn p words input out

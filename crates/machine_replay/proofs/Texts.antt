@@ -1,10 +1,6 @@
 -- A text printed at the front of a buffer is what the buffer's front then holds.
 -- Assumes nothing.
-use mathlib.Core.Path.{_≡_, _∙_, ap}
-use mathlib.Core.List.{List}
-use Prim.Native.Nat.{ℕ, _≤_}
-use native.Mathlib.Omega.{arith}
-use lib.ListN.{length, take, drop}
+use Rattle.laws.specs.Basics.{_≡_, _∙_, ap, List, ℕ, _≤_, arith, length, take, drop}
 use lib.Seq.{take-at}
 use Rattle.laws.specs.Front.{written-front}
 use Rattle.listing.specs.Printed.{Printed}

@@ -1,15 +1,8 @@
 -- What the replay program asks to be written, over every list of answers of the system: the listing of what it read, as far as it read.
 -- Assumes nothing.
-use mathlib.Core.Path.{_≡_}
-use mathlib.Core.Bool.{Bool, true, false, _&&_, _||_}
-use mathlib.Core.List.{List, [], _∷_, _++_}
-use mathlib.Core.Option.{Option, none, some}
-use Prim.Native.Nat.{ℕ, _+_, _*_, _/_, _≤_}
-use lib.ListN.{length, take}
+use Rattle.laws.specs.Basics.{_≡_, Bool, true, false, _&&_, _||_, List, [], _∷_, _++_, Option, none, some, ℕ, _+_, _*_, _/_, _≤_, length, take}
 use Rattle.model.specs.declared.Refusal.{Refusal}
-use Rattle.model.specs.Words.{ones}
-use Rattle.model.specs.Refusals.{startRefusal}
-use Rattle.model.specs.Steps.{startState}
+use Rattle.model.specs.{Words.ones, Refusals.startRefusal, Steps.startState}
 use Rattle.whole_runs.specs.Listing.{mostRecords, asksForAll, goesOnAfterAll, listing}
 use Rattle.machines.specs.Machines.{Request, Read, Stop, Answer, Number, Bytes, End, Done, Failed, Machine, Exchange, brought, stateAfter, exchanges, asked, writtenOf, errorTextOf, readOf}
 use Rattle.machine_replay.specs.Replaying.{State, replaying}

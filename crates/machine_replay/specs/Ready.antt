@@ -1,16 +1,9 @@
 -- What the answer to a read or a write comes to before records are taken.
 -- Assumes nothing.
-use mathlib.Core.List.{List}
-use Prim.Native.Nat.{ℕ}
-use lib.Dec.{eqb}
-use lib.ListN.{length}
-use Rattle.laws.specs.Choice.{pick}
+use Rattle.laws.specs.Basics.{List, ℕ, eqb, length, pick}
 use Rattle.machines.specs.declared.Answer.{Answer}
-use Rattle.machines.specs.Machines.{heardRead, heardDone}
-use Rattle.machines.specs.Forms.{answerOf}
-use Rattle.machine_replay.specs.declared.place.Place.{Place}
-use Rattle.machine_replay.specs.declared.phases.Ready.{Ready}
-use Rattle.machine_replay.specs.declared.phases.Ready.the-variants.{Take, Stay}
+use Rattle.machines.specs.{Machines.heardRead, Machines.heardDone, Forms.answerOf}
+use Rattle.machine_replay.specs.declared.{place.Place.Place, phases.Ready.Ready, phases.Ready.the-variants.Take, phases.Ready.the-variants.Stay}
 use Rattle.machine_replay.specs.Replaying.{State, mostToRead, onward, filled, wrote}
 use Rattle.machine_replay.specs.Standing.{readingPhase, Lies, betweenIn, stateIn}
 

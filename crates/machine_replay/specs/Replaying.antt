@@ -1,19 +1,9 @@
 -- The replay program as a machine: what it asks the system for, and where each answer leads.
 -- Assumes nothing.
-use mathlib.Core.Bool.{Bool, _&&_}
-use mathlib.Core.List.{List, [], _∷_, _++_}
-use mathlib.Core.Option.{Option, none, some}
-use Prim.Native.Nat.{ℕ, _+_, _-_, _*_, min}
-use lib.Dec.{eqb, ltb}
-use lib.ListN.{length, drop, getD}
-use Rattle.laws.specs.Choice.{pick}
+use Rattle.laws.specs.Basics.{Bool, _&&_, List, [], _∷_, _++_, Option, none, some, ℕ, _+_, _-_, _*_, min, eqb, ltb, length, getD, drop, pick}
 use Rattle.laws.specs.Tests.{same}
-use Rattle.model.specs.declared.Run.{Run}
-use Rattle.model.specs.declared.Refusal.{Refusal}
-use Rattle.model.specs.declared.Refusal.the-variants.{NoFirstByte}
-use Rattle.model.specs.Words.{ones}
-use Rattle.model.specs.Refusals.{startRefusal}
-use Rattle.model.specs.Steps.{startState}
+use Rattle.model.specs.declared.{Run.Run, Refusal.Refusal, Refusal.the-variants.NoFirstByte}
+use Rattle.model.specs.{Words.ones, Refusals.startRefusal, Steps.startState}
 use Rattle.whole_runs.specs.Listing.{mostRecords, records, refusalText}
 use Rattle.library_replay.specs.Taken.{blockOutcome}
 use Rattle.machines.specs.Machines.{Request, Count, Argument, Read, Write, Fail, Stop, Answer, Number, Bytes, End, Done, Failed, Machine, brought, isNumber}

@@ -1,16 +1,8 @@
 -- The state that stands in lent lists: six numbers, the words of the run, the bytes that were read, and the text that is written.
 -- Assumes nothing.
-use mathlib.Core.Path.{_≡_}
-use mathlib.Core.Bool.{Bool, true, false, _&&_}
-use mathlib.Core.List.{List}
-use Prim.Native.Nat.{ℕ, _+_, _-_, _≤_, _<_}
-use lib.Dec.{eqb, ltb, leb}
-use lib.ListN.{length, take, drop, getD}
-use lib.Seq.{sets}
-use Rattle.laws.specs.Choice.{pick}
+use Rattle.laws.specs.Basics.{_≡_, Bool, true, false, _&&_, List, ℕ, _+_, _-_, _≤_, _<_, eqb, ltb, leb, length, getD, take, drop, sets, pick}
 use Rattle.model.specs.declared.Run.{Run}
-use Rattle.whole_runs.specs.Listing.{mostRecords}
-use Rattle.whole_runs.specs.WholeRuns.{Reachable}
+use Rattle.whole_runs.specs.{Listing.mostRecords, WholeRuns.Reachable}
 use Rattle.listing.specs.Lines.{longestLine}
 use Rattle.words.specs.Layout.{stateSize, runOf}
 use Rattle.library_replay.specs.declared.block.Progress.{Progress}

@@ -7,21 +7,16 @@ use machines::heard;
 use machines::heard::Taken;
 use model::PROCESSES;
 use model::StartAnswer;
-ghost use mathlib.Core.Path.{_≡_};
-ghost use mathlib.Core.Bool.{true};
-ghost use Prim.Native.Nat.{_+_, _*_, _≤_, _<_};
-ghost use lib.ListN.{length};
+ghost use Rattle.laws.specs.Basics.{_≡_, true, _+_, _*_, _≤_, _<_, length};
 ghost use Rattle.laws.specs.Tests.{same};
-ghost use Rattle.model.specs.Words.{ones};
-ghost use Rattle.model.specs.Refusals.{startRefusal};
-ghost use Rattle.whole_runs.specs.Listing.{mostRecords};
-ghost use Rattle.whole_runs.specs.WholeRuns.{Reachable};
+ghost use Rattle.model.specs.{Words.ones, Refusals.startRefusal};
+ghost use Rattle.whole_runs.specs.{Listing.mostRecords, WholeRuns.Reachable};
 ghost use Rattle.words.specs.Layout.{runOf};
 ghost use Rattle.machines.specs.Machines.{heardRead, heardDone, heardCount, heardWord, brought, isNumber};
 ghost use Rattle.machines.specs.Forms.{answerOf, takenOf, Between};
-ghost use Rattle.machine_replay.specs.Replaying as m;
 ghost use Rattle.machine_replay.specs.Standing.{enoughRoom, Holds, stateIn, holding, plainPlace};
 ghost use Rattle.machine_replay.specs.Ready.{comesTo, Lying, readState, linesState, bytesState};
+ghost use Rattle.machine_replay.specs.Replaying as m;
 
 // The longest word that is compared.
 const LONGEST_WORD: usize = 4;

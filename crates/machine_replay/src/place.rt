@@ -2,9 +2,7 @@
 use listing::LONGEST_LINE;
 use whole_runs::MOST_RECORDS;
 use words::WORDS;
-ghost use mathlib.Core.Path.{_≡_};
-ghost use Prim.Native.Nat.{_≤_};
-ghost use lib.ListN.{length};
+ghost use Rattle.laws.specs.Basics.{_≡_, _≤_, length};
 ghost use Rattle.machine_replay.specs.Standing.{numbers, bitOf, placeIn, enoughRoom, inside};
 
 // Whether it goes on after a refusal; how many records were taken; where the bytes that belong to none of them begin in the buffer, and how many they are; how long the

@@ -5,12 +5,8 @@ use crate::place::Place;
 use crate::records;
 use machines::Answer;
 use machines::Request;
-ghost use mathlib.Core.Path.{_≡_};
-ghost use mathlib.Core.Bool.{true};
-ghost use Prim.Native.Nat.{_≤_};
-ghost use lib.ListN.{length};
-ghost use Rattle.machines.specs.Machines.{stepped};
-ghost use Rattle.machines.specs.Forms.{answerOf, Asks};
+ghost use Rattle.laws.specs.Basics.{_≡_, true, _≤_, length};
+ghost use Rattle.machines.specs.{Machines.stepped, Forms.answerOf, Forms.Asks};
 ghost use Rattle.machine_replay.specs.Replaying.{starting, asks, replaying};
 ghost use Rattle.machine_replay.specs.Standing.{numbers, enoughRoom, Holds, stateIn, stateOf, placeOf, FromStart};
 

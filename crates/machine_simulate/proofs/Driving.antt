@@ -1,19 +1,12 @@
 -- The loop that obeys the machine: where it stands before each request.
 -- Assumes nothing.
-use mathlib.Core.Path.{_≡_, sym, _∙_, ap, subst}
-use mathlib.Core.Bool.{true, false}
-use mathlib.Core.List.{List}
-use Prim.Native.Nat.{ℕ, _<_}
-use native.Mathlib.Omega.{arith}
-use lib.ListN.{length}
-use Rattle.machines.specs.declared.Request as requests
-use Rattle.machines.specs.Machines.{Answer, stepped, Reached, Ended}
-use Rattle.machines.specs.Forms.{goesOn, Leaves, Asks}
-use Rattle.machines.proofs.Runs.{reached-first, reached-next}
-use Rattle.machines.proofs.Places.{going-is, stopped-is, leaves-front}
+use Rattle.laws.specs.Basics.{_≡_, sym, _∙_, ap, subst, true, false, List, ℕ, _<_, arith, length}
+use Rattle.machines.specs.{Machines.Answer, Machines.stepped, Machines.Reached, Machines.Ended, Forms.goesOn, Forms.Leaves, Forms.Asks}
+use Rattle.machines.proofs.{Runs.reached-first, Runs.reached-next, Places.going-is, Places.stopped-is, Places.leaves-front}
 use Rattle.machine_simulate.specs.Simulating.{State, Counting, ask, simulating}
 use Rattle.machine_simulate.specs.Words.{EnoughRoom, stateOf, StandsFor}
 use Rattle.machine_simulate.proofs.Ending.{left, simulating-ends}
+use Rattle.machines.specs.declared.Request as requests
 
 pub record Driven (memory input out : List ℕ) (r : requests.Request) : Type 0 where
   pub room : EnoughRoom (length memory) (length input) (length out)

@@ -1,17 +1,9 @@
 -- The machine ends: a number falls with each answer.
 -- Assumes nothing.
-use mathlib.Core.Path.{_≡_, refl, ap}
-use mathlib.Core.Bool.{Bool, true, false}
-use mathlib.Core.List.{List}
-use Prim.Native.Nat.{ℕ, _+_, _-_, _≤_, _<_}
-use native.Mathlib.Omega.{arith}
-use lib.Dec.{ltb}
-use borrow.Author.Tests.{ltb-true, ltb-false}
-use Rattle.laws.specs.Choice.{pick, by-bool}
+use Rattle.laws.specs.Basics.{_≡_, refl, ap, Bool, true, false, List, ℕ, _+_, _-_, _≤_, _<_, arith, ltb, ltb-true, ltb-false, pick, by-bool}
 use Rattle.machines.specs.Machines.{Stop, Answer, Number, Bytes, End, Done, Failed, heard, heardCount, heardDone, isNumber, stepped, Ends}
 use Rattle.machine_simulate.specs.declared.words.Numbers.{Numbers}
-use Rattle.machine_simulate.specs.Arguments.{isWrong, isRefused, withWord}
-use Rattle.machine_simulate.specs.Text.{resultText, trialOf}
+use Rattle.machine_simulate.specs.{Arguments.isWrong, Arguments.isRefused, Arguments.withWord, Text.resultText, Text.trialOf}
 use Rattle.machine_simulate.specs.Simulating.{State, Counting, Asking, Printing, Tabling, Reporting, Failing, Stopped, ask, next, tabled, answered, decided, afterCount, afterWord, nextRow, withoutFirst, afterWrite, simulating}
 use Rattle.machine_simulate.proofs.Numbers.{in-table}
 

@@ -1,19 +1,11 @@
 -- A word by its first hyphen, and what a table that is not refused asks for.
 -- Assumes nothing.
-use mathlib.Core.Path.{_≡_}
-use mathlib.Core.List.{List}
-use mathlib.Core.Bool.{true, false, _||_}
-use Prim.Native.Nat.{ℕ, _+_, _≤_, _<_}
-use native.Mathlib.Omega.{arith}
-use lib.Dec.{ltb}
-use lib.ListN.{length, take, drop}
-use borrow.Author.Tests.{eq-eqb, ne-eqb}
+use Rattle.laws.specs.Basics.{_≡_, true, false, _||_, List, ℕ, _+_, _≤_, _<_, arith, ltb, length, take, drop, eq-eqb, ne-eqb}
 use Rattle.laws.specs.Truth.{or-none}
 use Rattle.machines.specs.programs.Numbers.{numberIn}
 use Rattle.theory_recording.specs.spacing.Spacing.{outOfRange}
 use Rattle.theory_recording.proofs.spacing.Agreement.{in-range}
-use Rattle.machine_simulate.specs.declared.words.Spacings.{Spacings}
-use Rattle.machine_simulate.specs.declared.words.Numbers.{Numbers}
+use Rattle.machine_simulate.specs.declared.{words.Spacings.Spacings, words.Numbers.Numbers}
 use Rattle.machine_simulate.specs.Arguments.{hyphenOr, hyphenIn, spacingsIn, isRefused, withWord}
 
 -- A byte more: the first hyphen.

@@ -1,22 +1,14 @@
 -- Which state the lent numbers and buffers stand for once a phase, a count and the numbers of the words are put.
 -- Assumes nothing.
-use mathlib.Core.Path.{_≡_, refl, sym, _∙_, ap, subst}
-use mathlib.Core.Bool.{Bool, true, false, _||_}
-use mathlib.Core.List.{List, [], _∷_}
-use Prim.Native.Nat.{ℕ, _≤_, _<_}
-use native.Mathlib.Omega.{arith}
-use lib.Dec.{eqb, ltb}
-use lib.ListN.{length, getD, set, take, length-set}
-use borrow.Author.Tests.{le-leb, lt-leb, ne-eqb, le-ltb, ltb-false}
-use Rattle.laws.specs.Choice.{pick, pick-same}
-use Rattle.laws.specs.Truth.{or-none}
-use Rattle.machines.specs.declared.Request as requests
-use Rattle.machines.specs.declared.Request.the-variants as request
+use Rattle.laws.specs.Basics.{_≡_, refl, sym, _∙_, ap, subst, Bool, true, false, _||_, List, [], _∷_, ℕ, _≤_, _<_, arith, eqb, ltb, length, getD, take, set, length-set, ne-eqb, le-ltb, ltb-false, le-leb, lt-leb, pick}
+use Rattle.laws.specs.{Choice.pick-same, Truth.or-none}
 use Rattle.machines.specs.Forms.{requestOf, Placed, GoesTo}
 use Rattle.machine_simulate.specs.declared.words.Numbers.{Numbers}
 use Rattle.machine_simulate.specs.Text.{longestText}
 use Rattle.machine_simulate.specs.Simulating.{longestWord, State, Counting, Asking, Printing, Tabling, Reporting, Failing, Stopped, ask}
 use Rattle.machine_simulate.specs.Words.{EnoughRoom, lacksRoom, keptIn, inPhase, stateOf, Puts, StandsFor}
+use Rattle.machines.specs.declared.Request as requests
+use Rattle.machines.specs.declared.Request.the-variants as request
 
 -- Eight numbers that are put are read back.
 flag-back : (b : Bool) → eqb (pick b 1 0) 1 ≡ b

@@ -1,29 +1,20 @@
 -- Which state an answer leads to, by its form.
 -- Assumes nothing.
-use mathlib.Core.Path.{_≡_, refl, sym, _∙_, ap, subst}
-use mathlib.Core.Bool.{Bool, true, false}
-use mathlib.Core.List.{List}
-use Prim.Native.Nat.{ℕ, _+_, _≤_, _<_}
-use native.Mathlib.Omega.{arith}
-use lib.Dec.{eqb, ltb}
-use lib.ListN.{length, getD, take}
-use borrow.Author.Tests.{lt-ltb, le-ltb, ne-eqb, le-leb, lt-leb}
-use Rattle.laws.specs.Choice.{pick, by-bool}
+use Rattle.laws.specs.Basics.{_≡_, refl, sym, _∙_, ap, subst, Bool, true, false, List, ℕ, _+_, _≤_, _<_, arith, eqb, ltb, length, getD, take, ne-eqb, lt-ltb, le-ltb, le-leb, lt-leb, pick, by-bool}
 use Rattle.model.specs.declared.Refusal.the-variants.{TrialOutsideRange}
-use Rattle.machines.specs.programs.Texts.{refusedText}
-use Rattle.machines.specs.declared.Request as requests
-use Rattle.machines.specs.declared.Request.the-variants as request
-use Rattle.machines.specs.declared.Answer as answers
-use Rattle.machines.specs.declared.heard.Taken as takens
-use Rattle.machines.specs.declared.heard.Taken.the-variants as taken
+use Rattle.machines.specs.{programs.Texts.refusedText, Forms.answerOf, Forms.takenOf, Forms.Between, Forms.requestOf, Forms.Placed, Forms.GoesTo}
 use Rattle.machines.specs.Machines.{Answer, Done, Failed, heard, heardCount, heardWord, heardDone, isNumber, brought, stepped}
-use Rattle.machines.specs.Forms.{answerOf, takenOf, Between, requestOf, Placed, GoesTo}
 use Rattle.machine_simulate.specs.declared.words.Numbers.{Numbers}
 use Rattle.machine_simulate.specs.Arguments.{isWrong, isRefused, noNumbers, withWord}
 use Rattle.machine_simulate.specs.Text.{headLine, rowText, trialOf}
 use Rattle.machine_simulate.specs.Simulating.{longestWord, usage, outputName, State, Counting, Asking, Printing, Tabling, Reporting, Failing, Stopped, ask, next, tabled, answered, decided, withoutFirst, nextRow, afterCount, afterWord, afterWrite, simulating}
 use Rattle.machine_simulate.specs.Words.{EnoughRoom, lacksRoom, keptIn, inPhase, stateOf, StandsFor}
 use Rattle.machine_simulate.proofs.Standing.{state-in, stands-as, phase-tabling, phase-far}
+use Rattle.machines.specs.declared.Request as requests
+use Rattle.machines.specs.declared.Request.the-variants as request
+use Rattle.machines.specs.declared.Answer as answers
+use Rattle.machines.specs.declared.heard.Taken as takens
+use Rattle.machines.specs.declared.heard.Taken.the-variants as taken
 
 -- How long a word is, by what an answer brings.
 module _ (t : takens.Taken) (h : Between t 0 longestWord) where

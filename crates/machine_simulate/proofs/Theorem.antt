@@ -1,17 +1,9 @@
 -- What the machine does with every list of answers.
 -- Assumes nothing.
-use mathlib.Core.Path.{_≡_, refl, sym, _∙_, ap, subst}
-use mathlib.Core.Bool.{Bool, true, false, _||_}
-use mathlib.Core.List.{List, [], _∷_, _++_, append-nil, append-assoc}
-use Prim.Native.Nat.{ℕ, suc, _+_, _-_, _≤_, _<_}
-use native.Mathlib.Omega.{arith}
-use lib.Dec.{eqb, ltb}
-use borrow.Author.Tests.{eq-eqb, ne-eqb, ltb-true, ltb-false}
-use Rattle.laws.specs.Choice.{pick, by-bool, by-eq}
+use Rattle.laws.specs.Basics.{_≡_, refl, sym, _∙_, ap, subst, Bool, true, false, _||_, List, [], _∷_, _++_, append-nil, append-assoc, ℕ, suc, _+_, _-_, _≤_, _<_, arith, eqb, ltb, eq-eqb, ne-eqb, ltb-true, ltb-false, pick, by-bool, by-eq}
 use Rattle.laws.specs.Rows.{or-false}
 use Rattle.model.specs.declared.Refusal.the-variants.{TrialOutsideRange}
-use Rattle.machines.specs.programs.Numbers.{numberIn}
-use Rattle.machines.specs.programs.Texts.{refusedText}
+use Rattle.machines.specs.{programs.Numbers.numberIn, programs.Texts.refusedText}
 use Rattle.machines.specs.Machines.{Request, Count, Argument, Write, Say, Fail, Stop, Answer, Number, Bytes, End, Done, Failed, Exchange, heard, heardCount, heardWord, heardDone, isNumber, brought, stepped, exchanged, stateAfter, exchanges, written, errorText, writtenOf, errorTextOf, requestsOf}
 use Rattle.machines.proofs.Runs.{throughout, written-next, error-text-next, written-is, error-text-is, stops}
 use Rattle.machine_simulate.specs.declared.words.Numbers.{Numbers}

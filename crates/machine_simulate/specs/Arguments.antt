@@ -1,17 +1,11 @@
 -- The words that the program is started with: decimal digits, and for the spacing one number or two with a hyphen between.
 -- Assumes nothing.
-use mathlib.Core.Bool.{Bool, true, false, _&&_, _||_}
-use mathlib.Core.List.{List}
-use Prim.Native.Nat.{ℕ, _+_}
-use lib.Dec.{eqb, ltb}
-use lib.ListN.{length, getD, take, drop}
-use Rattle.laws.specs.Choice.{pick}
+use Rattle.laws.specs.Basics.{Bool, true, false, _&&_, _||_, List, ℕ, _+_, eqb, ltb, length, getD, take, drop, pick}
 use Rattle.laws.specs.Loops.{iter}
 use Rattle.model.specs.Words.{mostProcesses}
 use Rattle.machines.specs.programs.Numbers.{noNumber, numberIn}
 use Rattle.theory_recording.specs.spacing.Spacing.{outOfRange, mostSpacing, mostSteps}
-use Rattle.machine_simulate.specs.declared.words.Spacings.{Spacings}
-use Rattle.machine_simulate.specs.declared.words.Numbers.{Numbers}
+use Rattle.machine_simulate.specs.declared.{words.Spacings.Spacings, words.Numbers.Numbers}
 
 -- The place of the first hyphen (45) of a word; its length where there is none.
 unfoldable pub hyphenOr : ℕ → ℕ → ℕ → ℕ → ℕ

@@ -1,12 +1,6 @@
 -- The program `simulate` as a machine: it asks for its four words, writes what they ask for, a table row by row, and stops.
 -- Assumes nothing.
-use mathlib.Core.Path.{_≡_}
-use mathlib.Core.Bool.{Bool, false, _&&_, _||_}
-use mathlib.Core.List.{List, [], _∷_, _++_}
-use Prim.Native.Nat.{ℕ, _+_, _<_}
-use lib.Dec.{eqb, ltb}
-use lib.ListN.{length}
-use Rattle.laws.specs.Choice.{pick}
+use Rattle.laws.specs.Basics.{_≡_, Bool, false, _&&_, _||_, List, [], _∷_, _++_, ℕ, _+_, _<_, eqb, ltb, length, pick}
 use Rattle.model.specs.declared.Refusal.the-variants.{TrialOutsideRange}
 use Rattle.machines.specs.programs.Texts.{refusedText}
 use Rattle.machines.specs.Machines.{Request, Count, Argument, Open, Read, Write, Say, Fail, Stop, Answer, Number, Bytes, End, Done, Failed, Machine, Exchange, heard, isNumber, brought, stepped, asked, exchanges, stateAfter, writtenOf, errorTextOf}

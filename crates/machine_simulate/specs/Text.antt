@@ -1,16 +1,12 @@
 -- What the program prints of a result: its five figures, each with its name, one a line, or `refused R`; the row of a table; and of four numbers, all that it prints.
 -- Numbers are decimal.
 -- Assumes nothing.
-use mathlib.Core.List.{List, [], _∷_, _++_}
-use Prim.Native.Nat.{ℕ, zero, suc, _+_, _-_}
-use Rattle.laws.specs.Choice.{pick}
+use Rattle.laws.specs.Basics.{List, [], _∷_, _++_, ℕ, zero, suc, _+_, _-_, pick}
 use Rattle.model.specs.declared.Refusal.the-variants.{TrialOutsideRange}
 use Rattle.whole_runs.specs.Listing.{decimal, space, lineFeed}
-use Rattle.machines.specs.programs.Numbers.{atMost}
-use Rattle.machines.specs.programs.Texts.{figureText, refusedText}
+use Rattle.machines.specs.{programs.Numbers.atMost, programs.Texts.figureText, programs.Texts.refusedText}
 use Rattle.theory_recording.specs.spacing.Spacing.{simulated}
-use Rattle.theory_recording.specs.declared.spacing.TrialAnswer.{TrialAnswer}
-use Rattle.theory_recording.specs.declared.spacing.TrialAnswer.the-variants.{Refused, Tried}
+use Rattle.theory_recording.specs.declared.{spacing.TrialAnswer.TrialAnswer, spacing.TrialAnswer.the-variants.Refused, spacing.TrialAnswer.the-variants.Tried}
 use Rattle.theory_recording.specs.declared.spacing.TrialResult.{TrialResult}
 use Rattle.machine_simulate.specs.declared.words.Numbers.{Numbers}
 use Rattle.machine_simulate.specs.Arguments.{isWrong, isRefused}

@@ -1,18 +1,12 @@
 -- The machine's state in what a caller lends: eight numbers, the phase, a count and the numbers of the words; the buffer that words are asked into; the buffer for what
 -- is written and reported.
 -- Assumes nothing.
-use mathlib.Core.Path.{_≡_}
-use mathlib.Core.Bool.{Bool, _&&_, _||_}
-use mathlib.Core.List.{List}
-use Prim.Native.Nat.{ℕ, _≤_}
-use lib.Dec.{eqb, ltb, leb}
-use lib.ListN.{length, getD, take}
-use Rattle.laws.specs.Choice.{pick}
-use Rattle.machines.specs.declared.Request as requests
+use Rattle.laws.specs.Basics.{_≡_, Bool, _&&_, _||_, List, ℕ, _≤_, eqb, ltb, leb, length, getD, take, pick}
 use Rattle.machines.specs.Forms.{Asks}
 use Rattle.machine_simulate.specs.declared.words.Numbers.{Numbers}
 use Rattle.machine_simulate.specs.Text.{longestText}
 use Rattle.machine_simulate.specs.Simulating.{longestWord, State, Counting, Asking, Printing, Tabling, Reporting, Failing, Stopped, ask}
+use Rattle.machines.specs.declared.Request as requests
 
 -- There is room for the eight numbers, for the longest word, and for the longest text.
 abbrev pub EnoughRoom : ℕ → ℕ → ℕ → Type 0

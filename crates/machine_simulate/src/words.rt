@@ -1,13 +1,11 @@
 // The words that the program is started with: numbers (`machines::programs::numbers`), and a spacing or two with a hyphen between.
-use model::PROCESSES;
 use machines::programs::numbers::GREATEST;
 use machines::programs::numbers::NO_NUMBER;
 use machines::programs::numbers::number_in;
+use model::PROCESSES;
 use theory_recording::spacing::MOST_SPACING;
 use theory_recording::spacing::MOST_STEPS;
-ghost use mathlib.Core.Path.{_≡_};
-ghost use Prim.Native.Nat.{_≤_};
-ghost use lib.ListN.{length};
+ghost use Rattle.laws.specs.Basics.{_≡_, _≤_, length};
 ghost use Rattle.machine_simulate.specs.Arguments.{hyphenOr, hyphenIn, spacingsIn, isWrong, isRefused, noNumbers, withWord};
 
 // The place of the first hyphen once byte i was looked at too; `size` where there is none yet.

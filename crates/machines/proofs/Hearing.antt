@@ -1,25 +1,16 @@
 -- Answers in their forms, as they are taken.
 -- Assumes nothing.
-use mathlib.Core.Path.{_≡_, refl, sym, _∙_, ap, subst}
-use mathlib.Core.Bool.{Bool, true, false, _&&_, false≢true}
-use mathlib.Core.List.{List}
-use Prim.Native.Nat.{ℕ, zero, suc, _+_, _-_, _≤_, _<_}
-use native.Mathlib.Omega.{arith}
-use lib.Dec.{eqb, leb}
+use Rattle.laws.specs.Basics.{_≡_, refl, sym, _∙_, ap, subst, Bool, true, false, _&&_, false≢true, List, ℕ, zero, suc, _+_, _-_, _≤_, _<_, arith, eqb, leb, length, take, drop, length-drop, length-take-le, eq-eqb, ne-eqb, le-ltb, le-leb, lt-leb, leb-true, pick, by-bool}
 use lib.IntN.{ℤ, pos, negsuc}
 use lib.Signed.{ltZ}
 use mir.Syntax.{w32}
 use mir.Val.{SFits, ofZ}
-use lib.ListN.{length, take, drop, length-drop}
-use lib.Seq.{length-take-le}
-use borrow.Author.Tests.{le-leb, lt-leb, leb-true, le-ltb, eq-eqb, ne-eqb}
-use Rattle.laws.specs.Choice.{pick, by-bool}
+use Rattle.machines.specs.Machines.{Answer, Number, Bytes, End, Done, Failed, heardCount, heardWord, heardRead, heardDone, isNumber}
+use Rattle.machines.specs.Forms.{answerOf, takenOf, Between, readAnswer, wordAnswer, openAnswer}
 use Rattle.machines.specs.declared.Answer as answers
 use Rattle.machines.specs.declared.Answer.the-variants as answer
 use Rattle.machines.specs.declared.heard.Taken as takens
 use Rattle.machines.specs.declared.heard.Taken.the-variants as taken
-use Rattle.machines.specs.Machines.{Answer, Number, Bytes, End, Done, Failed, heardCount, heardWord, heardRead, heardDone, isNumber}
-use Rattle.machines.specs.Forms.{answerOf, takenOf, Between, readAnswer, wordAnswer, openAnswer}
 
 pub many : (at size : ℕ) (input : List ℕ) → at + size ≤ length input → length (take size (drop at input)) ≡ size
 many at size input h = length-take-le size (drop at input) (omega (arith, length-drop at input))

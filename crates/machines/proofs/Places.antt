@@ -1,18 +1,10 @@
 -- What the places of a request come to, by its kind.
 -- Assumes nothing.
-use mathlib.Core.Path.{_≡_, refl, sym, _∙_, ap, subst}
-use mathlib.Core.Bool.{true, false}
-use mathlib.Core.List.{List}
-use Prim.Native.Nat.{ℕ, _+_, _-_, _≤_}
-use native.Mathlib.Omega.{arith}
-use lib.ListN.{length, take, drop}
-use lib.Seq.{sets}
+use Rattle.laws.specs.Basics.{_≡_, refl, sym, _∙_, ap, subst, true, false, List, ℕ, _+_, _-_, _≤_, arith, length, take, drop, sets}
 use borrow.Rule.Slice.PartMut.{midOf, putMid, mid-len, take-put, drop-put, same-len-mid}
+use Rattle.machines.specs.{Machines.Stop, Packed.packed, Forms.goesOn, Forms.requestOf, Forms.Placed, Forms.Around, Forms.Leaves, Forms.GoesTo}
 use Rattle.machines.specs.declared.Request as requests
 use Rattle.machines.specs.declared.Request.the-variants as request
-use Rattle.machines.specs.Machines.{Stop}
-use Rattle.machines.specs.Packed.{packed}
-use Rattle.machines.specs.Forms.{goesOn, requestOf, Placed, Around, Leaves, GoesTo}
 
 pub around-put : (at most : ℕ) (input last : List ℕ) → at + most ≤ length input → length last ≡ length (midOf at (at + most - at) input)
     → Around at most input (putMid at (at + most - at) input last)

@@ -1,12 +1,8 @@
 -- Runs of a machine: a fact that holds at the start and that every answer keeps holds after every list of answers; what lists of exchanges come to, one exchange after
 -- the other; a machine that has a measure ends.
 -- Assumes nothing.
-use mathlib.Core.Path.{_≡_, refl, sym, _∙_, ap, subst}
-use mathlib.Core.Logic.{_⊎_, inl, inr, ⊎-elim}
-use mathlib.Core.List.{List, [], _∷_, _++_, append-nil, append-assoc}
-use Prim.Native.Nat.{ℕ, zero, suc, _≤_, _<_}
-use native.Mathlib.Omega.{arith}
-use lib.ListN.{length}
+use Rattle.laws.specs.Basics.{_≡_, refl, sym, _∙_, ap, subst, List, [], _∷_, _++_, append-nil, append-assoc, _⊎_, inl, inr, ℕ, zero, suc, _≤_, _<_, arith, length}
+use mathlib.Core.Logic.{⊎-elim}
 use Rattle.machines.specs.Machines.{Request, Count, Argument, Open, Read, Write, Say, Fail, Stop, Answer, Machine, Exchange, stepped, exchanged, stateFrom, exchangesFrom, askedFrom, stateAfter, exchanges, asked, written, errorText, writtenOf, errorTextOf, readBy, readOf, requestsOf, Reached, Ends}
 
 module _ {S : Type 0} (m : Machine S) where

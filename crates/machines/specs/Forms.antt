@@ -1,21 +1,15 @@
 -- The forms that requests and answers have in code: numbers and places of lent buffers. The bytes that a program asks for go to a place of its buffer `input`; those
 -- that it hands out stand at the front of its buffer `out`.
 -- Assumes nothing.
-use mathlib.Core.Path.{_≡_}
-use mathlib.Core.Bool.{Bool, true, false}
-use mathlib.Core.List.{List}
-use Prim.Native.Nat.{ℕ, zero, suc, _+_, _≤_}
-use lib.Dec.{eqb, leb}
+use Rattle.laws.specs.Basics.{_≡_, Bool, true, false, List, ℕ, zero, suc, _+_, _≤_, eqb, leb, length, take, drop, pick}
 use lib.IntN.{ℤ, pos, negsuc}
-use lib.ListN.{length, take, drop}
-use Rattle.laws.specs.Choice.{pick}
+use Rattle.machines.specs.Machines.{Request, Count, Argument, Open, Read, Write, Say, Fail, Stop, Answer, Number, Bytes, End, Done, Failed}
 use Rattle.machines.specs.declared.Request as requests
 use Rattle.machines.specs.declared.Request.the-variants as request
 use Rattle.machines.specs.declared.Answer as answers
 use Rattle.machines.specs.declared.Answer.the-variants as answer
 use Rattle.machines.specs.declared.heard.Taken as takens
 use Rattle.machines.specs.declared.heard.Taken.the-variants as taken
-use Rattle.machines.specs.Machines.{Request, Count, Argument, Open, Read, Write, Say, Fail, Stop, Answer, Number, Bytes, End, Done, Failed}
 
 -- The request that a form stands for, with these bytes in `out`.
 unfoldable pub requestOf : requests.Request → List ℕ → Request

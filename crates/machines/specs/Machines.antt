@@ -1,13 +1,7 @@
 -- A program as a machine: it asks the system for one thing at a time, and goes on by what the system answers. What it asked for and what it was answered are lists, so
 -- that a theorem about a program is one over every list of answers.
 -- Assumes nothing.
-use mathlib.Core.Path.{_≡_}
-use mathlib.Core.Bool.{Bool, false, _&&_}
-use mathlib.Core.List.{List, [], _∷_, _++_}
-use Prim.Native.Nat.{ℕ, _<_}
-use lib.Dec.{eqb, leb}
-use lib.ListN.{length}
-use Rattle.laws.specs.Choice.{pick}
+use Rattle.laws.specs.Basics.{_≡_, Bool, false, _&&_, List, [], _∷_, _++_, ℕ, _<_, eqb, leb, length, pick}
 
 -- What a program asks of the system.
 pub data Request : Type 0 where

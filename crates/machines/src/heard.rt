@@ -1,10 +1,6 @@
 // Answers as a machine takes them (`heard` in `specs/Machines`): one that does not fit what was asked for counts as failed.
 use crate::Answer;
-ghost use mathlib.Core.Path.{_≡_};
-ghost use mathlib.Core.List.{List};
-ghost use Prim.Native.Nat.{ℕ, _+_, _≤_};
-ghost use lib.ListN.{length};
-ghost use Rattle.laws.specs.Choice.{pick};
+ghost use Rattle.laws.specs.Basics.{_≡_, List, ℕ, _+_, _≤_, length, pick};
 ghost use Rattle.machines.specs.Machines.{heardCount, heardWord, heardRead, heardDone, isNumber, Done, Failed};
 ghost use Rattle.machines.specs.Forms.{answerOf, takenOf, Between};
 

@@ -17,8 +17,7 @@ pub mod replay_input;
 // programs.rt: what several programs share: the number that a word is, bytes read into a lent buffer, and texts printed into one.
 pub mod programs;
 
-ghost use mathlib.Core.Path.{_≡_};
-ghost use lib.ListN.{length};
+ghost use Rattle.laws.specs.Basics.{_≡_, length};
 ghost use Rattle.machines.specs.Forms.{goesOn, Placed, Leaves};
 
 pub enum Request {
@@ -92,7 +91,10 @@ pub fn obey(request: Request, source: Source, input: &mut [u8], out: &[u8]) -> O
             system::argument(request, i, at, most, input),
         ),
         Request::Open(size) => system::open(request, size, out, source),
-        Request::Read(at, most) => with_source(source, system::read(request, at, most, input, source)),
+        Request::Read(at, most) => with_source(
+            source,
+            system::read(request, at, most, input, source),
+        ),
         Request::Write(size) => with_source(source, system::write(request, size, out)),
         Request::Say(size) => with_source(source, system::say(request, size, out)),
         Request::Fail(size) => with_source(source, system::fail(request, size, out)),

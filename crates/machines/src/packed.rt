@@ -1,11 +1,7 @@
 // Requests and answers as numbers, for callers that have no enums.
 use crate::Answer;
 use crate::Request;
-ghost use mathlib.Core.Path.{_≡_};
-ghost use mathlib.Core.List.{[], _∷_};
-ghost use Prim.Native.Nat.{_≤_};
-ghost use lib.ListN.{length};
-ghost use lib.Seq.{sets};
+ghost use Rattle.laws.specs.Basics.{_≡_, [], _∷_, _≤_, length, sets};
 ghost use Rattle.machines.specs.Packed.{packed, unpacked};
 
 fn put_four(numbers: &mut [u64], kind: u64, size: usize, place: usize, word: usize)

@@ -6,10 +6,7 @@ use crate::Request;
 use crate::Source;
 use libc::STDERR_FILENO;
 use libc::STDOUT_FILENO;
-ghost use mathlib.Core.Path.{_≡_};
-ghost use Prim.Native.Nat.{_+_, _≤_};
-ghost use lib.ListN.{length};
-ghost use Rattle.laws.specs.Choice.{pick};
+ghost use Rattle.laws.specs.Basics.{_≡_, _+_, _≤_, length, pick};
 ghost use Rattle.machines.specs.Forms.{Around, readAnswer, wordAnswer, openAnswer};
 
 // What a number that a read returned comes to, with the count of the bytes that it brought.

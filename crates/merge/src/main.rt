@@ -3,10 +3,9 @@
 // asks of the system, and when, is stated and proved in `merge_machine`: this program only obeys.
 
 use machines::Request;
-ghost use lib.ListN.{length};
+ghost use Rattle.laws.specs.Basics.{length};
 ghost use Rattle.machines.specs.Machines.{Ended};
-ghost use Rattle.machine_merge.specs.Merging.{merging};
-ghost use Rattle.machine_merge.specs.Words.{EnoughRoom, stateOf};
+ghost use Rattle.machine_merge.specs.{Merging.merging, Words.EnoughRoom, Words.stateOf};
 
 // Each request is obeyed, and what came of it handed back, until the machine stops.
 fn drive(memory: &mut [u64], input: &mut [u8], out: &mut [u8]) -> Request

@@ -1,20 +1,11 @@
 -- The numbers of the refusals: the table the other way round, from a number to its refusal, and what follows from it.
 -- Assumes nothing.
-use mathlib.Core.Path.{_≡_, refl, sym, _∙_, ap}
-use mathlib.Core.Bool.{true, _||_}
-use mathlib.Core.List.{List, [], _∷_}
-use Prim.Native.Nat.{ℕ, _≤_}
-use native.Mathlib.Omega.{arith}
-use lib.Dec.{eqb, leb}
-use lib.ListN.{getD, List·getD-eq-default}
-use borrow.Author.Tests.{leb-true, leb-false, eqb-true, ne-eqb}
-use Rattle.laws.specs.Choice.{by-bool}
+use Rattle.laws.specs.Basics.{_≡_, refl, sym, _∙_, ap, true, _||_, List, [], _∷_, ℕ, _≤_, arith, eqb, leb, getD, ne-eqb, eqb-true, leb-true, leb-false, by-bool}
+use lib.ListN.{List·getD-eq-default}
 use Rattle.laws.specs.Search.{allBelow, all-out}
 use Rattle.model.specs.declared.Refusal.{Refusal}
 use Rattle.model.specs.declared.Refusal.the-variants.{CountOutsideRange, UnsoundState, ListTooShort, NoSuchProcess, SenderIsReceiver, NoSuchFailedProcess, NotUnderWay, TooManyUnderWay, MessageNumbersUsed, IntervalsUsed, NoFirstByte, LeftOverBytes, MalformedRecord, BlockCountOutsideRange, BlocksUsed, TooManyRecords, UnfitNamedList, NotKept, CausallyOrdered, BufferTooShort, TrialOutsideRange, HalvesMismatch, NeitherReady, Denied}
-use Rattle.model.specs.Refusals.{number}
-use Rattle.model.specs.Numbers.{NumbersAreRight}
-use Rattle.model.specs.laws.Refusals.{number-range}
+use Rattle.model.specs.{Refusals.number, Numbers.NumbersAreRight, laws.Refusals.number-range}
 
 -- Place k has the refusal with the number k. No refusal has 0 or 6, nor any number past the end: the first stands there.
 abbrev byNumber : List Refusal

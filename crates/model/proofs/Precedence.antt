@@ -1,20 +1,9 @@
 -- The line rule on a sound state is one of precedence: it accepts a state exactly if the last stored checkpoint of no failed process comes causally before it.
 -- Assumes nothing.
-use mathlib.Core.Path.{_≡_}
-use mathlib.Core.Bool.{true, _&&_, not}
-use Prim.Native.Nat.{ℕ, _-_, _≤_}
-use native.Mathlib.Omega.{arith}
-use lib.Dec.{ltb}
-use borrow.Author.Tests.{lt-ltb, le-ltb, ltb-true, ltb-false}
-use Rattle.laws.specs.Choice.{by-bool}
-use Rattle.laws.specs.Ranges.{all-same}
-use Rattle.laws.specs.Search.{allBelow}
-use Rattle.model.specs.declared.Checkpoint.{Checkpoint}
-use Rattle.model.specs.declared.Run.{Run}
-use Rattle.model.specs.Words.{entry, lastStored, comesBefore, own, failed}
-use Rattle.model.specs.Steps.{allowed}
-use Rattle.model.specs.Sound.{sound}
-use Rattle.model.specs.laws.Sound.{sound-state}
+use Rattle.laws.specs.Basics.{_≡_, true, not, _&&_, ℕ, _-_, _≤_, arith, ltb, lt-ltb, le-ltb, ltb-true, ltb-false, by-bool}
+use Rattle.laws.specs.{Ranges.all-same, Search.allBelow}
+use Rattle.model.specs.declared.{Checkpoint.Checkpoint, Run.Run}
+use Rattle.model.specs.{Words.entry, Words.lastStored, Words.comesBefore, Words.own, Words.failed, Steps.allowed, Sound.sound, laws.Sound.sound-state}
 
 -- An entry is less than an own entry exactly if the last stored checkpoint does not come before: its index is one less than the own entry.
 not-before : (own e : ℕ) → 1 ≤ own → ltb e own ≡ not (ltb (own - 1) e)

@@ -1,20 +1,9 @@
 -- Records and events: every well-formed record stands for one event, and every event that fits the fields has one record.
 -- A record goes to its word of 32 bits, to its three fields, to its event; each of these steps is undone by the step back.
 -- Assumes nothing.
-use mathlib.Core.Path.{_≡_, refl, sym, _∙_, ap}
-use mathlib.Core.Bool.{true, _&&_, false≢true}
-use mathlib.Core.List.{List, [], _∷_}
-use mathlib.Core.Option.{Option, none, some}
-use Prim.Native.Nat.{ℕ, zero, suc, _/_, _%_, _≤_, _<_}
-use native.Mathlib.Omega.{arith}
-use lib.Dec.{eqb, ltb}
-use lib.ListN.{length}
-use borrow.Author.Tests.{ltb-true, lt-ltb, eqb-true}
-use Rattle.laws.specs.Choice.{by-bool}
-use Rattle.laws.specs.Truth.{and-left, and-right}
-use Rattle.laws.specs.Tests.{every}
-use Rattle.model.specs.declared.Fields.{Fields}
-use Rattle.model.specs.declared.Event.{Event}
+use Rattle.laws.specs.Basics.{_≡_, refl, sym, _∙_, ap, true, _&&_, false≢true, List, [], _∷_, Option, none, some, ℕ, zero, suc, _/_, _%_, _≤_, _<_, arith, eqb, ltb, length, eqb-true, lt-ltb, ltb-true, by-bool}
+use Rattle.laws.specs.{Truth.and-left, Truth.and-right, Tests.every}
+use Rattle.model.specs.declared.{Fields.Fields, Event.Event}
 use Rattle.model.specs.declared.Event.the-variants.{Checkpoint, Send, Deliver, Lose, Recover}
 use Rattle.model.specs.Trace.{word, fields, ifZero, eventOf, decoded, isRecord, stands, wellFormed, fieldsOf, fits, wordOf, bytesOf, encoded, RecordsAreEvents}
 

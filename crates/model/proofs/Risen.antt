@@ -1,20 +1,10 @@
 -- The set of entries that rose is exact, of any two vectors (specs/Risen).
 -- Assumes nothing.
-use mathlib.Core.Path.{_≡_, sym, _∙_, ap}
-use mathlib.Core.Bool.{Bool, not}
-use mathlib.Core.List.{List}
-use Prim.Native.Nat.{ℕ, _≤_, _<_}
-use native.Mathlib.Omega.{arith}
-use lib.Dec.{eqb}
-use borrow.Author.Tests.{eq-eqb, ne-eqb, le-ltb}
-use Rattle.laws.specs.Bits.{bitsOf, bits-less, bits-at, bits-past, bits-none, bits-some}
-use Rattle.laws.specs.Choice.{by-bool}
+use Rattle.laws.specs.Basics.{_≡_, sym, _∙_, ap, Bool, not, List, ℕ, _≤_, _<_, arith, eqb, eq-eqb, ne-eqb, le-ltb, by-bool}
+use Rattle.laws.specs.{Bits.bitsOf, Bits.bits-less, Bits.bits-at, Bits.bits-past, Bits.bits-none, Bits.bits-some, Tables.getD-table}
 use Rattle.laws.specs.Search.{anyBelow, any-out, any-none}
-use Rattle.laws.specs.Tables.{getD-table}
 use Rattle.model.specs.declared.Interval.{Interval}
-use Rattle.model.specs.Words.{mostProcesses, entry, below}
-use Rattle.model.specs.Steps.{newer, takenEntry, takenVector, risen}
-use Rattle.model.specs.Risen.{RisenIsExact}
+use Rattle.model.specs.{Words.mostProcesses, Words.entry, Words.below, Steps.newer, Steps.takenEntry, Steps.takenVector, Steps.risen, Risen.RisenIsExact}
 
 -- A number of bits is 0 exactly if no test holds.
 none-set : (n : ℕ) (t : ℕ → Bool) → eqb (bitsOf n t) 0 ≡ not (anyBelow n t)

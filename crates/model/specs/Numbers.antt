@@ -1,7 +1,6 @@
 -- The numbers that documents 01 and 02 give the refusals: 1 to 25 without 6, each to one refusal.
 -- Assumes nothing.
-use mathlib.Core.Path.{_≡_}
-use Prim.Native.Nat.{ℕ, _≤_}
+use Rattle.laws.specs.Basics.{_≡_, ℕ, _≤_}
 use Rattle.model.specs.declared.Refusal.{Refusal}
 use Rattle.model.specs.Refusals.{number}
 

@@ -1,20 +1,11 @@
 -- Document 01, "Who can cause which refusal": the numbers, and for each call its tests in the table's order.
 -- Assumes nothing.
-use mathlib.Core.Bool.{Bool, true, false, _&&_, _||_, not}
-use mathlib.Core.List.{List, [], _∷_}
-use mathlib.Core.Option.{Option, none, some}
-use Prim.Native.Nat.{ℕ, _+_, _*_, _^_}
-use lib.Dec.{eqb, ltb, leb}
-use lib.ListN.{length, getD}
-use Rattle.laws.specs.Choice.{pick}
+use Rattle.laws.specs.Basics.{Bool, true, false, not, _&&_, _||_, List, [], _∷_, Option, none, some, ℕ, _+_, _*_, _^_, eqb, ltb, leb, length, getD, pick}
 use Rattle.laws.specs.Search.{anyBelow}
-use Rattle.model.specs.declared.Message.{Message}
-use Rattle.model.specs.declared.Run.{Run}
-use Rattle.model.specs.declared.Refusal.{Refusal}
+use Rattle.model.specs.declared.{Message.Message, Run.Run, Refusal.Refusal}
 use Rattle.model.specs.declared.Refusal.the-variants.{CountOutsideRange, UnsoundState, ListTooShort, NoSuchProcess, SenderIsReceiver, NoSuchFailedProcess, NotUnderWay, TooManyUnderWay, MessageNumbersUsed, IntervalsUsed, NoFirstByte, LeftOverBytes, MalformedRecord, BlockCountOutsideRange, BlocksUsed, TooManyRecords, UnfitNamedList, NotKept, CausallyOrdered, BufferTooShort, TrialOutsideRange, HalvesMismatch, NeitherReady, Denied}
 use Rattle.model.specs.Words.{mostProcesses, mostUnderWay, mostMessages, mostInterval, mostBlocks, blockCount, process, own}
-use Rattle.model.specs.Steps.{found, forces, latestAllowed}
-use Rattle.model.specs.Sound.{isBlockCount, sound}
+use Rattle.model.specs.{Steps.found, Steps.forces, Steps.latestAllowed, Sound.isBlockCount, Sound.sound}
 
 -- The number that document 01 gives each refusal, and document 02 those from 15 on. Note 4: "Refusal 6 never occurs any more." No refusal has it.
 unfoldable pub number : Refusal → ℕ

@@ -2,14 +2,9 @@
 -- What the set is, of any two vectors, whatever their lengths. proofs/Risen has the proof. The crate whole_runs says the same of a delivery by the
 -- history alone, in specs/Answers.
 -- Assumes nothing.
-use mathlib.Core.Path.{_≡_}
-use mathlib.Core.Bool.{false, not}
-use mathlib.Core.List.{List}
-use Prim.Native.Nat.{ℕ, _≤_, _<_}
-use lib.Dec.{eqb}
+use Rattle.laws.specs.Basics.{_≡_, false, not, List, ℕ, _≤_, _<_, eqb}
 use Rattle.model.specs.declared.Interval.{Interval}
-use Rattle.model.specs.Words.{mostProcesses, entry, below, inSet}
-use Rattle.model.specs.Steps.{newer, takenVector, risen}
+use Rattle.model.specs.{Words.mostProcesses, Words.entry, Words.below, Words.inSet, Steps.newer, Steps.takenVector, Steps.risen}
 
 pub record RisenIsExact (own carried : List Interval) : Type 0 where
   -- "a number of 16 bits"

@@ -1,20 +1,8 @@
 -- Document 01, "A sound state", clause by clause, and after it the clauses of Note 5.
 -- Assumes nothing.
-use mathlib.Core.Bool.{Bool, true, false, _&&_, not}
-use mathlib.Core.List.{List, [], _∷_, map}
-use Prim.Native.Nat.{ℕ, suc, _+_}
-use lib.Dec.{eqb, ltb, leb}
-use lib.ListN.{getD, drop}
-use Rattle.laws.specs.Choice.{pick}
-use Rattle.laws.specs.Lists.{orElse, lastOf}
-use Rattle.laws.specs.Search.{allBelow}
-use Rattle.laws.specs.Sums.{sumBelow}
-use Rattle.laws.specs.Tests.{every, some-of}
-use Rattle.model.specs.declared.Interval.{Interval}
-use Rattle.model.specs.declared.Pin.{Pin}
-use Rattle.model.specs.declared.Pin.the-variants.{Nothing, At}
-use Rattle.model.specs.declared.Checkpoint.{Checkpoint}
-use Rattle.model.specs.declared.Message.{Message}
+use Rattle.laws.specs.Basics.{Bool, true, false, not, _&&_, List, [], _∷_, map, ℕ, suc, _+_, eqb, ltb, leb, getD, drop, pick}
+use Rattle.laws.specs.{Lists.orElse, Lists.lastOf, Search.allBelow, Sums.sumBelow, Tests.every, Tests.some-of}
+use Rattle.model.specs.declared.{Interval.Interval, Pin.Pin, Pin.the-variants.Nothing, Pin.the-variants.At, Checkpoint.Checkpoint, Message.Message}
 use Rattle.model.specs.declared.Run.{Run}
 use Rattle.model.specs.Words.{mostProcesses, mostUnderWay, mostMessages, mostBlockCount, mostBlocks, entry, lastStored, names, isPinned, Process, blocksOf, noCheckpoint, blockCount, process, own, underWay}
 

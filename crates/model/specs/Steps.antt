@@ -1,25 +1,10 @@
 -- Document 01, "Steps": what each accepted call does. Each definition stands under the sentence that it says.
 -- Assumes nothing.
-use mathlib.Core.Bool.{Bool, true, false, _&&_, _||_, not}
-use mathlib.Core.List.{List, [], _∷_, _++_, map}
-use mathlib.Core.Option.{Option, none, some}
-use Prim.Native.Nat.{ℕ, zero, suc, _+_}
-use lib.Dec.{eqb, ltb, leb}
-use lib.ListN.{getD, set}
-use Rattle.laws.specs.Bits.{bitsOf}
-use Rattle.laws.specs.Choice.{pick}
-use Rattle.laws.specs.Lists.{select, orElse, lastOf, table, gather}
-use Rattle.laws.specs.Search.{allBelow, anyBelow}
-use Rattle.laws.specs.Sums.{sumBelow}
+use Rattle.laws.specs.Basics.{Bool, true, false, not, _&&_, _||_, List, [], _∷_, _++_, map, Option, none, some, ℕ, zero, suc, _+_, eqb, ltb, leb, getD, set, pick}
+use Rattle.laws.specs.{Bits.bitsOf, Lists.select, Lists.orElse, Lists.lastOf, Lists.table, Lists.gather, Search.allBelow, Search.anyBelow, Sums.sumBelow}
 use Rattle.laws.specs.Tests.{countBelow}
-use Rattle.model.specs.declared.Interval.{Interval}
-use Rattle.model.specs.declared.CheckpointIndex.{CheckpointIndex}
-use Rattle.model.specs.declared.Pin.{Pin}
-use Rattle.model.specs.declared.Pin.the-variants.{Nothing, At}
-use Rattle.model.specs.declared.Checkpoint.{Checkpoint}
-use Rattle.model.specs.declared.Message.{Message}
-use Rattle.model.specs.declared.Disk.{Disk}
-use Rattle.model.specs.declared.Run.{Run}
+use Rattle.model.specs.declared.{Interval.Interval, CheckpointIndex.CheckpointIndex, Pin.Pin, Pin.the-variants.Nothing, Pin.the-variants.At, Disk.Disk}
+use Rattle.model.specs.declared.{Checkpoint.Checkpoint, Message.Message, Run.Run}
 use Rattle.model.specs.Words.{mostProcesses, initial, basic, forced, entry, below, liveIndex, isPinned, Process, live, blocksOf, zeroVector, noPins, blockCount, blank, process, withProcess, own, underWay, withMessages, withDisk, failed}
 
 -- A deleted checkpoint, as "pairs process, index".

@@ -1,16 +1,8 @@
 -- Document 01, "The trace": records, events, and the two ways between them.
 -- Assumes nothing.
-use mathlib.Core.Bool.{Bool, true, false, _&&_}
-use mathlib.Core.List.{List, [], _∷_}
-use mathlib.Core.Option.{Option, none, some}
-use mathlib.Core.Path.{_≡_}
-use Prim.Native.Nat.{ℕ, zero, suc, _+_, _*_, _/_, _%_}
-use lib.Dec.{eqb, ltb}
-use lib.ListN.{length}
-use Rattle.laws.specs.Choice.{pick}
+use Rattle.laws.specs.Basics.{_≡_, Bool, true, false, _&&_, List, [], _∷_, Option, none, some, ℕ, zero, suc, _+_, _*_, _/_, _%_, eqb, ltb, length, pick}
 use Rattle.laws.specs.Tests.{every}
-use Rattle.model.specs.declared.Fields.{Fields}
-use Rattle.model.specs.declared.Event.{Event}
+use Rattle.model.specs.declared.{Fields.Fields, Event.Event}
 use Rattle.model.specs.declared.Event.the-variants.{Checkpoint, Send, Deliver, Lose, Recover}
 
 -- The number of 32 bits that four bytes are, most significant first.

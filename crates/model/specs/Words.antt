@@ -1,21 +1,9 @@
 -- Document 01, "What the library covers" and "Words": limits, vectors, pins, kept checkpoints, the part of a state that is one process's.
 -- Assumes nothing.
-use mathlib.Core.Bool.{Bool, false}
-use mathlib.Core.List.{List, [], _∷_}
-use Prim.Native.Nat.{ℕ, _+_, _-_}
-use lib.Dec.{eqb, ltb}
-use lib.ListN.{length, getD, set, take, replicate}
-use Rattle.laws.specs.Bits.{bit}
-use Rattle.laws.specs.Lists.{placed}
-use Rattle.laws.specs.Tests.{some-of}
-use Rattle.model.specs.declared.Interval.{Interval}
-use Rattle.model.specs.declared.CheckpointIndex.{CheckpointIndex}
-use Rattle.model.specs.declared.Pin.{Pin}
-use Rattle.model.specs.declared.Pin.the-variants.{Nothing, At}
-use Rattle.model.specs.declared.Checkpoint.{Checkpoint}
-use Rattle.model.specs.declared.Message.{Message}
-use Rattle.model.specs.declared.Disk.{Disk}
-use Rattle.model.specs.declared.Run.{Run}
+use Rattle.laws.specs.Basics.{Bool, false, List, [], _∷_, ℕ, _+_, _-_, eqb, ltb, length, getD, take, set, replicate}
+use Rattle.laws.specs.{Bits.bit, Lists.placed, Tests.some-of}
+use Rattle.model.specs.declared.{Interval.Interval, CheckpointIndex.CheckpointIndex, Pin.Pin, Pin.the-variants.Nothing, Pin.the-variants.At, Disk.Disk}
+use Rattle.model.specs.declared.{Checkpoint.Checkpoint, Message.Message, Run.Run}
 
 -- "A run has n processes, 1 to 16, numbered from 0."
 abbrev pub mostProcesses : ℕ

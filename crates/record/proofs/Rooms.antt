@@ -1,11 +1,7 @@
 -- The program's buffers are large enough.
 -- Assumes nothing.
-use mathlib.Core.Path.{_≡_, refl}
-use mathlib.Core.Bool.{true}
-use Prim.Native.Nat.{ℕ, _≤_}
-use borrow.Author.Tests.{le-leb, eq-eqb}
-use Rattle.machine_record.specs.Played.{blockLines}
-use Rattle.machine_record.specs.Lent.{hasRoom}
+use Rattle.laws.specs.Basics.{_≡_, refl, true, ℕ, _≤_, eq-eqb, le-leb}
+use Rattle.machine_record.specs.{Played.blockLines, Lent.hasRoom}
 
 pub has-room : (memory words input out lines : ℕ) → 6 ≤ memory → words ≡ 6464 → 4099 ≤ input → blockLines ≤ out → blockLines ≤ lines → hasRoom memory words input out lines ≡ true
 unfolding hasRoom

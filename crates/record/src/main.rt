@@ -4,12 +4,9 @@
 
 use machines::Request;
 use words::WORDS;
-ghost use mathlib.Core.Path.{_≡_};
-ghost use mathlib.Core.Bool.{true};
-ghost use lib.ListN.{length};
+ghost use Rattle.laws.specs.Basics.{_≡_, true, length};
 ghost use Rattle.machines.specs.Machines.{Ended};
-ghost use Rattle.machine_record.specs.Machine.{machine};
-ghost use Rattle.machine_record.specs.Lent.{hasRoom, stateOf};
+ghost use Rattle.machine_record.specs.{Machine.machine, Lent.hasRoom, Lent.stateOf};
 
 // Each request is obeyed, and what came of it handed back, until the machine stops.
 fn drive(

@@ -1,17 +1,11 @@
 -- Buffers that are large enough; they keep their sizes, so it is one machine all along.
 -- Assumes nothing.
-use mathlib.Core.Path.{_≡_}
-use mathlib.Core.Bool.{true}
-use mathlib.Core.List.{List}
-use Prim.Native.Nat.{ℕ, _≤_}
-use borrow.Author.Tests.{eq-eqb, le-leb}
+use Rattle.laws.specs.Basics.{_≡_, true, List, ℕ, _≤_, eq-eqb, le-leb}
 use Rattle.listing.specs.Lines.{longestLine}
 use Rattle.words.specs.Layout.{stateSize}
+use Rattle.machines.specs.{Machines.Answer, Machines.stepped, Forms.Asks}
+use Rattle.machine_replay.specs.{Replaying.State, Replaying.asks, Replaying.replaying, Standing.leastInput, Standing.enoughRoom}
 use Rattle.machines.specs.declared.Request as requests
-use Rattle.machines.specs.Machines.{Answer, stepped}
-use Rattle.machines.specs.Forms.{Asks}
-use Rattle.machine_replay.specs.Replaying.{State, asks, replaying}
-use Rattle.machine_replay.specs.Standing.{leastInput, enoughRoom}
 
 pub large-enough : (words input out : ℕ) → words ≡ stateSize → leastInput ≤ input → longestLine ≤ out → enoughRoom words input out ≡ true
 unfolding enoughRoom

@@ -3,14 +3,11 @@
 
 use machines::Request;
 use words::WORDS;
-ghost use mathlib.Core.Path.{_≡_};
-ghost use Prim.Native.Nat.{_≤_};
-ghost use lib.ListN.{length};
+ghost use Rattle.laws.specs.Basics.{_≡_, _≤_, length};
 ghost use Rattle.listing.specs.Lines.{longestLine};
 ghost use Rattle.words.specs.Layout.{stateSize};
 ghost use Rattle.machines.specs.Machines.{Ended};
-ghost use Rattle.machine_replay.specs.Replaying.{replaying};
-ghost use Rattle.machine_replay.specs.Standing.{numbers, leastInput, stateOf};
+ghost use Rattle.machine_replay.specs.{Replaying.replaying, Standing.numbers, Standing.leastInput, Standing.stateOf};
 
 // Each request is obeyed, and what came of it handed back, until the machine stops.
 fn drive(words: &mut [u16], memory: &mut [u64], input: &mut [u8], out: &mut [u8]) -> Request

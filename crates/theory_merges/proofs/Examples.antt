@@ -1,9 +1,7 @@
 -- What a process sees of small runs, by computation.
 -- Assumes nothing.
-use mathlib.Core.Path.{refl}
-use Rattle.laws.specs.Lists.{select, lastOf, table, gather, placed}
-use Rattle.laws.specs.Search.{allBelow, anyBelow}
-use Rattle.laws.specs.Sums.{sumBelow}
+use Rattle.laws.specs.Basics.{refl}
+use Rattle.laws.specs.{Lists.select, Lists.lastOf, Lists.table, Lists.gather, Lists.placed, Search.allBelow, Search.anyBelow, Sums.sumBelow}
 use Rattle.laws.specs.Tests.{countBelow, every, some-of}
 use Rattle.model.specs.Words.{isPinned, live, blocksOf, blockCount, blank, process, withProcess, own, underWay, withMessages, withDisk}
 use Rattle.model.specs.Steps.{settled, listed, gone, deletions, billed, withProcesses, checkpointZero, started, opening, startState, advanced, storing, checkpointed, checkpointState, checkpointDeletions, sentMessage, marked, sendState, found, others, newer, forces, takenEntry, takenVector, takenPin, takenPins, risen, takenIn, delivered, deliverState, deliverRisen, deliverDeletions, loseState, allowed, states, latestAllowed, member, lineOf, rolledBack, vectorAfter, notLost, ownAfter, latestPin, movedPin, pinAfter, pinsAfter, recovered, lostBy, stillUnderWay, goneAt, deletedAt, recoverState, recoverDeletions, rolledBackCount}

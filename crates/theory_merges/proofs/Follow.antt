@@ -1,49 +1,27 @@
 -- One accepted call, followed in the sub-run without checkpoint g of f and all that comes after it: it is taken over, becomes a loss or is left out.
 -- Process i, which never knows more than g of f, sees the same.
 -- Assumes nothing.
-use mathlib.Core.Path.{_≡_, refl, sym, _∙_, ap, subst}
-use mathlib.Core.Bool.{true, false, _&&_}
-use mathlib.Core.List.{List, [], _∷_, _++_}
-use mathlib.Core.Logic.{_⊎_, inl, inr}
-use mathlib.Core.Option.{none}
-use Prim.Native.Nat.{ℕ, suc, _+_, _≤_, _<_}
-use native.Mathlib.Omega.{arith}
-use lib.Dec.{eqb, leb}
-use lib.ListN.{length}
-use borrow.Author.Tests.{leb-true, leb-false, ne-eqb, le-leb}
-use Rattle.laws.specs.Choice.{pick, by-bool}
-use Rattle.laws.specs.Counting.{count-mono}
-use Rattle.laws.specs.Tests.{countBelow}
-use Rattle.laws.specs.Truth.{never-both, and-left}
-use Rattle.model.specs.Words as words
+use Rattle.laws.specs.Basics.{_≡_, refl, sym, _∙_, ap, subst, true, false, _&&_, List, [], _∷_, _++_, none, _⊎_, inl, inr, ℕ, suc, _+_, _≤_, _<_, arith, eqb, leb, length, ne-eqb, le-leb, leb-true, leb-false, pick, by-bool}
+use Rattle.laws.specs.{Counting.count-mono, Tests.countBelow, Truth.never-both, Truth.and-left}
 use Rattle.model.specs.Words.{basic, mostProcesses, mostUnderWay, mostInterval, mostBlocks}
 use Rattle.model.specs.declared.Named.{Named}
 use Rattle.model.specs.Refusals.{checkpointRefusal, sendRefusal, deliverRefusal, loseRefusal}
 use Rattle.whole_runs.specs.Outcomes.{deliverAnswer, deliverOutcome, deliverReport}
 use Rattle.whole_runs.specs.Calls.{Call, checkpoint, send, deliver, lose, recover, line, earliest, answered, call}
 use Rattle.theory_merges.specs.Seen.{Seen, took, forced, sentTo, got, forcedIn, seenOf, isRecovery}
-use Rattle.histories.proofs.Run.{Ideal, Ledger, because, checkpointed, sending, forces, delivered, lost}
-use Rattle.histories.proofs.Invariant.{Inv}
-use Rattle.histories.proofs.Ledger.{ledger-inv}
+use Rattle.histories.proofs.{Run.Ideal, Run.Ledger, Run.because, Run.checkpointed, Run.sending, Run.forces, Run.delivered, Run.lost, Invariant.Inv, Lost.lost-n}
+use Rattle.histories.proofs.{Ledger.ledger-inv, Messages.underway-proper, Checkpointed.checkpointed-inv, Sending.sending-inv, Delivered.delivered-inv}
 use Rattle.histories.proofs.Counted.{newIn, Paid, checkpointed-new, checkpointed-paid, delivered-new-forced, delivered-new-plain, delivered-paid}
-use Rattle.histories.proofs.Messages.{underway-proper}
-use Rattle.histories.proofs.Checkpointed.{checkpointed-inv}
-use Rattle.histories.proofs.Sending.{sending-inv}
-use Rattle.histories.proofs.Delivered.{delivered-inv}
-use Rattle.histories.proofs.Lost.{lost-n}
 use Rattle.histories.proofs.Local.{localOf, tookAt, sentAt, local-took, local-sent, local-lost}
 use Rattle.histories.proofs.SubMessages.{SubMessages, Counterpart, With, Without, passes, lost-without, delivered-without, sending-with, messages-stay, checkpointed-messages-stay, messages-same, messages-gone, messages-left, messages-skipped, messages-added}
 use Rattle.histories.proofs.SubRun.{Cheaper, SubRun, knownOf, StepAt, at-because, without-because, stay-because, part-because, forces-because, subrun-kept, subrun-left, subrun-messages, checkpointed-at, sending-at, delivered-at, got-same, forces-same, delivered-takes, delivered-rises, checkpointed-rises, sending-row, own-part, live-part}
 use Rattle.model.proofs.simulation.View.{vectorOf, messageOf, messagesOf, stateOf, Limits}
-use Rattle.model.proofs.simulation.Accepted.{send-out}
-use Rattle.model.proofs.simulation.Reads.{last-is, underway-is}
-use Rattle.model.proofs.simulation.Messages.{used-number, found-is}
-use Rattle.model.proofs.simulation.Deliver.{deliver-forces}
+use Rattle.model.proofs.{simulation.Accepted.send-out, simulation.Reads.last-is, simulation.Reads.underway-is, simulation.Deliver.deliver-forces}
+use Rattle.model.proofs.{simulation.Messages.used-number, simulation.Messages.found-is, simulation.SoundLimits.messages-count}
 use Rattle.model.proofs.simulation.SoundCalls.{checkpoint-run, send-run, deliver-run, lose-run}
-use Rattle.model.proofs.simulation.SoundLimits.{messages-count}
 use Rattle.model.proofs.simulation.Admitted.{checkpoint-admitted, send-admitted, deliver-admitted, lose-admitted, deliver-early}
-use Rattle.whole_runs.proofs.whole.Reached.{refusal}
-use Rattle.whole_runs.proofs.whole.Runs.{stepped}
+use Rattle.whole_runs.proofs.{whole.Reached.refusal, whole.Runs.stepped}
+use Rattle.model.specs.Words as words
 
 -- What the receipt of message m shows to its receiver.
 unfoldable receiptOf : Ideal → ℕ → List Seen

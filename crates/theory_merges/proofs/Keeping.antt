@@ -1,28 +1,13 @@
 -- Note 12, proved: a merge that comes to its end keeps both halves' orders, and each record stands in the half of its process.
 -- Assumes nothing.
-use mathlib.Core.Path.{_≡_, refl, sym, _∙_, ap, fun-ext}
-use mathlib.Core.Bool.{Bool, true, false, _&&_, _||_, not}
-use mathlib.Core.List.{List, [], _∷_, _++_, map, append-assoc}
-use mathlib.Core.Logic.{_⊎_, inl, inr}
-use mathlib.Core.Option.{Option, none, some}
-use Prim.Native.Nat.{ℕ, zero, suc, _+_, _/_, _%_, _≤_, _<_}
-use native.Mathlib.Omega.{arith}
-use lib.Dec.{eqb, leb}
-use lib.ListN.{length}
-use borrow.Author.Tests.{leb-true, not-true, not-false}
-use Rattle.laws.specs.Choice.{pick, by-bool}
-use Rattle.laws.specs.Tests.{every}
-use Rattle.laws.specs.Truth.{never-both, and-both, or-right}
-use Rattle.model.specs.declared.Fields.{Fields}
-use Rattle.model.specs.declared.Refusal.{Refusal}
-use Rattle.model.specs.Words.{inSet}
-use Rattle.model.specs.Trace.{ifZero}
-use Rattle.model.specs.laws.Refusals.{no-rule}
+use Rattle.laws.specs.Basics.{_≡_, refl, sym, _∙_, ap, fun-ext, Bool, true, false, not, _&&_, _||_, List, [], _∷_, _++_, map, append-assoc, Option, none, some, _⊎_, inl, inr, ℕ, zero, suc, _+_, _/_, _%_, _≤_, _<_, arith, eqb, leb, length, leb-true, not-true, not-false, pick, by-bool}
+use Rattle.laws.specs.{Tests.every, Truth.never-both, Truth.and-both, Truth.or-right}
+use Rattle.model.specs.declared.{Fields.Fields, Refusal.Refusal}
+use Rattle.model.specs.{Words.inSet, Trace.ifZero, laws.Refusals.no-rule}
 use Rattle.whole_runs.specs.Outcomes.{judged}
 use Rattle.theory_merges.specs.Halves.{HalfEvent, checkpointAt, sendTo, deliverOf, loseOf, sendBy, howMany, messageNumber, receiverOf, receiverIn, newestFirst, KeepsBoth, wasSent, sendsFirst, happensAt, SplitBy}
 use Rattle.theory_merges.specs.Merge.{argumentSender, argumentCount, halfEventOf, isReady, Next, nextIs, neither, nextOfSecond, nextRecord, inHalf, recordRefusal, Taken, stopped, took, onRecord, onNext, takeFrom, MergeKeeps}
-use Rattle.theory_merges.proofs.Lists.{number-out, reversed-append, receiver-still}
-use Rattle.theory_merges.proofs.Orders.{same-receiver}
+use Rattle.theory_merges.proofs.{Lists.number-out, Lists.reversed-append, Lists.receiver-still, Orders.same-receiver}
 
 -- What a record of a half stands for.
 zero-out : (k : ℕ) (x y : HalfEvent) → ifZero k x ≡ some y → x ≡ y

@@ -1,17 +1,6 @@
 -- Note 12: lists of records taken, newest first: the numbers of their messages, the part before a send, the records of one process.
-use mathlib.Core.Path.{_≡_, refl, sym, _∙_, ap}
-use mathlib.Core.Bool.{Bool, true, false, _&&_, _||_, not}
-use mathlib.Core.List.{List, [], _∷_, _++_, append-assoc}
-use mathlib.Core.Logic.{_⊎_, inl, inr}
-use Prim.Native.Nat.{ℕ, suc, _≤_, _<_}
-use native.Mathlib.Omega.{arith}
-use lib.Dec.{eqb}
-use borrow.Author.Tests.{eq-eqb, ne-eqb, eqb-true}
-use Rattle.laws.specs.Choice.{pick, by-bool}
-use Rattle.laws.specs.Lists.{select}
-use Rattle.laws.specs.Select.{select-append}
-use Rattle.laws.specs.Tests.{every}
-use Rattle.laws.specs.Truth.{never-both, and-left, and-right, and-no-right}
+use Rattle.laws.specs.Basics.{_≡_, refl, sym, _∙_, ap, Bool, true, false, not, _&&_, _||_, List, [], _∷_, _++_, append-assoc, _⊎_, inl, inr, ℕ, suc, _≤_, _<_, arith, eqb, eq-eqb, ne-eqb, eqb-true, pick, by-bool}
+use Rattle.laws.specs.{Lists.select, Select.select-append, Tests.every, Truth.never-both, Truth.and-left, Truth.and-right, Truth.and-no-right}
 use Rattle.theory_merges.specs.Halves.{HalfEvent, checkpointAt, sendTo, deliverOf, loseOf, isSend, sendBy, howMany, isSendNumber, messageNumber, receives, receiverOf, newestFirst, happensAt, KeepsBoth}
 
 -- A message with a number was sent: its count is at most the number of its sender's sends, and its number at most that of all.

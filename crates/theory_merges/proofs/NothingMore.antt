@@ -2,39 +2,21 @@
 -- It is the run without checkpoint g of f and all that comes causally after it, where the process's pin for f names the checkpoint and g is the last interval of f that the
 -- process knows.
 -- Assumes nothing.
-use mathlib.Core.Path.{_≡_, refl, sym, _∙_, ap}
-use mathlib.Core.Bool.{Bool, true, false, _&&_, not}
-use mathlib.Core.List.{List, [], _∷_}
-use mathlib.Core.Logic.{inl, inr}
-use mathlib.Core.Option.{none, some}
-use Prim.Native.Nat.{ℕ, suc, _≤_, _<_}
-use native.Mathlib.Omega.{arith}
-use lib.Dec.{leb}
-use borrow.Author.Tests.{eq-eqb, leb-true, leb-false}
-use Rattle.laws.specs.Choice.{pick, by-bool}
+use Rattle.laws.specs.Basics.{_≡_, refl, sym, _∙_, ap, Bool, true, false, not, _&&_, List, [], _∷_, none, some, inl, inr, ℕ, suc, _≤_, _<_, arith, leb, eq-eqb, leb-true, leb-false, pick, by-bool}
 use Rattle.laws.specs.Truth.{never-both, and-left, and-right}
-use Rattle.model.specs.declared.Run.{Run}
-use Rattle.model.specs.declared.Refusal.{Refusal}
-use Rattle.model.specs.Words.{basic, forced}
+use Rattle.model.specs.declared.{Run.Run, Refusal.Refusal}
+use Rattle.model.specs.{Words.basic, Words.forced, laws.Refusals.by-refusal}
 use Rattle.theory_merges.specs.Seen.{seenOf, isAccepted, seen, allAccepted, isRecovery, unrecovered, NothingMoreCouldGo, SafeRule, NoRuleDeletesMore}
-use Rattle.model.specs.laws.Refusals.{by-refusal}
-use Rattle.whole_runs.specs.Outcomes.{startOutcome}
+use Rattle.whole_runs.specs.{Outcomes.startOutcome, Survival.Surviving, Survival.beginning, Survival.after, Survival.survivingFrom, Survival.surviving}
 use Rattle.whole_runs.specs.Calls.{Call, checkpoint, send, deliver, lose, recover, line, earliest, call, stateAfter, transcript}
-use Rattle.whole_runs.specs.Survival.{Surviving, beginning, after, survivingFrom, surviving}
-use Rattle.histories.proofs.Run.{Ideal, because, begun, sending, lost}
-use Rattle.histories.proofs.Invariant.{Inv}
-use Rattle.histories.proofs.Ledger.{ledger-inv}
-use Rattle.histories.proofs.Rule.{keeps-out}
+use Rattle.histories.proofs.{Run.Ideal, Run.because, Run.begun, Run.sending, Run.lost, Invariant.Inv, Ledger.ledger-inv, Rule.keeps-out}
 use Rattle.histories.proofs.Local.{Local, localOf}
 use Rattle.histories.proofs.SubRun.{SubRun, knownOf, own-part, subrun-begin, checkpointed-rises, delivered-rises}
-use Rattle.model.proofs.simulation.View.{stateOf}
-use Rattle.model.proofs.simulation.SoundCalls.{deliver-run}
-use Rattle.whole_runs.proofs.whole.Accepted.{accepted-report}
+use Rattle.model.proofs.{simulation.View.stateOf, simulation.SoundCalls.deliver-run}
+use Rattle.whole_runs.proofs.{whole.Accepted.accepted-report, whole.Runs.stepped, whole.Runs.unlessRefused, whole.Runs.runAfter, Best.in-best-line}
 use Rattle.whole_runs.proofs.whole.Reached.{Reached, exchange, refusal, refused-reached, refused-report, refused-number}
-use Rattle.whole_runs.proofs.whole.Runs.{stepped, unlessRefused, runAfter}
 use Rattle.theory_merges.proofs.Follow.{next}
 use Rattle.whole_runs.proofs.WholeRuns.{start-reached, accepted-reached, calls-reached}
-use Rattle.whole_runs.proofs.Best.{in-best-line}
 
 -- Whether a call is accepted, by its refusal.
 pub accepted-in : (s : Run) (c : Call) → refusal s c ≡ none → isAccepted s c ≡ true

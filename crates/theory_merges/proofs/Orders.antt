@@ -1,37 +1,17 @@
 -- Note 12, proved: any two orders of two halves in which every record is accepted end with the same vectors, pins and kept checkpoints.
 -- Assumes nothing.
-use mathlib.Core.Path.{_≡_, refl, sym, _∙_, ap, subst}
-use mathlib.Core.Bool.{Bool, true, false, _&&_, not}
-use mathlib.Core.List.{List, [], _∷_, _++_}
-use mathlib.Core.Logic.{_⊎_, inl, inr}
-use mathlib.Core.Option.{none, some}
-use Prim.Native.Nat.{ℕ, suc, _+_, _≤_, _<_}
-use native.Mathlib.Omega.{arith}
-use lib.Dec.{eqb}
-use lib.ListN.{length}
-use borrow.Author.Tests.{eqb-true}
-use Rattle.laws.specs.Choice.{by-bool}
-use Rattle.laws.specs.Lists.{select}
-use Rattle.laws.specs.Tests.{every}
-use Rattle.laws.specs.Truth.{never-both, and-left, and-right, and-both}
+use Rattle.laws.specs.Basics.{_≡_, refl, sym, _∙_, ap, subst, Bool, true, false, not, _&&_, List, [], _∷_, _++_, none, some, _⊎_, inl, inr, ℕ, suc, _+_, _≤_, _<_, arith, eqb, length, eqb-true, by-bool}
+use Rattle.laws.specs.{Lists.select, Tests.every, Truth.never-both, Truth.and-left, Truth.and-right, Truth.and-both}
 use Rattle.model.specs.declared.Run.{Run}
-use Rattle.model.specs.Words.{inSet, withMessages, withDisk, blank}
-use Rattle.model.specs.Steps.{withProcesses}
-use Rattle.model.specs.laws.Refusals.{by-refusal}
-use Rattle.whole_runs.specs.Outcomes.{startOutcome}
-use Rattle.whole_runs.specs.Calls.{Call, call, stateAfter}
-use Rattle.whole_runs.specs.Listing.{callOf}
+use Rattle.model.specs.{Words.inSet, Words.withMessages, Words.withDisk, Words.blank, Steps.withProcesses, laws.Refusals.by-refusal}
+use Rattle.whole_runs.specs.{Outcomes.startOutcome, Calls.Call, Calls.call, Calls.stateAfter, Listing.callOf}
 use Rattle.whole_runs.specs.Survival.{Surviving, beginning, after, survivingFrom}
 use Rattle.theory_merges.specs.Seen.{isAccepted, allAccepted}
 use Rattle.theory_merges.specs.Halves.{HalfEvent, checkpointAt, sendTo, deliverOf, loseOf, isSend, sendBy, howMany, messageNumber, receiverOf, receiverIn, plainEvent, callsFrom, newestFirst, happensAt, SplitBy, KeepsBoth, SameProcesses, OrdersAgree}
-use Rattle.histories.proofs.Run.{Ideal, begun}
-use Rattle.histories.proofs.Messages.{underway-proper}
-use Rattle.histories.proofs.Local.{localOf}
+use Rattle.histories.proofs.{Run.Ideal, Run.begun, Messages.underway-proper, Local.localOf}
 use Rattle.theory_merges.proofs.Lists.{own, own-append, reversed-append, reversed-select, keeps-first, keeps-second, receiver-of-sends, receiver-still, receiver-new, one-more, keeps-append}
 use Rattle.theory_merges.proofs.Parts.{Part, partOf, partAfter, carriedBy, Follows, follows-begin, follows-checkpoint, follows-lose, follows-deliver, follows-send}
-use Rattle.model.proofs.simulation.View.{processOf, partsOf, stateOf}
-use Rattle.model.proofs.simulation.Rows.{process-same}
-use Rattle.model.proofs.simulation.Parts.{all-agree}
+use Rattle.model.proofs.{simulation.View.processOf, simulation.View.partsOf, simulation.View.stateOf, simulation.Rows.process-same, simulation.Parts.all-agree}
 use Rattle.model.proofs.simulation.SoundCalls.{deliver-run}
 use Rattle.whole_runs.proofs.whole.Reached.{Reached, exchange, refusal}
 use Rattle.whole_runs.proofs.whole.Runs.{stepped, runAfter, run-accepted}

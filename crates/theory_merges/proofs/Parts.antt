@@ -1,15 +1,6 @@
 -- Note 12: what a process is after its own records is the same in every order: its part of the run is a function of its records, in which a delivered message
 -- carries what its sender's records before the send make of the sender. How far back messages go is bounded by the number of records.
-use mathlib.Core.Path.{_≡_, refl, sym, _∙_, ap, subst}
-use mathlib.Core.Bool.{Bool, true, false}
-use mathlib.Core.List.{List, [], _∷_, _++_}
-use mathlib.Core.Logic.{_⊎_, inl, inr}
-use Prim.Native.Nat.{ℕ, zero, suc, _≤_, _<_}
-use native.Mathlib.Omega.{arith}
-use lib.ListN.{length}
-use lib.Dec.{eqb}
-use borrow.Author.Tests.{eq-eqb, ne-eqb}
-use Rattle.laws.specs.Choice.{pick, by-bool, by-eq}
+use Rattle.laws.specs.Basics.{_≡_, refl, sym, _∙_, ap, subst, Bool, true, false, List, [], _∷_, _++_, _⊎_, inl, inr, ℕ, zero, suc, _≤_, _<_, arith, eqb, length, eq-eqb, ne-eqb, pick, by-bool, by-eq}
 use Rattle.laws.specs.Update.{upd, upd-same, upd-other}
 use Rattle.model.specs.Words.{basic, forced}
 use Rattle.theory_merges.specs.Halves.{HalfEvent, checkpointAt, sendTo, deliverOf, loseOf, isSend, sendBy, howMany, messageNumber, receiverOf, happensAt}

@@ -1,32 +1,17 @@
 -- Note 12, proved: the bytes of a merge are a plain trace, and replaying them is the run of the merged calls.
 -- Assumes nothing.
-use mathlib.Core.Path.{_≡_, refl, sym, _∙_, ap}
-use mathlib.Core.Bool.{Bool, true, false}
-use mathlib.Core.List.{List, [], _∷_, _++_, append-assoc, append-nil}
-use mathlib.Core.Option.{Option, none, some}
-use Prim.Native.Nat.{ℕ, zero, suc, _+_, _*_, _/_, _≤_, _<_}
-use native.Mathlib.Omega.{arith}
-use lib.Dec.{eqb, leb, ltb}
-use lib.ListN.{length, length-append}
-use borrow.Author.Tests.{lt-ltb, leb-true, leb-false, ltb-false, eqb-false, not-false}
-use Rattle.laws.specs.Choice.{by-bool}
+use Rattle.laws.specs.Basics.{_≡_, refl, sym, _∙_, ap, Bool, true, false, List, [], _∷_, _++_, append-nil, append-assoc, Option, none, some, ℕ, zero, suc, _+_, _*_, _/_, _≤_, _<_, arith, eqb, ltb, leb, length, length-append, eqb-false, lt-ltb, ltb-false, leb-true, leb-false, not-false, by-bool}
 use Rattle.laws.specs.Truth.{and-right, or-none}
-use Rattle.model.specs.declared.Fields.{Fields}
-use Rattle.model.specs.declared.Refusal.{Refusal}
-use Rattle.model.specs.declared.MergeAnswer.the-variants as merge-answer
-use Rattle.model.specs.declared.Run.{Run}
-use Rattle.model.specs.declared.Event.{Event}
-use Rattle.model.specs.Words.{mostProcesses}
-use Rattle.model.specs.laws.Refusals.{no-rule, number-range}
+use Rattle.model.specs.declared.{Fields.Fields, Refusal.Refusal, Run.Run, Event.Event}
+use Rattle.model.specs.{Words.mostProcesses, laws.Refusals.no-rule, laws.Refusals.number-range}
 use Rattle.model.specs.Trace.{decoded, fieldsOf, fits, wordOf, bytesOf, encoded}
-use Rattle.whole_runs.specs.Calls.{Call, call, stateAfter}
-use Rattle.whole_runs.specs.Listing.{callOf, perform, stateAfterRecords}
+use Rattle.whole_runs.specs.{Calls.Call, Calls.call, Calls.stateAfter, Listing.callOf, Listing.perform, Listing.stateAfterRecords}
 use Rattle.theory_merges.specs.Halves.{HalfEvent, checkpointAt, sendTo, deliverOf, loseOf, isSend, howMany, isSendNumber, messageNumber, plainEvent, callsFrom, newestFirst}
 use Rattle.theory_merges.specs.Merge.{halfEventOf, nextRecord, outOfRun, recordRefusal, Taken, stopped, took, takeFrom, fieldsIn, countOf, afterFirstByte, badCount, tooMany, mergeRefusal, plainBytes, MergeOutcome, finished, mergeOutcome, mergeReport, MergeKeeps, MergeReplays, MergePromise}
 use Rattle.theory_merges.proofs.Keeping.{next-out, record-out, merge-keeps}
 use Rattle.model.proofs.Records.{records-are-events}
-use Rattle.whole_runs.proofs.Blocks.{states-by-block, one-state}
-use Rattle.whole_runs.proofs.WholeRuns.{after-one}
+use Rattle.whole_runs.proofs.{Blocks.states-by-block, Blocks.one-state, WholeRuns.after-one}
+use Rattle.model.specs.declared.MergeAnswer.the-variants as merge-answer
 
 -- A run-wide number is at most the count of the records taken.
 sends-few : (l : List HalfEvent) → howMany isSend l ≤ length l

@@ -1,22 +1,11 @@
 -- Document 02, Note 12, "Two halves of one run": the records of two halves, orders of them, and what any two orders have in common. Merge has the merge.
 -- Assumes nothing.
-use mathlib.Core.Path.{_≡_}
-use mathlib.Core.Bool.{Bool, true, false, _&&_, not}
-use mathlib.Core.List.{List, [], _∷_, _++_}
-use mathlib.Core.Logic.{_⊎_}
-use mathlib.Core.Option.{none}
-use Prim.Native.Nat.{ℕ, suc}
-use lib.Dec.{eqb, leb}
-use Rattle.laws.specs.Choice.{pick}
+use Rattle.laws.specs.Basics.{_≡_, Bool, true, false, not, _&&_, List, [], _∷_, _++_, none, _⊎_, ℕ, suc, eqb, leb, pick}
 use Rattle.laws.specs.Tests.{every}
-use Rattle.model.specs.declared.Run.{Run}
-use Rattle.model.specs.declared.Event.{Event}
+use Rattle.model.specs.declared.{Run.Run, Event.Event}
 use Rattle.model.specs.declared.Event.the-variants.{Checkpoint, Send, Deliver, Lose}
-use Rattle.model.specs.Words.{inSet}
-use Rattle.model.specs.Refusals.{startRefusal}
-use Rattle.whole_runs.specs.Outcomes.{startOutcome}
-use Rattle.whole_runs.specs.Calls.{Call, stateAfter}
-use Rattle.whole_runs.specs.Listing.{callOf}
+use Rattle.model.specs.{Words.inSet, Refusals.startRefusal}
+use Rattle.whole_runs.specs.{Outcomes.startOutcome, Calls.Call, Calls.stateAfter, Listing.callOf}
 use Rattle.theory_merges.specs.Seen.{allAccepted}
 
 -- What a record of a half stands for. "In a half, kinds 0 to 3 occur, and in deliver and lose .. the argument names a message by .. sender, then .. that

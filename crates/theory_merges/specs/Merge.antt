@@ -1,26 +1,13 @@
 -- Document 02, Note 12, "Two halves of one run": the merge of two halves.
 -- Assumes nothing.
-use mathlib.Core.Path.{_≡_}
-use mathlib.Core.Bool.{Bool, true, false, _&&_, _||_, not}
-use mathlib.Core.List.{List, [], _∷_, _++_, map}
-use mathlib.Core.Option.{Option, none, some}
-use Prim.Native.Nat.{ℕ, zero, suc, _+_, _*_, _/_, _%_, _^_, _≤_, _<_}
-use lib.Dec.{eqb, ltb, leb}
-use lib.ListN.{length}
-use Rattle.laws.specs.Choice.{pick}
-use Rattle.model.specs.declared.Run.{Run}
-use Rattle.model.specs.declared.Fields.{Fields}
-use Rattle.model.specs.declared.Refusal.{Refusal}
+use Rattle.laws.specs.Basics.{_≡_, Bool, true, false, not, _&&_, _||_, List, [], _∷_, _++_, map, Option, none, some, ℕ, zero, suc, _+_, _*_, _/_, _%_, _^_, _≤_, _<_, eqb, ltb, leb, length, pick}
+use Rattle.model.specs.declared.{Run.Run, Fields.Fields, Refusal.Refusal, MergeAnswer.MergeAnswer}
 use Rattle.model.specs.declared.Refusal.the-variants.{CountOutsideRange, ListTooShort, NoSuchProcess, SenderIsReceiver, NoSuchFailedProcess, NoFirstByte, LeftOverBytes, MalformedRecord, TooManyRecords, HalvesMismatch, NeitherReady}
-use Rattle.model.specs.declared.MergeAnswer.{MergeAnswer}
-use Rattle.model.specs.declared.MergeAnswer.the-variants as merge-answer
-use Rattle.model.specs.Words.{mostProcesses, inSet}
-use Rattle.model.specs.Refusals.{firstOf}
-use Rattle.model.specs.Trace.{fields, ifZero, fieldsOf, wordOf, bytesOf}
-use Rattle.whole_runs.specs.Outcomes.{judged, written, Report, refusing, accepting}
-use Rattle.whole_runs.specs.Calls.{stateAfter}
+use Rattle.model.specs.{Words.mostProcesses, Words.inSet, Refusals.firstOf, Trace.fields, Trace.ifZero, Trace.fieldsOf, Trace.wordOf, Trace.bytesOf}
+use Rattle.whole_runs.specs.{Outcomes.judged, Outcomes.written, Outcomes.Report, Outcomes.refusing, Outcomes.accepting, Calls.stateAfter}
 use Rattle.whole_runs.specs.Listing.{stateAfterRecords}
 use Rattle.theory_merges.specs.Halves.{HalfEvent, checkpointAt, sendTo, deliverOf, loseOf, messageNumber, receiverOf, plainEvent, callsFrom, newestFirst, KeepsBoth, sendsFirst, happensAt, SplitBy}
+use Rattle.model.specs.declared.MergeAnswer.the-variants as merge-answer
 
 -- "the argument names a message by 4 bits of sender, then 21 bits of that sender's running count": 2,097,152 is 2 to the power 21.
 abbrev pub argumentSender : Fields → ℕ

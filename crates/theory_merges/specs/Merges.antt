@@ -1,12 +1,7 @@
 -- A table of merges, for Note 12 of document 02: what is written of two halves, and for each number two halves that meet it and also the number that comes
 -- next. proofs/Merges has the theorem.
 -- Assumes nothing.
-use mathlib.Core.Bool.{Bool, _&&_}
-use mathlib.Core.List.{List, [], _∷_}
-use Prim.Native.Nat.{ℕ}
-use lib.Dec.{eqb}
-use lib.ListN.{replicate}
-use Rattle.laws.specs.Choice.{pick}
+use Rattle.laws.specs.Basics.{Bool, _&&_, List, [], _∷_, ℕ, eqb, replicate, pick}
 use Rattle.laws.specs.Tests.{every, same}
 use Rattle.theory_merges.specs.Merge.{mergeOutcome, mergeReport}
 

@@ -1,21 +1,10 @@
 -- Note 14, "Nothing more could go": what a process sees of a run, and that no rule that goes by it could delete more. proofs/NothingMore has the theorems.
 -- Assumes nothing.
-use mathlib.Core.Path.{_≡_}
-use mathlib.Core.Bool.{Bool, true, false, _&&_, not}
-use mathlib.Core.List.{List, [], _∷_, _++_}
-use mathlib.Core.Option.{Option, none, some}
-use Prim.Native.Nat.{ℕ, _^_, _<_}
-use lib.Dec.{eqb}
-use lib.ListN.{replicate}
-use Rattle.laws.specs.Choice.{pick}
-use Rattle.model.specs.declared.Interval.{Interval}
-use Rattle.model.specs.declared.Run.{Run}
-use Rattle.model.specs.Words.{ones}
-use Rattle.model.specs.Refusals.{startRefusal}
-use Rattle.whole_runs.specs.Outcomes.{message, startOutcome}
+use Rattle.laws.specs.Basics.{_≡_, Bool, true, false, not, _&&_, List, [], _∷_, _++_, Option, none, some, ℕ, _^_, _<_, eqb, replicate, pick}
+use Rattle.model.specs.declared.{Interval.Interval, Run.Run}
+use Rattle.model.specs.{Words.ones, Refusals.startRefusal}
+use Rattle.whole_runs.specs.{Outcomes.message, Outcomes.startOutcome, Survival.surviving, Best.InBestLine}
 use Rattle.whole_runs.specs.Calls.{Call, checkpoint, send, deliver, lose, recover, line, earliest, call, transcript}
-use Rattle.whole_runs.specs.Survival.{surviving}
-use Rattle.whole_runs.specs.Best.{InBestLine}
 
 -- "this process sees the same own events and the same carried vectors, message numbers set aside": an event of a process, as it sees it.
 pub data Seen : Type 0 where

@@ -1,13 +1,6 @@
 -- One more event at the end of one list: what stands where then.
 -- Assumes nothing.
-use mathlib.Core.Path.{_≡_, refl, _∙_, ap}
-use mathlib.Core.Logic.{_⊎_, inl, inr}
-use mathlib.Core.List.{List, [], _∷_, _++_}
-use mathlib.Core.Option.{none, some}
-use Prim.Native.Nat.{ℕ, zero, suc, _+_, _≤_}
-use native.Mathlib.Omega.{arith}
-use lib.ListN.{length}
-use Rattle.laws.specs.Choice.{by-eq}
+use Rattle.laws.specs.Basics.{_≡_, refl, _∙_, ap, List, [], _∷_, _++_, none, some, _⊎_, inl, inr, ℕ, zero, suc, _+_, _≤_, arith, length, by-eq}
 use Rattle.laws.specs.Update.{upd-same, upd-other}
 use Rattle.histories.specs.History.{HistoryEvent, stored, sent, received, Lists, checkpoints}
 use Rattle.whole_runs.specs.Survival.{added}

@@ -1,14 +1,6 @@
 -- Source document 001, equation 2: state α of a causally precedes state β of b exactly if α is less than entry a of that state's vector.
 -- Assumes nothing.
-use mathlib.Core.Path.{_≡_, refl, ap}
-use mathlib.Core.Logic.{_⊎_, inl, inr}
-use mathlib.Core.Option.{Option, some}
-use Prim.Native.Nat.{ℕ, zero, suc, _≤_, _<_}
-use native.Mathlib.Omega.{arith}
-use lib.ListN.{length}
-use lib.Dec.{ltb}
-use borrow.Author.Tests.{ltb-true, ltb-false}
-use Rattle.laws.specs.Choice.{by-bool, by-eq}
+use Rattle.laws.specs.Basics.{_≡_, refl, ap, Option, some, _⊎_, inl, inr, ℕ, zero, suc, _≤_, _<_, arith, ltb, length, ltb-true, ltb-false, by-bool, by-eq}
 use Rattle.histories.specs.History.{HistoryEvent, stored, sent, received, Lists, checkpoints}
 use Rattle.theory_patterns.specs.Paths.{eventAt, interval, placeOf, Precedes, next, message, through, Before}
 use Rattle.theory_patterns.proofs.Core.{Vectors, higher}

@@ -2,13 +2,7 @@
 -- knows more of f than the state that ends its receiver's interval. Without a crossing message every zigzag path goes with precedence; the first near end
 -- that breaks is read off the crossing messages.
 -- Assumes nothing.
-use mathlib.Core.Path.{_≡_, ap}
-use mathlib.Core.Logic.{_⊎_, inl, inr}
-use Prim.Native.Nat.{ℕ, zero, suc, _-_, _≤_, _<_}
-use native.Mathlib.Omega.{arith}
-use lib.Dec.{ltb}
-use borrow.Author.Tests.{ltb-true, ltb-false}
-use Rattle.laws.specs.Choice.{by-bool, by-eq}
+use Rattle.laws.specs.Basics.{_≡_, ap, _⊎_, inl, inr, ℕ, zero, suc, _-_, _≤_, _<_, arith, ltb, ltb-true, ltb-false, by-bool, by-eq}
 use Rattle.histories.specs.History.{sent, received, Lists, checkpoints}
 use Rattle.theory_patterns.specs.Paths.{StandsIn, Path, one, onward}
 use Rattle.theory_patterns.proofs.Placing.{stands-le}

@@ -1,12 +1,6 @@
 -- What ends a reading: the first record that is refused, whatever stands after it; and a trace of more than 4,096 records, of which no more bytes need to be read.
 -- Assumes nothing.
-use mathlib.Core.Path.{_≡_, refl}
-use mathlib.Core.List.{List, [], _∷_, _++_}
-use mathlib.Core.Option.{Option, none, some}
-use Prim.Native.Nat.{ℕ, zero, suc, _+_, _*_, _/_, _≤_, _<_}
-use native.Mathlib.Omega.{arith}
-use lib.ListN.{length, length-append}
-use borrow.Author.Tests.{lt-ltb, le-ltb}
+use Rattle.laws.specs.Basics.{_≡_, refl, List, [], _∷_, _++_, Option, none, some, ℕ, zero, suc, _+_, _*_, _/_, _≤_, _<_, arith, length, length-append, lt-ltb, le-ltb}
 use Rattle.model.specs.declared.Refusal.{Refusal}
 use Rattle.model.specs.Trace.{decoded}
 use Rattle.whole_runs.specs.Outcomes.{judged}

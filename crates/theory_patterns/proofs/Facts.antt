@@ -1,19 +1,9 @@
 -- A trail gives what the verdict asks for: the vectors with their laws, and where knowledge comes from.
 -- Assumes nothing.
-use mathlib.Core.Path.{_≡_, refl, sym, _∙_, ap}
-use mathlib.Core.List.{List, [], _∷_}
-use mathlib.Core.Option.{none, some}
-use Prim.Native.Nat.{ℕ, zero, suc, _-_, _≤_, _<_}
-use native.Mathlib.Omega.{arith}
-use lib.Dec.{eqb}
-use borrow.Author.Tests.{eq-eqb, ne-eqb}
-use Rattle.laws.specs.Choice.{pick, by-eq}
+use Rattle.laws.specs.Basics.{_≡_, refl, sym, _∙_, ap, List, [], _∷_, none, some, ℕ, zero, suc, _-_, _≤_, _<_, arith, eqb, eq-eqb, ne-eqb, pick, by-eq}
 use Rattle.histories.specs.History.{HistoryEvent, stored, sent, received, checkpoints}
 use Rattle.theory_patterns.specs.Paths.{eventAt, interval, Path, one, onward}
-use Rattle.theory_patterns.proofs.Core.{Vectors}
-use Rattle.theory_patterns.proofs.Causal.{Sources}
-use Rattle.theory_patterns.proofs.Placing.{stands-at, interval-before}
-use Rattle.theory_patterns.proofs.Trail.{Trail, own, Right}
+use Rattle.theory_patterns.proofs.{Core.Vectors, Causal.Sources, Placing.stands-at, Placing.interval-before, Trail.Trail, Trail.own, Trail.Right}
 
 -- Places that come later have higher intervals, or the same.
 pub interval-rises : (l : List HistoryEvent) (i j : ℕ) → i ≤ j → interval l i ≤ interval l j

@@ -1,17 +1,10 @@
 -- The verdict: without a crossing message a pattern is trackable; with one, the first pair that breaks is the least crossing and the least of what its
 -- closure reaches.
 -- Assumes nothing.
-use mathlib.Core.Path.{_≡_, ap}
-use mathlib.Core.Logic.{_⊎_, inl, inr}
-use Prim.Native.Nat.{ℕ, suc, _≤_, _<_}
-use native.Mathlib.Omega.{arith}
-use lib.Dec.{ltb}
-use borrow.Author.Tests.{ltb-true, ltb-false}
-use Rattle.laws.specs.Choice.{by-bool}
+use Rattle.laws.specs.Basics.{_≡_, ap, _⊎_, inl, inr, ℕ, suc, _≤_, _<_, arith, ltb, ltb-true, ltb-false, by-bool}
 use Rattle.histories.specs.History.{sent, received, Lists, checkpoints}
 use Rattle.theory_patterns.specs.Paths.{StandsIn, Path, one, onward, Before, Breaking, Trackable, Earlier, FirstBreaking}
-use Rattle.theory_patterns.proofs.Placing.{stands-le}
-use Rattle.theory_patterns.proofs.Core.{Vectors, Crossing, higher, known-or-crossing, reached}
+use Rattle.theory_patterns.proofs.{Placing.stands-le, Core.Vectors, Core.Crossing, Core.higher, Core.known-or-crossing, Core.reached}
 
 -- Where a path's last message is received, the far end has that interval.
 arrives : {lists : Lists} {a α b h : ℕ} → Path lists a α b h → h ≤ checkpoints (lists b)

@@ -1,23 +1,13 @@
 -- Every trace that is read to its end leaves a pattern with a trail: so its lists have vectors with their laws.
 -- Assumes nothing.
-use mathlib.Core.Path.{_≡_, refl, sym, _∙_, ap}
-use mathlib.Core.Bool.{Bool, true, false, not, false≢true}
-use mathlib.Core.List.{List, [], _∷_}
-use mathlib.Core.Option.{Option, none, some}
-use Prim.Native.Nat.{ℕ, suc, _+_}
+use Rattle.laws.specs.Basics.{_≡_, refl, sym, _∙_, ap, Bool, true, false, not, false≢true, List, [], _∷_, Option, none, some, ℕ, suc, _+_, arith, length, by-eq}
 use native.Mathlib.Numerals.{add-one}
-use native.Mathlib.Omega.{arith}
-use lib.ListN.{length}
-use Rattle.laws.specs.Choice.{by-eq}
 use Rattle.laws.specs.Update.{upd, upd-same, upd-other}
-use Rattle.model.specs.declared.Event.{Event}
+use Rattle.model.specs.declared.{Event.Event, Refusal.Refusal}
 use Rattle.model.specs.declared.Event.the-variants.{Checkpoint, Send, Deliver, Lose, Recover}
-use Rattle.model.specs.declared.Refusal.{Refusal}
 use Rattle.histories.specs.History.{HistoryEvent, stored, sent, received, Lists}
-use Rattle.model.specs.Refusals.{firstOf}
-use Rattle.model.specs.Trace.{decoded}
-use Rattle.whole_runs.specs.Survival.{added}
-use Rattle.whole_runs.specs.Outcomes.{judged}
+use Rattle.model.specs.{Refusals.firstOf, Trace.decoded}
+use Rattle.whole_runs.specs.{Survival.added, Outcomes.judged}
 use Rattle.theory_patterns.specs.Patterns.{Pattern, recordRefusal, taken, Reading, refused, whole, readFrom}
 use Rattle.theory_patterns.specs.Paths.{eventAt}
 use Rattle.theory_patterns.proofs.Trail.{Trail, Right, storing, storing-right, sending, sending-right, receiving, receiving-right}

@@ -1,29 +1,15 @@
 -- Every surviving history of the product is trackable, and its states' vectors say exactly which checkpoints come causally before them.
 -- Assumes nothing.
-use mathlib.Core.Path.{_≡_, sym, _∙_, ap}
-use mathlib.Core.Bool.{Bool, true, false}
-use mathlib.Core.Logic.{_⊎_, inl, inr}
-use mathlib.Core.List.{List, [], _∷_, _++_, List·Memᴰ, List·Memᴰ·cases-cons, List·Memᴰ·not-nil, List·Memᴰ·head, List·Memᴰ·tail}
-use Prim.Native.Nat.{ℕ, zero, suc, _≤_, _<_}
-use native.Mathlib.Omega.{arith}
-use borrow.Author.Tests.{lt-ltb, ltb-true}
-use Rattle.laws.specs.Choice.{pick}
-use Rattle.model.specs.declared.Checkpoint.{Checkpoint}
-use Rattle.model.specs.declared.Interval.{Interval}
-use Rattle.model.specs.declared.Run.{Run}
+use Rattle.laws.specs.Basics.{_≡_, sym, _∙_, ap, Bool, true, false, List, [], _∷_, _++_, _⊎_, inl, inr, ℕ, zero, suc, _≤_, _<_, arith, lt-ltb, ltb-true, pick}
+use mathlib.Core.List.{List·Memᴰ, List·Memᴰ·cases-cons, List·Memᴰ·not-nil, List·Memᴰ·head, List·Memᴰ·tail}
+use Rattle.model.specs.declared.{Checkpoint.Checkpoint, Interval.Interval, Run.Run}
 use Rattle.model.specs.Words.{mostProcesses, entry, comesBefore, process}
 use Rattle.histories.specs.History.{Lists, checkpoints}
-use Rattle.whole_runs.specs.Outcomes.{startOutcome}
-use Rattle.whole_runs.specs.Calls.{stateAfter, transcript}
-use Rattle.whole_runs.specs.Survival.{Surviving, surviving}
-use Rattle.histories.proofs.Invariant.{Inv}
+use Rattle.whole_runs.specs.{Outcomes.startOutcome, Calls.stateAfter, Calls.transcript, Survival.Surviving, Survival.surviving}
+use Rattle.histories.proofs.{Invariant.Inv, Run.Ideal, Run.begun, Run.keeps, Sources.Sources}
 use Rattle.model.proofs.simulation.View.{passing, checkpointOf, keptOf, processOf, stateOf}
 use Rattle.model.proofs.simulation.Reads.{entry-is, process-is}
-use Rattle.whole_runs.proofs.whole.Reached.{Reached}
-use Rattle.histories.proofs.Run.{Ideal, begun, keeps}
-use Rattle.histories.proofs.Sources.{Sources}
-use Rattle.whole_runs.proofs.whole.Runs.{runAfter}
-use Rattle.whole_runs.proofs.WholeRuns.{reachable-reached}
+use Rattle.whole_runs.proofs.{whole.Reached.Reached, whole.Runs.runAfter, WholeRuns.reachable-reached}
 use Rattle.theory_patterns.specs.Paths.{Before, Trackable}
 use Rattle.theory_patterns.specs.Histories.{AllUseful, Exact, EntriesAreRight, HistoriesAreTrackable}
 use Rattle.theory_patterns.proofs.Surviving.{run-trackable, entry-before, before-entry}

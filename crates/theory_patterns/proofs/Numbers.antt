@@ -1,30 +1,14 @@
 -- A trace that is read to its end leaves a pattern whose processes are among n and whose messages have the numbers 1 to the number of sends.
 -- Assumes nothing.
-use mathlib.Core.Path.{_≡_, refl, sym, _∙_, ap}
-use mathlib.Core.Bool.{Bool, true, false, not, false≢true}
-use mathlib.Core.Logic.{inl, inr}
-use mathlib.Core.List.{List, [], _∷_}
-use mathlib.Core.Option.{Option, none, some}
-use Prim.Native.Nat.{ℕ, zero, suc, _+_, _/_, _<_}
-use native.Mathlib.Omega.{arith}
-use lib.Dec.{ltb, leb}
-use lib.ListN.{length}
-use borrow.Author.Tests.{leb-false}
-use Rattle.laws.specs.Choice.{by-bool, by-eq}
-use Rattle.laws.specs.Truth.{or-none}
-use Rattle.laws.specs.Update.{upd, upd-same, upd-other}
-use Rattle.model.specs.declared.Event.{Event}
+use Rattle.laws.specs.Basics.{_≡_, refl, sym, _∙_, ap, Bool, true, false, not, false≢true, List, [], _∷_, Option, none, some, inl, inr, ℕ, zero, suc, _+_, _/_, _<_, arith, ltb, leb, length, leb-false, by-bool, by-eq}
+use Rattle.laws.specs.{Truth.or-none, Update.upd, Update.upd-same, Update.upd-other}
+use Rattle.model.specs.declared.{Event.Event, Refusal.Refusal}
 use Rattle.model.specs.declared.Event.the-variants.{Checkpoint, Send, Deliver, Lose, Recover}
-use Rattle.model.specs.declared.Refusal.{Refusal}
-use Rattle.model.specs.Words.{ones}
-use Rattle.model.specs.Refusals.{startRefusal}
-use Rattle.model.specs.laws.Refusals.{no-rule, by-refusal}
-use Rattle.model.specs.Trace.{decoded}
+use Rattle.model.specs.{Words.ones, Refusals.startRefusal, laws.Refusals.no-rule, laws.Refusals.by-refusal, Trace.decoded}
 use Rattle.histories.specs.History.{HistoryEvent, stored, sent, received}
 use Rattle.theory_patterns.specs.Paths.{eventAt}
 use Rattle.theory_patterns.specs.Patterns.{Pattern, empty, recordRefusal, taken, refused, whole, mostJudged, readFrom, reading}
-use Rattle.theory_patterns.proofs.Adding.{event-cases}
-use Rattle.theory_patterns.proofs.Tested.{Numbered}
+use Rattle.theory_patterns.proofs.{Adding.event-cases, Tested.Numbered}
 
 -- Kinds of events differ.
 stored-sent : {P : Type 0} (m : ℕ) → stored ≡ sent m → P

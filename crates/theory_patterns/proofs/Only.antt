@@ -1,21 +1,12 @@
 -- At most one verdict on a trace is right, so a contract that promises a right one fixes it.
 -- Assumes nothing.
-use mathlib.Core.Path.{_≡_, refl, sym, ap}
-use mathlib.Core.Logic.{inl, inr}
-use mathlib.Core.List.{List}
-use Prim.Native.Nat.{ℕ, _<_}
-use native.Mathlib.Omega.{arith}
-use lib.Dec.{ltb}
-use borrow.Author.Tests.{ltb-true, ltb-false}
-use Rattle.laws.specs.Choice.{by-bool, by-eq}
+use Rattle.laws.specs.Basics.{_≡_, refl, sym, ap, List, inl, inr, ℕ, _<_, arith, ltb, ltb-true, ltb-false, by-bool, by-eq}
 use Rattle.model.specs.declared.Refusal.{Refusal}
 use Rattle.histories.specs.History.{Lists}
-use Rattle.theory_patterns.specs.declared.Verdict.{Verdict}
-use Rattle.theory_patterns.specs.declared.Verdict.the-variants.{Refused, Trackable, Breaks}
-use Rattle.theory_patterns.specs.Patterns.{Pattern, refused, whole, reading}
+use Rattle.theory_patterns.specs.declared.{Verdict.Verdict, Verdict.the-variants.Refused, Verdict.the-variants.Trackable, Verdict.the-variants.Breaks}
+use Rattle.theory_patterns.specs.{Patterns.Pattern, Patterns.refused, Patterns.whole, Patterns.reading, Verdicts.countOf, Verdicts.RightVerdict}
 use Rattle.theory_patterns.specs.Paths.{Breaking, Earlier, FirstBreaking}
 use Rattle.theory_patterns.specs.Paths as paths
-use Rattle.theory_patterns.specs.Verdicts.{countOf, RightVerdict}
 
 not-both : {P : Type 0} (l : List ℕ) (r : Refusal) (t : Pattern) → reading l ≡ refused r → reading l ≡ whole t → P
 not-both l r t d e = absurd (let z : _≡_ {A = ℕ} 0 1 = cc in omega arith)

@@ -1,12 +1,6 @@
 -- Places in one list: which interval an event at a place stands in, and the places of its states.
 -- Assumes nothing.
-use mathlib.Core.Path.{_≡_, refl}
-use mathlib.Core.List.{List, [], _∷_}
-use mathlib.Core.Option.{none, some}
-use Prim.Native.Nat.{ℕ, zero, suc, _≤_, _<_}
-use native.Mathlib.Omega.{arith}
-use lib.ListN.{length}
-use Rattle.laws.specs.Choice.{by-eq}
+use Rattle.laws.specs.Basics.{_≡_, refl, List, [], _∷_, none, some, ℕ, zero, suc, _≤_, _<_, arith, length, by-eq}
 use Rattle.histories.specs.History.{HistoryEvent, stored, sent, received, Lists, checkpoints}
 use Rattle.theory_patterns.specs.Paths.{eventAt, interval, StandsIn, placeOf, Precedes, next, through}
 

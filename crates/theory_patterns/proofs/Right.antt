@@ -1,17 +1,10 @@
 -- The verdict on a trace is right, and it is the only one that is.
 -- Assumes nothing.
-use mathlib.Core.Path.{_≡_, refl, sym}
-use mathlib.Core.List.{List, [], _∷_}
-use Prim.Native.Nat.{ℕ}
-use native.Mathlib.Omega.{arith}
+use Rattle.laws.specs.Basics.{_≡_, refl, sym, List, [], _∷_, ℕ, arith}
 use Rattle.theory_patterns.specs.declared.Verdict.{Verdict}
-use Rattle.theory_patterns.specs.Patterns.{Pattern, Reading, refused, whole, reading}
-use Rattle.theory_patterns.specs.Judging.{firstPair}
+use Rattle.theory_patterns.specs.{Patterns.Pattern, Patterns.Reading, Patterns.refused, Patterns.whole, Patterns.reading, Judging.firstPair}
 use Rattle.theory_patterns.specs.Verdicts.{countOf, verdictOn, verdict, RightVerdict, VerdictsAreRight}
-use Rattle.theory_patterns.proofs.Tested.{Numbered}
-use Rattle.theory_patterns.proofs.Searched.{by-there, no-pair, first-pair}
-use Rattle.theory_patterns.proofs.Numbers.{numbered}
-use Rattle.theory_patterns.proofs.Only.{one-verdict}
+use Rattle.theory_patterns.proofs.{Tested.Numbered, Searched.by-there, Searched.no-pair, Searched.first-pair, Numbers.numbered, Only.one-verdict}
 
 no-byte : {P : Type 0} (t : Pattern) → reading [] ≡ whole t → P
 unfolding reading

@@ -1,16 +1,9 @@
 -- The search of specs/Judging finds the first pair that breaks a pattern, and none exactly where the pattern is trackable.
 -- Assumes nothing.
-use mathlib.Core.Path.{_≡_, refl, sym, _∙_}
-use mathlib.Core.Bool.{Bool, true, false, not, false≢true}
-use mathlib.Core.Logic.{inl, inr}
-use mathlib.Core.Option.{Option, none, some}
-use Prim.Native.Nat.{ℕ, zero, suc, _≤_, _<_}
-use native.Mathlib.Omega.{arith}
-use Rattle.laws.specs.Choice.{pick, by-bool, by-eq}
+use Rattle.laws.specs.Basics.{_≡_, refl, sym, _∙_, Bool, true, false, not, false≢true, Option, none, some, inl, inr, ℕ, zero, suc, _≤_, _<_, arith, pick, by-bool, by-eq}
 use Rattle.laws.specs.Truth.{never-both, and-out}
 use Rattle.histories.specs.History.{Lists, checkpoints}
-use Rattle.theory_patterns.specs.declared.Verdict.{Verdict}
-use Rattle.theory_patterns.specs.declared.Verdict.the-variants.{Breaks}
+use Rattle.theory_patterns.specs.declared.{Verdict.Verdict, Verdict.the-variants.Breaks}
 use Rattle.theory_patterns.specs.Paths.{Breaking, Trackable, Earlier, FirstBreaking}
 use Rattle.theory_patterns.specs.Judging.{hasZigzag, isBefore, isBreaking, firstOfAll, firstPair}
 use Rattle.theory_patterns.proofs.Tested.{Numbered, zigzag-out, zigzag-in, before-out, before-in}

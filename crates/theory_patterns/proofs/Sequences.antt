@@ -1,16 +1,9 @@
 -- Sequences of messages with numbers below a bound: no more messages than the bound are needed. Each length either adds a last message or adds none at any later
 -- length, and there are no more last messages than numbers.
 -- Assumes nothing.
-use mathlib.Core.Path.{_≡_, sym}
-use mathlib.Core.Bool.{Bool, true, false, _&&_, not, false≢true}
-use mathlib.Core.Logic.{_⊎_, inl, inr}
-use Prim.Native.Nat.{ℕ, zero, suc, _<_}
-use native.Mathlib.Omega.{arith}
-use Rattle.laws.specs.Choice.{by-bool}
-use Rattle.laws.specs.Truth.{and-out, and-both, or-left, or-in-right, or-right}
-use Rattle.laws.specs.Search.{anyBelow, any-out, any-in, any-none}
-use Rattle.laws.specs.Tests.{countBelow}
-use Rattle.laws.specs.Counting.{count-le, count-some, count-split}
+use Rattle.laws.specs.Basics.{_≡_, sym, Bool, true, false, not, _&&_, false≢true, _⊎_, inl, inr, ℕ, zero, suc, _<_, arith, by-bool}
+use Rattle.laws.specs.{Truth.and-out, Truth.and-both, Truth.or-left, Truth.or-in-right, Truth.or-right, Tests.countBelow}
+use Rattle.laws.specs.{Search.anyBelow, Search.any-out, Search.any-in, Search.any-none, Counting.count-le, Counting.count-some, Counting.count-split}
 use Rattle.theory_patterns.specs.Judging.{isLast}
 
 module _ (bound : ℕ) (first : ℕ → Bool) (onward : ℕ → ℕ → Bool) where

@@ -1,28 +1,14 @@
 -- The vectors of a run with recoveries are the vectors of a trail: what the invariant of whole runs says of them by interval, and by place where it says so.
 -- A run of n processes says nothing of entries at n and above; a trail has all, so there a state knows of its own process alone.
 -- Assumes nothing.
-use mathlib.Core.Path.{_≡_, refl, sym, _∙_, ap}
-use mathlib.Core.Logic.{inl, inr}
-use mathlib.Core.List.{List, [], _∷_, List·Memᴰ, List·Memᴰ·cases-cons, List·Memᴰ·not-nil}
-use mathlib.Core.Option.{Option, none, some}
-use Prim.Native.Nat.{ℕ, zero, suc, _+_, _≤_, _<_}
-use native.Mathlib.Omega.{arith}
-use lib.Dec.{eqb, ltb}
-use borrow.Author.Tests.{lt-ltb, le-ltb, ltb-true, ltb-false, eq-eqb, ne-eqb}
-use Rattle.laws.specs.Choice.{pick, by-bool, by-eq}
+use Rattle.laws.specs.Basics.{_≡_, refl, sym, _∙_, ap, List, [], _∷_, Option, none, some, inl, inr, ℕ, zero, suc, _+_, _≤_, _<_, arith, eqb, ltb, eq-eqb, ne-eqb, lt-ltb, le-ltb, ltb-true, ltb-false, pick, by-bool, by-eq}
+use mathlib.Core.List.{List·Memᴰ, List·Memᴰ·cases-cons, List·Memᴰ·not-nil}
 use Rattle.histories.specs.History.{HistoryEvent, stored, sent, received, checkpoints, before}
-use Rattle.histories.proofs.Places.{Stands, first, later, weight, stands-cons, stands-nil}
-use Rattle.histories.proofs.Run.{Ideal}
-use Rattle.histories.proofs.Invariant.{Inv}
-use Rattle.histories.proofs.Line.{rising}
-use Rattle.histories.proofs.Cuts.{stands-member}
-use Rattle.histories.proofs.Sources.{Sources}
+use Rattle.histories.proofs.{Places.Stands, Places.first, Places.later, Places.weight, Places.stands-cons, Places.stands-nil, Run.Ideal, Invariant.Inv}
+use Rattle.histories.proofs.{Line.rising, Cuts.stands-member, Sources.Sources}
 use Rattle.theory_patterns.specs.Paths.{eventAt, interval, StandsIn, placeOf, Before, Trackable}
-use Rattle.theory_patterns.proofs.Core.{Crossing}
-use Rattle.theory_patterns.proofs.Causal.{by-entry, entry-by}
-use Rattle.theory_patterns.proofs.First.{trackable}
+use Rattle.theory_patterns.proofs.{Core.Crossing, Causal.by-entry, Causal.entry-by, First.trackable, Trail.Trail, Trail.own, Trail.Right}
 use Rattle.theory_patterns.proofs.Placing.{interval-after, place-stored, place-end, place-in, interval-le}
-use Rattle.theory_patterns.proofs.Trail.{Trail, own, Right}
 use Rattle.theory_patterns.proofs.Facts.{interval-rises, vectors, sources}
 
 nothing : {A : Type 0} {x : A} → none ≡ some x → ⊥

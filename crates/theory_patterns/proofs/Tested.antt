@@ -1,18 +1,7 @@
 -- The tests of specs/Judging find exactly what specs/Paths defines: zigzag paths and causal precedence.
 -- Assumes nothing.
-use mathlib.Core.Path.{_≡_, refl, sym, ap}
-use mathlib.Core.Bool.{Bool, true, _&&_, false≢true}
-use mathlib.Core.Logic.{_⊎_, inl, inr}
-use mathlib.Core.List.{List}
-use mathlib.Core.Option.{Option, none, some}
-use Prim.Native.Nat.{ℕ, zero, suc, _≤_, _<_}
-use native.Mathlib.Omega.{arith}
-use lib.Dec.{eqb, ltb, leb}
-use lib.ListN.{length}
-use borrow.Author.Tests.{eq-eqb, eqb-true, lt-ltb, ltb-true, ltb-false, le-leb, leb-true}
-use Rattle.laws.specs.Choice.{by-bool, by-eq}
-use Rattle.laws.specs.Truth.{and-out, and-both, or-left, or-in-right, or-right}
-use Rattle.laws.specs.Search.{any-out, any-in}
+use Rattle.laws.specs.Basics.{_≡_, refl, sym, ap, Bool, true, _&&_, false≢true, List, Option, none, some, _⊎_, inl, inr, ℕ, zero, suc, _≤_, _<_, arith, eqb, ltb, leb, length, eq-eqb, eqb-true, lt-ltb, ltb-true, ltb-false, le-leb, leb-true, by-bool, by-eq}
+use Rattle.laws.specs.{Truth.and-out, Truth.and-both, Truth.or-left, Truth.or-in-right, Truth.or-right, Search.any-out, Search.any-in}
 use Rattle.histories.specs.History.{HistoryEvent, stored, sent, received, Lists, checkpoints}
 use Rattle.theory_patterns.specs.Paths.{eventAt, interval, placeOf, Path, one, onward, Zigzag, Precedes, next, message, through, Before}
 use Rattle.theory_patterns.specs.Judging.{isSend, isReceipt, sentWhere, receivedWhere, sentAfter, sentOnward, sentLater, receivedBefore, isLast, connects, hasZigzag, isBefore}

@@ -1,15 +1,6 @@
 -- The vectors of a run without forcing, state by state, and what holds of them after every record: what Core and Causal ask for.
 -- Assumes nothing.
-use mathlib.Core.Path.{_≡_, refl, sym, _∙_, ap}
-use mathlib.Core.Logic.{_⊎_, inl, inr}
-use mathlib.Core.List.{[], _∷_}
-use mathlib.Core.Option.{some}
-use Prim.Native.Nat.{ℕ, zero, suc, _≤_, _<_, max}
-use native.Mathlib.Omega.{arith}
-use lib.Dec.{ltb}
-use lib.ListN.{length, length-append}
-use borrow.Author.Tests.{ltb-true, ltb-false}
-use Rattle.laws.specs.Choice.{by-bool, by-eq}
+use Rattle.laws.specs.Basics.{_≡_, refl, sym, _∙_, ap, [], _∷_, some, _⊎_, inl, inr, ℕ, zero, suc, _≤_, _<_, max, arith, ltb, length, length-append, ltb-true, ltb-false, by-bool, by-eq}
 use Rattle.laws.specs.Update.{upd, upd-same, upd-other}
 use Rattle.histories.specs.History.{HistoryEvent, stored, sent, received, Lists, checkpoints}
 use Rattle.whole_runs.specs.Survival.{added}

@@ -1,11 +1,6 @@
 -- A table of traces, for Note 7 of document 02: what each is judged to be, by the number and the pair of its verdict. proofs/Cases has the theorem.
 -- Assumes nothing.
-use mathlib.Core.Bool.{Bool, true, false, _&&_}
-use mathlib.Core.List.{List, [], _∷_}
-use mathlib.Core.Option.{Option, none, some}
-use Prim.Native.Nat.{ℕ}
-use lib.Dec.{eqb}
-use lib.ListN.{replicate}
+use Rattle.laws.specs.Basics.{Bool, true, false, _&&_, List, [], _∷_, Option, none, some, ℕ, eqb, replicate}
 use Rattle.laws.specs.Tests.{every}
 use Rattle.theory_patterns.specs.Verdicts.{Pair, judgeReport, verdict}
 

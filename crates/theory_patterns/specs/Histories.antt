@@ -1,17 +1,11 @@
 -- What is claimed of the surviving histories of whole runs: each is trackable, and a state's vector says exactly which checkpoints come causally before it.
 -- Assumes nothing.
-use mathlib.Core.List.{List, List·Memᴰ}
-use mathlib.Core.Option.{none}
-use mathlib.Core.Path.{_≡_}
-use Prim.Native.Nat.{ℕ, _≤_, _<_}
-use Rattle.model.specs.declared.Checkpoint.{Checkpoint}
-use Rattle.model.specs.declared.Run.{Run}
-use Rattle.model.specs.Words.{entry, process}
+use Rattle.laws.specs.Basics.{_≡_, List, none, ℕ, _≤_, _<_}
+use mathlib.Core.List.{List·Memᴰ}
+use Rattle.model.specs.declared.{Checkpoint.Checkpoint, Run.Run}
+use Rattle.model.specs.{Words.entry, Words.process, Refusals.startRefusal}
 use Rattle.histories.specs.History.{Lists, checkpoints}
-use Rattle.model.specs.Refusals.{startRefusal}
-use Rattle.whole_runs.specs.Outcomes.{startOutcome}
-use Rattle.whole_runs.specs.Calls.{Call, stateAfter, transcript}
-use Rattle.whole_runs.specs.Survival.{Surviving, surviving}
+use Rattle.whole_runs.specs.{Outcomes.startOutcome, Calls.Call, Calls.stateAfter, Calls.transcript, Survival.Surviving, Survival.surviving}
 use Rattle.theory_patterns.specs.Paths.{Zigzag, Before, Trackable}
 
 -- Source document 001: a checkpoint that a zigzag path connects to itself is useless, no consistent line has it. Here there is none.

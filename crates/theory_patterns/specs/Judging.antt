@@ -1,17 +1,10 @@
 -- Document 02, Note 7: the search for the first pair that breaks a pattern, by tests that follow the words of source document 001. What each test finds is
 -- what Paths defines, no more and no less (proofs/Tested, proofs/Searched).
 -- Assumes nothing.
-use mathlib.Core.Bool.{Bool, false, _&&_, _||_, not}
-use mathlib.Core.List.{List}
-use mathlib.Core.Option.{Option, none, some}
-use Prim.Native.Nat.{ℕ, zero, suc}
-use lib.Dec.{eqb, ltb, leb}
-use lib.ListN.{length}
-use Rattle.laws.specs.Choice.{pick}
+use Rattle.laws.specs.Basics.{Bool, false, not, _&&_, _||_, List, Option, none, some, ℕ, zero, suc, eqb, ltb, leb, length, pick}
 use Rattle.laws.specs.Search.{anyBelow}
 use Rattle.histories.specs.History.{HistoryEvent, stored, sent, received, Lists, checkpoints}
-use Rattle.theory_patterns.specs.declared.Verdict.{Verdict}
-use Rattle.theory_patterns.specs.declared.Verdict.the-variants.{Breaks}
+use Rattle.theory_patterns.specs.declared.{Verdict.Verdict, Verdict.the-variants.Breaks}
 use Rattle.theory_patterns.specs.Paths.{eventAt, interval}
 
 -- An event, if there is one, is "sent m", or "received m".

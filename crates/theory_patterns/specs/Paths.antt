@@ -1,11 +1,6 @@
 -- Source document 001, definitions 1, 3 and 4, over lists of events: causal precedence, zigzag paths, and what it is to be trackable.
 -- Assumes nothing.
-use mathlib.Core.Logic.{_⊎_}
-use mathlib.Core.List.{List, [], _∷_}
-use mathlib.Core.Option.{Option, none, some}
-use mathlib.Core.Path.{_≡_}
-use Prim.Native.Nat.{ℕ, zero, suc, _≤_, _<_}
-use lib.ListN.{length}
+use Rattle.laws.specs.Basics.{_≡_, List, [], _∷_, Option, none, some, _⊎_, ℕ, zero, suc, _≤_, _<_, length}
 use Rattle.histories.specs.History.{HistoryEvent, stored, sent, received, Lists, checkpoints}
 
 -- The event at a place of a list, places counted from 0.

@@ -1,25 +1,14 @@
 -- Document 02, Note 7: a trace of another run-time is read into lists of events, one for each process, as the surviving history has them.
 -- "No delivery forces here."
 -- Assumes nothing.
-use mathlib.Core.Bool.{Bool, true, false, _||_, not}
-use mathlib.Core.List.{List, [], _∷_}
-use mathlib.Core.Option.{Option, none, some}
-use Prim.Native.Nat.{ℕ, suc, _+_, _/_}
-use lib.Dec.{eqb, ltb, leb}
-use lib.ListN.{length}
-use Rattle.laws.specs.Choice.{pick}
-use Rattle.laws.specs.Tests.{countBelow}
-use Rattle.laws.specs.Update.{upd}
-use Rattle.model.specs.declared.Event.{Event}
+use Rattle.laws.specs.Basics.{Bool, true, false, not, _||_, List, [], _∷_, Option, none, some, ℕ, suc, _+_, _/_, eqb, ltb, leb, length, pick}
+use Rattle.laws.specs.{Tests.countBelow, Update.upd}
+use Rattle.model.specs.declared.{Event.Event, Refusal.Refusal}
 use Rattle.model.specs.declared.Event.the-variants.{Checkpoint, Send, Deliver, Lose, Recover}
-use Rattle.model.specs.declared.Refusal.{Refusal}
 use Rattle.model.specs.declared.Refusal.the-variants.{NoSuchProcess, SenderIsReceiver, NotUnderWay, TooManyUnderWay, MessageNumbersUsed, IntervalsUsed, NoFirstByte, LeftOverBytes, MalformedRecord, TooManyRecords}
-use Rattle.model.specs.Words.{mostUnderWay, mostMessages, mostInterval, ones}
+use Rattle.model.specs.{Words.mostUnderWay, Words.mostMessages, Words.mostInterval, Words.ones, Refusals.firstOf, Refusals.startRefusal, Trace.decoded}
 use Rattle.histories.specs.History.{stored, sent, received, Lists, checkpoints}
-use Rattle.model.specs.Refusals.{firstOf, startRefusal}
-use Rattle.model.specs.Trace.{decoded}
-use Rattle.whole_runs.specs.Outcomes.{judged}
-use Rattle.whole_runs.specs.Survival.{added}
+use Rattle.whole_runs.specs.{Outcomes.judged, Survival.added}
 
 -- The pattern (001: the checkpoint and communication pattern) of what is read so far: a list of events for each process; how many messages were sent; the
 -- receiver that each send named; which messages are under way.

@@ -1,21 +1,14 @@
 -- The verdict on a trace, as a function of its bytes; the number and the values of each verdict; and what it is for a verdict to be right, by paths and precedence
 -- alone. The verdict is right (proofs/Right: `verdict-right`), and no other is (proofs/Only: `one-verdict`).
 -- Assumes nothing.
-use mathlib.Core.List.{List, [], _∷_, _++_}
-use mathlib.Core.Option.{Option, none, some}
-use mathlib.Core.Path.{_≡_}
-use Prim.Native.Nat.{ℕ, _*_, _/_, _≤_}
-use lib.ListN.{length}
+use Rattle.laws.specs.Basics.{_≡_, List, [], _∷_, _++_, Option, none, some, ℕ, _*_, _/_, _≤_, length}
 use Rattle.laws.specs.Lists.{orElse}
 use Rattle.model.specs.declared.Refusal.{Refusal}
-use Rattle.model.specs.Words.{ones}
-use Rattle.model.specs.Refusals.{number, startRefusal}
-use Rattle.theory_patterns.specs.declared.Verdict.{Verdict}
-use Rattle.theory_patterns.specs.declared.Verdict.the-variants.{Refused, Trackable, Breaks}
+use Rattle.model.specs.{Words.ones, Refusals.number, Refusals.startRefusal}
+use Rattle.theory_patterns.specs.declared.{Verdict.Verdict, Verdict.the-variants.Refused, Verdict.the-variants.Trackable, Verdict.the-variants.Breaks}
 use Rattle.theory_patterns.specs.Patterns.{Pattern, empty, Reading, refused, whole, mostJudged, readFrom, reading}
-use Rattle.theory_patterns.specs.Paths.{FirstBreaking}
+use Rattle.theory_patterns.specs.{Paths.FirstBreaking, Judging.firstPair}
 use Rattle.theory_patterns.specs.Paths as paths
-use Rattle.theory_patterns.specs.Judging.{firstPair}
 
 -- The first byte of a trace, 0 if it has none.
 unfoldable pub countOf : List ℕ → ℕ

@@ -1,66 +1,34 @@
 -- Note 9, proved: what was recorded replays the same.
 -- Assumes nothing.
-use mathlib.Core.Path.{_≡_, refl, sym, _∙_, ap}
-use mathlib.Core.Bool.{Bool, true, false, _&&_, not}
-use mathlib.Core.List.{List, [], _∷_, _++_, map, append-nil, append-assoc}
-use mathlib.Core.Logic.{_⊎_, inl, inr}
-use mathlib.Core.Option.{none, some}
-use Prim.Native.Nat.{ℕ, zero, suc, _+_, _-_, _*_, _≤_, _<_, min}
+use Rattle.laws.specs.Basics.{_≡_, refl, sym, _∙_, ap, Bool, true, false, not, _&&_, List, [], _∷_, _++_, map, append-nil, append-assoc, none, some, _⊎_, inl, inr, ℕ, zero, suc, _+_, _-_, _*_, _≤_, _<_, min, arith, eqb, ltb, length, getD, take, drop, replicate, length-append, length-replicate, getD-replicate, sets, length-take-le, lt-ltb, le-ltb, ltb-true, ltb-false, by-bool}
 use native.Mathlib.Nat.{mul-le-mul}
-use native.Mathlib.Omega.{arith}
-use lib.Dec.{eqb, ltb}
-use lib.ListN.{length, getD, take, drop, replicate, length-append, length-replicate, getD-replicate, take-append-drop}
-use lib.Seq.{sets, sets-eq, length-sets, take-at, take-all, drop-at, drop-drop, length-take-le}
-use borrow.Author.Tests.{lt-ltb, le-ltb, ltb-true, ltb-false}
-use Rattle.laws.specs.Choice.{by-bool, pick-same}
-use Rattle.laws.specs.Front.{written-front}
-use Rattle.laws.specs.Lists.{gather}
-use Rattle.laws.specs.Tables.{length-table}
-use Rattle.laws.specs.Tests.{every}
-use Rattle.laws.specs.Elements.{every-append}
-use Rattle.laws.specs.Truth.{and-right}
-use Rattle.model.specs.declared.Message.{Message}
-use Rattle.model.specs.declared.Named.{Named}
-use Rattle.model.specs.declared.Run.{Run}
-use Rattle.model.specs.declared.Event.{Event}
+use lib.ListN.{take-append-drop}
+use lib.Seq.{sets-eq, length-sets, take-at, take-all, drop-at, drop-drop}
+use Rattle.laws.specs.{Choice.pick-same, Front.written-front, Lists.gather, Tables.length-table, Tests.every, Elements.every-append, Truth.and-right}
+use Rattle.model.specs.declared.{Message.Message, Named.Named, Run.Run, Event.Event, Refusal.Refusal, Refusal.the-variants.BufferTooShort}
 use Rattle.model.specs.declared.Event.the-variants.{Checkpoint, Send, Deliver, Lose, Recover}
-use Rattle.model.specs.declared.Refusal.{Refusal}
-use Rattle.model.specs.declared.Refusal.the-variants.{BufferTooShort}
-use Rattle.model.specs.declared.StartAnswer.the-variants as start-answer
-use Rattle.model.specs.Words.{mostProcesses, basic, forced, ones, process, failed}
+use Rattle.model.specs.{Words.mostProcesses, Words.basic, Words.forced, Words.ones, Words.process, Words.failed, Sound.isBlockCount, Sound.sound}
 use Rattle.model.specs.Steps.{Deletion, startState, checkpointDeletions, forces, deliverDeletions, lineOf, recoverDeletions}
-use Rattle.model.specs.Sound.{isBlockCount, sound}
 use Rattle.model.specs.Refusals.{number, firstOf, startRefusal, shortDeletions, shortLine, checkpointRefusal, deliverRefusal, lineRefusal, recoverRefusal}
-use Rattle.model.specs.laws.Refusals.{by-refusal}
-use Rattle.model.specs.Trace.{decoded, isRecord, fits}
+use Rattle.model.specs.{laws.Refusals.by-refusal, Trace.decoded, Trace.isRecord, Trace.fits}
 use Rattle.whole_runs.specs.Outcomes.{pairs, written, startOutcome, deliverAnswer, checkpointOutcome, checkpointReport, sendReport, deliverOutcome, deliverReport, loseReport, lineOutcome, recoverOutcome, recoverReport}
-use Rattle.whole_runs.specs.Earliest.{earliestRefusal, earliestOutcome}
+use Rattle.whole_runs.specs.{Earliest.earliestRefusal, Earliest.earliestOutcome, Survival.Surviving, Survival.beginning}
 use Rattle.whole_runs.specs.Calls.{Call, checkpoint, send, deliver, lose, recover, line, earliest, Reply, answered, call}
-use Rattle.whole_runs.specs.Survival.{Surviving, beginning}
 use Rattle.whole_runs.specs.Listing.{deletionsText, acceptedText, lineText, callOf, perform, mostRecords, stateAfterRecords, listing}
 use Rattle.theory_recording.specs.Replay.{recordBytes, recordsOf, EventReply, repliesOf, replayedState, noneRefused, linesOf}
 use Rattle.theory_recording.specs.Recording.{unwritten, appended, recording, recordedStart, recordedCheckpoint, recordedSend, recordedDeliver, recordedLose, recordedRecover, recordedLine, recordedEarliest, Tape, taped, recorded, begun, tapeAfter, eventOfCall, entryOf, entered, entries, WritesAcceptedAlone, handed, traceOf, OneEach, ReplaysTheSame, RecordingReplays}
 use Rattle.histories.proofs.Run.{Ideal, because, keeps, checkpointed, delivered, recovered, line as line-of, begun as run-begun}
-use Rattle.histories.proofs.Invariant.{Inv}
-use Rattle.histories.proofs.Ledger.{ledger-inv}
-use Rattle.histories.proofs.Messages.{underway-proper}
-use Rattle.model.proofs.simulation.View.{messageOf, stateOf, Limits}
-use Rattle.model.proofs.simulation.Kept.{kept-most}
-use Rattle.model.proofs.simulation.Checkpoint.{checkpoint-deletions}
-use Rattle.model.proofs.simulation.Deliver.{deliver-deletions}
-use Rattle.model.proofs.simulation.Recover.{recover-deletions}
-use Rattle.model.proofs.simulation.Lines.{line-is}
+use Rattle.histories.proofs.{Invariant.Inv, Ledger.ledger-inv, Messages.underway-proper}
+use Rattle.model.proofs.{simulation.View.messageOf, simulation.View.stateOf, simulation.View.Limits, simulation.Kept.kept-most, simulation.Lines.line-is}
+use Rattle.model.proofs.{simulation.Checkpoint.checkpoint-deletions, simulation.Deliver.deliver-deletions, simulation.Recover.recover-deletions}
 use Rattle.model.proofs.simulation.Accepted.{start-out, start-in, checkpoint-out, checkpoint-in, deliver-out, deliver-in, recover-out, recover-in}
-use Rattle.model.proofs.simulation.SoundCalls.{checkpoint-run, deliver-run, recover-run}
-use Rattle.model.proofs.Records.{records-are-events}
-use Rattle.whole_runs.proofs.whole.Handed.{listed-length, gather-length, room-one, gone}
-use Rattle.whole_runs.proofs.whole.Pairs.{length-pairs}
+use Rattle.model.proofs.{simulation.SoundCalls.checkpoint-run, simulation.SoundCalls.deliver-run, simulation.SoundCalls.recover-run, Records.records-are-events}
+use Rattle.whole_runs.proofs.{whole.Handed.listed-length, whole.Handed.gather-length, whole.Handed.room-one, whole.Handed.gone, whole.Pairs.length-pairs}
 use Rattle.theory_recording.proofs.Replay.{fits-accepted, record-of, first-state, first-reply, lines-replayed, listing-started}
-use Rattle.whole_runs.proofs.Sizes.{few-processes}
-use Rattle.whole_runs.proofs.whole.Because.{because-state, because-limits}
+use Rattle.whole_runs.proofs.{Sizes.few-processes, whole.Because.because-state, whole.Because.because-limits, whole.Accepted.accepted-report}
 use Rattle.whole_runs.proofs.whole.Reached.{Reached, refusal, refused-number, refused-state, refused-report}
-use Rattle.whole_runs.proofs.whole.Accepted.{accepted-report}
 use Rattle.whole_runs.proofs.WholeRuns.{started-state, start-reached, call-reached, same-start}
+use Rattle.model.specs.declared.StartAnswer.the-variants as start-answer
 
 -- The lists of a replay are long enough for every sound state.
 room : (s : Run) → sound s ≡ true → 2 * s .count * s .count ≤ length {A = ℕ} (replicate 512 0)

@@ -1,40 +1,18 @@
 -- Accepted events and the replay of their records: the same state, the same replies.
 -- Assumes nothing.
-use mathlib.Core.Path.{_≡_, refl, sym, _∙_, ap}
-use mathlib.Core.Bool.{Bool, true}
-use mathlib.Core.List.{List, [], _∷_, _++_, map}
-use mathlib.Core.Option.{none, some}
-use Prim.Native.Nat.{ℕ, zero, suc, _+_, _*_, _≤_, _<_, _^_}
+use Rattle.laws.specs.Basics.{_≡_, refl, sym, _∙_, ap, Bool, true, List, [], _∷_, _++_, map, none, some, ℕ, zero, suc, _+_, _*_, _^_, _≤_, _<_, arith, eqb, ltb, length, length-append, eqb-true, lt-ltb, by-bool}
 use native.Mathlib.Nat.{pow-le-pow-right}
-use native.Mathlib.Omega.{arith}
-use lib.Dec.{eqb, ltb}
-use lib.ListN.{length, length-append}
-use borrow.Author.Tests.{eqb-true, lt-ltb}
-use Rattle.laws.specs.Choice.{by-bool}
-use Rattle.laws.specs.Lists.{select}
-use Rattle.laws.specs.Prefixes.{every-select}
-use Rattle.laws.specs.Tests.{every}
-use Rattle.laws.specs.Truth.{and-left, and-right, and-both, or-in-right}
-use Rattle.model.specs.declared.Message.{Message}
-use Rattle.model.specs.declared.Run.{Run}
-use Rattle.model.specs.declared.Event.{Event}
+use Rattle.laws.specs.{Lists.select, Prefixes.every-select, Tests.every, Truth.and-left, Truth.and-right, Truth.and-both, Truth.or-in-right}
+use Rattle.model.specs.declared.{Message.Message, Run.Run, Event.Event}
 use Rattle.model.specs.declared.Event.the-variants.{Checkpoint, Send, Deliver, Lose, Recover}
-use Rattle.model.specs.Words.{mostMessages, ones, underWay}
-use Rattle.model.specs.Steps.{startState, found}
-use Rattle.model.specs.Sound.{messageSound, sound}
-use Rattle.model.specs.laws.Sound.{sound-state, sound-message}
-use Rattle.model.specs.Refusals.{startRefusal}
-use Rattle.model.specs.Trace.{decoded, isRecord, fieldsOf, fits}
-use Rattle.whole_runs.specs.Calls.{call}
+use Rattle.model.specs.{Words.mostMessages, Words.ones, Words.underWay, Steps.startState, Steps.found, Sound.messageSound, Sound.sound, Refusals.startRefusal}
+use Rattle.model.specs.{laws.Sound.sound-state, laws.Sound.sound-message, Trace.decoded, Trace.isRecord, Trace.fieldsOf, Trace.fits}
+use Rattle.whole_runs.specs.{Calls.call, WholeRuns.Reachable, WholeRuns.Traced}
 use Rattle.whole_runs.specs.Listing.{lineText, mostRecords, callOf, perform, goesOn, records, stateAfterRecords, started, listing}
-use Rattle.whole_runs.specs.WholeRuns.{Reachable, Traced}
 use Rattle.theory_recording.specs.Replay.{recordBytes, recordsOf, stateAfterEvents, EventReply, performed, repliesOf, noneRefused, paired, linesOf}
 use Rattle.model.proofs.simulation.Accepted.{checkpoint-out, send-out, lose-out, deliver-out, recover-out}
 use Rattle.model.proofs.Records.{records-are-events}
-use Rattle.whole_runs.proofs.Sizes.{few-processes, last-passes}
-use Rattle.whole_runs.proofs.Blocks.{states-by-block, one-state}
-use Rattle.whole_runs.proofs.Traced.{traced-call}
-use Rattle.whole_runs.proofs.whole.Reached.{refusal}
+use Rattle.whole_runs.proofs.{Sizes.few-processes, Sizes.last-passes, Blocks.states-by-block, Blocks.one-state, Traced.traced-call, whole.Reached.refusal}
 use Rattle.whole_runs.proofs.whole.Accepted.{accepted-report}
 
 -- The number of a message that is found is one that was used.

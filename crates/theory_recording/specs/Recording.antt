@@ -1,43 +1,23 @@
 -- Document 02, Note 9: a recorder. "A writer takes a call, does it, and appends the record to a lent buffer whose first byte is the count".
 -- Assumes nothing.
-use mathlib.Core.Path.{_≡_}
-use mathlib.Core.Bool.{Bool, true, false}
-use mathlib.Core.List.{List, [], _∷_, _++_, map}
-use mathlib.Core.Logic.{_⊎_}
-use mathlib.Core.Option.{Option, none, some}
-use Prim.Native.Nat.{ℕ, _+_, _-_, _*_, _≤_, _<_}
-use lib.Dec.{eqb, ltb}
-use lib.ListN.{length, getD, take, drop}
-use lib.Seq.{sets}
-use Rattle.laws.specs.Choice.{pick}
+use Rattle.laws.specs.Basics.{_≡_, Bool, true, false, List, [], _∷_, _++_, map, Option, none, some, _⊎_, ℕ, _+_, _-_, _*_, _≤_, _<_, eqb, ltb, length, getD, take, drop, sets, pick}
 use Rattle.laws.specs.Tests.{every}
-use Rattle.model.specs.declared.Named.{Named}
-use Rattle.model.specs.declared.Run.{Run}
-use Rattle.model.specs.declared.Event.{Event}
+use Rattle.model.specs.declared.{Named.Named, Run.Run, Event.Event, Refusal.Refusal, Refusal.the-variants.BufferTooShort, StartAnswer.StartAnswer}
 use Rattle.model.specs.declared.Event.the-variants.{Checkpoint, Send, Deliver, Lose, Recover}
-use Rattle.model.specs.declared.Refusal.{Refusal}
-use Rattle.model.specs.declared.Refusal.the-variants.{BufferTooShort}
-use Rattle.model.specs.declared.StartAnswer.{StartAnswer}
-use Rattle.model.specs.declared.StartAnswer.the-variants as start-answer
-use Rattle.model.specs.declared.CheckpointAnswer.{CheckpointAnswer}
-use Rattle.model.specs.declared.CheckpointAnswer.the-variants as checkpoint-answer
-use Rattle.model.specs.declared.SendAnswer.{SendAnswer}
-use Rattle.model.specs.declared.SendAnswer.the-variants as send-answer
-use Rattle.model.specs.declared.DeliverAnswer.{DeliverAnswer}
-use Rattle.model.specs.declared.DeliverAnswer.the-variants as deliver-answer
-use Rattle.model.specs.declared.LoseAnswer.{LoseAnswer}
-use Rattle.model.specs.declared.LoseAnswer.the-variants as lose-answer
-use Rattle.model.specs.declared.LineAnswer.{LineAnswer}
-use Rattle.model.specs.declared.RecoverAnswer.{RecoverAnswer}
-use Rattle.model.specs.declared.RecoverAnswer.the-variants as recover-answer
-use Rattle.model.specs.Words.{blank}
-use Rattle.model.specs.Steps.{startState}
+use Rattle.model.specs.declared.{CheckpointAnswer.CheckpointAnswer, SendAnswer.SendAnswer, DeliverAnswer.DeliverAnswer, LoseAnswer.LoseAnswer}
+use Rattle.model.specs.declared.{LineAnswer.LineAnswer, RecoverAnswer.RecoverAnswer}
+use Rattle.model.specs.{Words.blank, Steps.startState}
 use Rattle.model.specs.Refusals.{startRefusal, checkpointRefusal, sendRefusal, deliverRefusal, loseRefusal, recoverRefusal}
 use Rattle.whole_runs.specs.Outcomes.{Outcome, Report, judged, startOutcome, checkpointOutcome, checkpointReport, sendOutcome, sendReport, deliverOutcome, deliverReport, loseOutcome, loseReport, lineOutcome, lineReport, recoverOutcome, recoverReport}
-use Rattle.whole_runs.specs.Earliest.{earliestOutcome}
+use Rattle.whole_runs.specs.{Earliest.earliestOutcome, Listing.mostRecords, Listing.stateAfterRecords, Listing.listing}
 use Rattle.whole_runs.specs.Calls.{Call, checkpoint, send, deliver, lose, recover, line, earliest, Reply, answered}
-use Rattle.whole_runs.specs.Listing.{mostRecords, stateAfterRecords, listing}
 use Rattle.theory_recording.specs.Replay.{recordBytes, recordsOf, EventReply, repliesOf, replayedState, noneRefused, linesOf}
+use Rattle.model.specs.declared.StartAnswer.the-variants as start-answer
+use Rattle.model.specs.declared.CheckpointAnswer.the-variants as checkpoint-answer
+use Rattle.model.specs.declared.SendAnswer.the-variants as send-answer
+use Rattle.model.specs.declared.DeliverAnswer.the-variants as deliver-answer
+use Rattle.model.specs.declared.LoseAnswer.the-variants as lose-answer
+use Rattle.model.specs.declared.RecoverAnswer.the-variants as recover-answer
 
 -- What a call through the writer leaves behind: the call's outcome, the buffer, and the place that the next byte goes to.
 pub record Recorded (A : Type 0) : Type 0 where

@@ -1,20 +1,11 @@
 -- Events with their records: the state after them and their replies, once as calls and once as a replay of the records. What Notes 9 and 10 of document 02 say of
 -- "the same events" is stated with these.
 -- Assumes nothing.
-use mathlib.Core.Bool.{Bool}
-use mathlib.Core.List.{List, [], _∷_, _++_}
-use Prim.Native.Nat.{ℕ, _+_, _*_}
-use lib.Dec.{eqb}
-use lib.ListN.{take}
-use Rattle.laws.specs.Lists.{orElse}
-use Rattle.laws.specs.Tests.{every}
-use Rattle.model.specs.declared.Run.{Run}
-use Rattle.model.specs.declared.Event.{Event}
-use Rattle.model.specs.Words.{ones, blank}
-use Rattle.model.specs.Steps.{startState}
-use Rattle.model.specs.Trace.{encoded, decoded}
-use Rattle.whole_runs.specs.Calls.{Reply, call}
-use Rattle.whole_runs.specs.Listing.{mostRecords, lineText, callOf, perform, stateAfterRecords}
+use Rattle.laws.specs.Basics.{Bool, List, [], _∷_, _++_, ℕ, _+_, _*_, eqb, take}
+use Rattle.laws.specs.{Lists.orElse, Tests.every}
+use Rattle.model.specs.declared.{Run.Run, Event.Event}
+use Rattle.model.specs.{Words.ones, Words.blank, Steps.startState, Trace.encoded, Trace.decoded}
+use Rattle.whole_runs.specs.{Calls.Reply, Calls.call, Listing.mostRecords, Listing.lineText, Listing.callOf, Listing.perform, Listing.stateAfterRecords}
 
 -- The record of an event that fits the fields; of another there is none, and no byte stands for it.
 unfoldable pub recordBytes : Event → List ℕ

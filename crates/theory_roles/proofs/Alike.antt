@@ -1,41 +1,21 @@
 -- Two states that are alike to an owner: as many processes, and the same part for each of its own. What states that console calls reach have in common, and what a
 -- part that is put in leaves alike.
 -- Assumes nothing.
-use mathlib.Core.Path.{_≡_, refl, sym, _∙_, ap, subst}
-use mathlib.Core.Bool.{true, false, _&&_}
-use mathlib.Core.List.{List, [], _∷_, _++_}
-use mathlib.Core.Option.{some, Option·map}
-use Prim.Native.Nat.{ℕ, suc, _≤_, _<_}
-use native.Mathlib.Omega.{arith}
-use lib.Dec.{eqb, ltb}
-use lib.ListN.{length}
-use lib.Seq.{getD-set-same, getD-set-other}
-use borrow.Author.Tests.{ltb-true, eq-eqb, ne-eqb}
-use Rattle.laws.specs.Choice.{by-eq}
-use Rattle.laws.specs.Tables.{take-placed}
-use Rattle.laws.specs.Lists.{select, lastOf, placed}
-use Rattle.laws.specs.Search.{latest, latest-is, latest-out}
+use Rattle.laws.specs.Basics.{_≡_, refl, sym, _∙_, ap, subst, true, false, _&&_, List, [], _∷_, _++_, some, ℕ, suc, _≤_, _<_, arith, eqb, ltb, length, getD-set-same, getD-set-other, eq-eqb, ne-eqb, ltb-true, by-eq}
+use mathlib.Core.Option.{Option·map}
+use Rattle.laws.specs.{Tables.take-placed, Lists.select, Lists.lastOf, Lists.placed, Search.latest, Search.latest-is, Search.latest-out}
 use Rattle.laws.specs.Truth.{and-left, and-both, and-no-right, never-both}
 use Rattle.model.specs.declared.Run.{Run}
 use Rattle.model.specs.Words.{mostProcesses, Process, noCheckpoint, blank, inSet, process, withProcess, withMessages, withDisk, failed}
-use Rattle.model.specs.Steps.{states, member}
-use Rattle.model.specs.Sound.{sound}
-use Rattle.model.specs.Refusals.{noMember}
-use Rattle.histories.proofs.Run.{Ideal, safe, line, member as ideal-member}
-use Rattle.histories.proofs.Invariant.{Inv}
-use Rattle.histories.proofs.Line.{line-found}
+use Rattle.model.specs.{Steps.states, Steps.member, Sound.sound, Refusals.noMember}
+use Rattle.histories.proofs.{Run.Ideal, Run.safe, Run.line, Run.member as ideal-member, Invariant.Inv, Line.line-found}
 use Rattle.model.proofs.simulation.View.{checkpointOf, stateOf, partsOf, processOf, Limits}
-use Rattle.model.proofs.simulation.Lines.{states-is, member-is}
-use Rattle.model.proofs.simulation.Passing.{select-passing, last-passing}
-use Rattle.model.proofs.simulation.Rows.{standing}
-use Rattle.model.proofs.simulation.Parts.{Room, room-all, room-blank, count-put}
-use Rattle.model.proofs.simulation.Reads.{count-is}
-use Rattle.model.proofs.simulation.Sound.{state-sound}
+use Rattle.model.proofs.{simulation.Lines.states-is, simulation.Lines.member-is, simulation.Passing.select-passing, simulation.Passing.last-passing}
+use Rattle.model.proofs.{simulation.Rows.standing, simulation.Parts.Room, simulation.Parts.room-all, simulation.Parts.room-blank, simulation.Parts.count-put}
+use Rattle.model.proofs.{simulation.Reads.count-is, simulation.Sound.state-sound}
 use Rattle.whole_runs.specs.WholeRuns.{Reachable}
-use Rattle.whole_runs.proofs.WholeRuns.{reachable-reached}
-use Rattle.whole_runs.proofs.whole.Refused.{members-found}
-use Rattle.theory_roles.specs.Console.{owns}
-use Rattle.theory_roles.specs.Runs.{ConsoleCall, consoleCall, stateAfterConsole, ConsoleReached, ConsoleIsReachable}
+use Rattle.whole_runs.proofs.{WholeRuns.reachable-reached, whole.Refused.members-found}
+use Rattle.theory_roles.specs.{Console.owns, Runs.ConsoleCall, Runs.consoleCall, Runs.stateAfterConsole, Runs.ConsoleReached, Runs.ConsoleIsReachable}
 use Rattle.theory_roles.proofs.Runs.{console-reachable}
 
 pub record Alike (owned : ℕ) (s t : Run) : Type 0 where

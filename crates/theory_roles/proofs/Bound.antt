@@ -1,52 +1,26 @@
 -- 16 is real: two runs that differ in what another process stored, of which one leaves the tenant's checkpoint no room within the bound of blocks.
 -- Assumes nothing.
-use mathlib.Core.Path.{_≡_, refl, sym, _∙_, ap, subst}
-use mathlib.Core.Bool.{false, not}
-use mathlib.Core.List.{List, [], _∷_, _++_, map}
-use mathlib.Core.Option.{Option, none, some}
-use Prim.Native.Nat.{ℕ, zero, suc, _+_, _≤_, _<_}
-use native.Mathlib.Omega.{arith}
-use lib.Dec.{eqb, ltb}
-use lib.ListN.{replicate}
-use borrow.Author.Tests.{lt-ltb, lt-leb}
-use Rattle.laws.specs.Choice.{by-bool}
-use Rattle.laws.specs.Lists.{lastOf}
-use Rattle.laws.specs.Search.{anyBelow}
-use Rattle.laws.specs.Select.{map-append, lastOf-snoc}
-use Rattle.laws.specs.Sums.{sumBelow}
-use Rattle.laws.specs.Truth.{and-no-right}
-use Rattle.model.specs.declared.Refusal.{Refusal}
-use Rattle.model.specs.declared.Refusal.the-variants.{BlocksUsed}
-use Rattle.model.specs.declared.Run.{Run}
-use Rattle.model.specs.declared.StartAnswer.the-variants.{Started}
-use Rattle.model.specs.Words.{mostInterval, mostBlocks, blockCount, process, own, inSet}
-use Rattle.model.specs.Sound.{isBlockCount}
-use Rattle.model.specs.Refusals.{number, firstOf, startRefusal, checkpointRefusal}
-use Rattle.model.specs.laws.Refusals.{refusal-in}
-use Rattle.histories.proofs.Run.{Ideal, begin, openLedger, begun}
-use Rattle.histories.proofs.Begin.{begin-own, begin-mark, begin-transit}
-use Rattle.histories.proofs.Invariant.{Inv}
-use Rattle.model.proofs.simulation.View.{stateOf, Limits}
-use Rattle.model.proofs.simulation.Reads.{count-is, own-is}
-use Rattle.model.proofs.simulation.Admitted.{checkpoint-admitted}
-use Rattle.model.proofs.simulation.Sound.{state-sound}
-use Rattle.model.proofs.simulation.SoundCalls.{written-is, count-is-of}
-use Rattle.whole_runs.specs.Outcomes.{checkpointReport, checkpointOutcome, startOutcome}
-use Rattle.whole_runs.specs.Calls.{checkpoint, Reply, answered}
+use Rattle.laws.specs.Basics.{_≡_, refl, sym, _∙_, ap, subst, false, not, List, [], _∷_, _++_, map, Option, none, some, ℕ, zero, suc, _+_, _≤_, _<_, arith, eqb, ltb, replicate, lt-ltb, lt-leb, by-bool}
+use Rattle.laws.specs.{Lists.lastOf, Search.anyBelow, Select.map-append, Select.lastOf-snoc, Sums.sumBelow, Truth.and-no-right}
+use Rattle.model.specs.declared.{Refusal.Refusal, Refusal.the-variants.BlocksUsed, Run.Run, StartAnswer.the-variants.Started}
+use Rattle.model.specs.{Words.mostInterval, Words.mostBlocks, Words.blockCount, Words.process, Words.own, Words.inSet, Sound.isBlockCount}
+use Rattle.model.specs.{Refusals.number, Refusals.firstOf, Refusals.startRefusal, Refusals.checkpointRefusal, laws.Refusals.refusal-in}
+use Rattle.histories.proofs.{Run.Ideal, Run.begin, Run.openLedger, Run.begun, Begin.begin-own, Begin.begin-mark, Begin.begin-transit, Invariant.Inv}
+use Rattle.model.proofs.{simulation.View.stateOf, simulation.View.Limits, simulation.Reads.count-is, simulation.Reads.own-is, simulation.Sound.state-sound}
+use Rattle.model.proofs.{simulation.Admitted.checkpoint-admitted, simulation.SoundCalls.written-is, simulation.SoundCalls.count-is-of}
+use Rattle.whole_runs.specs.{Outcomes.checkpointReport, Outcomes.checkpointOutcome, Outcomes.startOutcome, Calls.checkpoint, Calls.Reply, Calls.answered}
 use Rattle.whole_runs.specs.Survival.{beginning}
-use Rattle.whole_runs.proofs.whole.Refused.{numberOf}
-use Rattle.whole_runs.proofs.WholeRuns.{start-reached}
+use Rattle.whole_runs.proofs.{whole.Refused.numberOf, WholeRuns.start-reached}
 use Rattle.theory_tables.specs.Exam.{deletionList}
 use Rattle.theory_roles.specs.Console.{may, owns, entitled, entitledBy, denied, deniedProcess, consoleStart, consoleCheckpoint}
-use Rattle.theory_roles.specs.Runs.{made, ConsoleCall, consoleAnswered, consoleCall, stateAfterConsole}
+use Rattle.theory_roles.specs.{Runs.made, Runs.ConsoleCall, Runs.consoleAnswered, Runs.consoleCall, Runs.stateAfterConsole, Isolation.owner}
 use Rattle.theory_roles.specs.declared.Operation.the-variants.{Checkpoint}
-use Rattle.theory_roles.specs.Isolation.{owner}
 use Rattle.theory_roles.specs.Table.{operator}
 use Rattle.theory_roles.specs.Learned.{isOwnerBy, isOwner, sees, seen, bound, leak, Exposed, asked, done, exposes, exposed}
-use Rattle.theory_roles.specs.Real as real
 use Rattle.theory_roles.specs.Real.{blocks, code, hide, hiddenLeak, hidden, tenant, rounds, pairOf, Real}
 use Rattle.theory_roles.proofs.Far.{At, at, Come, Any, stores-one, many-more, many-rounds}
 use Rattle.theory_roles.proofs.Lists.{owner-itself, exposed-append, seen-append, differing}
+use Rattle.theory_roles.specs.Real as real
 
 -- Another's checkpoints of its own process expose and show nothing.
 exposes-none : (s : Run) → exposes 1 s stores-one ≡ []

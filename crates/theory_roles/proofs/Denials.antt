@@ -1,10 +1,6 @@
 -- What is denied, and that it is denied before anything else is looked at.
 -- Assumes nothing.
-use mathlib.Core.Path.{_≡_, refl, ap}
-use mathlib.Core.Bool.{Bool, true, false, _&&_, not}
-use Prim.Native.Nat.{ℕ, _≤_, _<_}
-use lib.Dec.{ltb}
-use borrow.Author.Tests.{lt-ltb, le-ltb}
+use Rattle.laws.specs.Basics.{_≡_, refl, ap, Bool, true, false, not, _&&_, ℕ, _≤_, _<_, ltb, lt-ltb, le-ltb}
 use Rattle.laws.specs.Truth.{and-both, and-no-right}
 use Rattle.model.specs.Words.{inSet}
 use Rattle.theory_roles.specs.declared.Role.the-variants.{JobOwner}

@@ -1,37 +1,24 @@
 -- Runs that are too long to compute: rounds in which checkpoints are stored, rolled back and stored again, by the run as functions. How many blocks they write.
 -- Assumes nothing.
-use mathlib.Core.Path.{_≡_, refl, sym, _∙_, ap, subst}
-use mathlib.Core.Bool.{Bool, true, false}
-use mathlib.Core.List.{List, [], _∷_}
-use mathlib.Core.Option.{none}
-use Prim.Native.Nat.{ℕ, zero, suc, _+_, _*_, _≤_, _<_}
-use native.Mathlib.Omega.{arith}
-use lib.ListN.{length, replicate}
-use Rattle.laws.specs.Choice.{pick, by-bool, by-eq}
-use Rattle.laws.specs.Truth.{never-both}
-use Rattle.laws.specs.Update.{upd-same, upd-other}
+use Rattle.laws.specs.Basics.{_≡_, refl, sym, _∙_, ap, subst, Bool, true, false, List, [], _∷_, none, ℕ, zero, suc, _+_, _*_, _≤_, _<_, arith, length, replicate, pick, by-bool, by-eq}
+use Rattle.laws.specs.{Truth.never-both, Update.upd-same, Update.upd-other}
 use Rattle.model.specs.declared.Run.{Run}
-use Rattle.model.specs.Words.{basic, forced, mostMessages, mostInterval, mostBlocks, failed}
-use Rattle.model.specs.Refusals.{recoverRefusal}
+use Rattle.model.specs.{Words.basic, Words.forced, Words.mostMessages, Words.mostInterval, Words.mostBlocks, Words.failed, Refusals.recoverRefusal}
 use Rattle.histories.proofs.Run.{Ledger, Ideal, because, checkpointed, stores, sending, takenIn, takenBy, delivered, recovered, forces, rolled, line}
-use Rattle.histories.proofs.Invariant.{Inv}
-use Rattle.histories.proofs.Line.{rising, line-le, line-fine, below-rolled}
+use Rattle.histories.proofs.{Invariant.Inv, Line.rising, Line.line-le, Line.line-fine, Line.below-rolled}
 use Rattle.histories.proofs.CheckpointedViews.{checkpointed-own, checkpointed-own-other, checkpointed-vector, checkpointed-mark}
 use Rattle.histories.proofs.DeliveredViews.{delivered-own-plain, delivered-mark-plain, delivered-row, delivered-transit, delivered-transit-other, delivered-last}
 use Rattle.histories.proofs.RecoveredViews.{recovered-own-back, recovered-mark-back, recovered-transit}
-use Rattle.model.proofs.simulation.View.{messagesOf, stateOf, Limits}
-use Rattle.model.proofs.simulation.Passing.{passing-none}
+use Rattle.model.proofs.{simulation.View.messagesOf, simulation.View.stateOf, simulation.View.Limits, simulation.Passing.passing-none}
 use Rattle.model.proofs.simulation.Admitted.{checkpoint-admitted, send-admitted, deliver-admitted}
 use Rattle.model.proofs.simulation.Rollback.{own-after-le}
 use Rattle.whole_runs.specs.Calls.{Call, checkpoint, send, deliver, recover, call, answered}
 use Rattle.whole_runs.specs.Survival.{Surviving, after}
-use Rattle.whole_runs.proofs.whole.Reached.{Reached, exchange, refusal}
-use Rattle.whole_runs.proofs.whole.Runs.{stepped}
+use Rattle.whole_runs.proofs.{whole.Reached.Reached, whole.Reached.exchange, whole.Reached.refusal, whole.Runs.stepped}
 use Rattle.whole_runs.proofs.WholeRuns.{accepted-reached, reached-line}
 use Rattle.theory_tables.specs.Exam.{deletionList, lineList}
 use Rattle.theory_roles.specs.Console.{may, entitled, entitledBy, entitledMessage, entitledMessageBy, denied, deniedProcess, deniedMessage, consoleCheckpoint, consoleSend, consoleDeliver, consoleRecover}
-use Rattle.theory_roles.specs.Runs.{ConsoleCall, consoleAnswered, consoleCall, stateAfterConsole}
-use Rattle.theory_roles.specs.Real.{operators, round, rounds}
+use Rattle.theory_roles.specs.{Runs.ConsoleCall, Runs.consoleAnswered, Runs.consoleCall, Runs.stateAfterConsole, Real.operators, Real.round, Real.rounds}
 use Rattle.theory_roles.proofs.Lists.{after-append}
 
 -- A state that stands for a run of three processes, whatever its history.

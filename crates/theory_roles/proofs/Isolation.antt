@@ -1,45 +1,28 @@
 -- What an owner's list, checkpoints, deliveries, losses, sends and lines depend on.
 -- Assumes nothing.
-use mathlib.Core.Path.{_≡_, refl, sym, _∙_, ap}
-use mathlib.Core.Bool.{Bool, true, false, _&&_, _||_, not}
-use mathlib.Core.List.{List, [], _∷_}
-use mathlib.Core.Option.{Option, none, some}
-use Prim.Native.Nat.{ℕ, _*_}
-use lib.Dec.{eqb, ltb, leb}
-use lib.ListN.{length}
-use Rattle.laws.specs.Choice.{pick, by-bool}
-use Rattle.laws.specs.Lists.{gather}
-use Rattle.laws.specs.Tables.{gather-same}
-use Rattle.laws.specs.Truth.{never-both}
-use Rattle.model.specs.declared.Run.{Run}
-use Rattle.model.specs.declared.Interval.{Interval}
-use Rattle.model.specs.declared.Message.{Message}
-use Rattle.model.specs.declared.Refusal.{Refusal}
+use Rattle.laws.specs.Basics.{_≡_, refl, sym, _∙_, ap, Bool, true, false, not, _&&_, _||_, List, [], _∷_, Option, none, some, ℕ, _*_, eqb, ltb, leb, length, pick, by-bool}
+use Rattle.laws.specs.{Lists.gather, Tables.gather-same, Truth.never-both}
+use Rattle.model.specs.declared.{Run.Run, Interval.Interval, Message.Message, Refusal.Refusal}
 use Rattle.model.specs.declared.Refusal.the-variants.{UnsoundState, ListTooShort, NoSuchProcess, SenderIsReceiver, NotUnderWay, TooManyUnderWay, MessageNumbersUsed, IntervalsUsed, BlocksUsed}
-use Rattle.model.specs.declared.CheckpointAnswer.the-variants as checkpoint-answer
-use Rattle.model.specs.declared.DeliverAnswer.the-variants as deliver-answer
-use Rattle.model.specs.declared.SendAnswer.the-variants as send-answer
-use Rattle.model.specs.declared.LineAnswer.the-variants as line-answer
 use Rattle.model.specs.Words.{basic, mostUnderWay, mostMessages, mostInterval, entry, liveIndex, Process, blockCount, process, own, live}
 use Rattle.model.specs.Steps.{Deletion, listed, found, advanced, storing, checkpointed, checkpointDeletions, deletions, forces, risen, delivered, deliverRisen, deliverDeletions}
-use Rattle.model.specs.Sound.{sound}
+use Rattle.model.specs.{Sound.sound, laws.Refusals.by-refusal}
 use Rattle.model.specs.Refusals.{firstOf, shortDeletions, absent, atLastInterval, pastBlocks, shortLine, outside, noMember, forcesPast, forcesOver, checkpointRefusal, deliverRefusal, loseRefusal, sendRefusal, lineRefusal}
-use Rattle.model.specs.laws.Refusals.{by-refusal}
 use Rattle.whole_runs.specs.Outcomes.{Outcome, pairs, written, judged, checkpointOutcome, deliverAnswer, deliverOutcome, loseOutcome, sendOutcome, sendReport, lineOutcome}
 use Rattle.whole_runs.specs.WholeRuns.{Reachable}
-use Rattle.whole_runs.proofs.WholeRuns.{reachable-sound, reachable-reached}
-use Rattle.whole_runs.proofs.whole.Refused.{members-found}
-use Rattle.whole_runs.proofs.whole.Runs.{runAfter}
+use Rattle.whole_runs.proofs.{WholeRuns.reachable-sound, WholeRuns.reachable-reached, whole.Refused.members-found, whole.Runs.runAfter}
 use Rattle.histories.proofs.Run.{begun}
-use Rattle.theory_roles.specs.declared.Role.the-variants.{JobOwner}
-use Rattle.theory_roles.specs.declared.Operation.{Operation}
+use Rattle.theory_roles.specs.declared.{Role.the-variants.JobOwner, Operation.Operation, ListAnswer.ListAnswer}
 use Rattle.theory_roles.specs.declared.Operation.the-variants.{Checkpoint as Checkpointing, Send, Deliver, Lose}
-use Rattle.theory_roles.specs.declared.ListAnswer.{ListAnswer}
-use Rattle.theory_roles.specs.declared.ListAnswer.the-variants as list-answer
 use Rattle.theory_roles.specs.Console.{may, owns, entitledBy, entitled, entitledMessageBy, entitledMessage, denied, deniedProcess, deniedMessage, listedTo, listRefusal, consoleList, consoleCheckpoint, consoleSend, consoleDeliver, consoleLose, consoleLine}
 use Rattle.theory_roles.specs.Runs.{ConsoleReached, ConsoleIsReachable}
 use Rattle.theory_roles.specs.Isolation.{owner, SameToOwner, ListIsOwn, CheckpointIsOwn, DeliveryIsOwn, LossIsOwn, SendIsOwn, lineAnswerBy, LineAnswerIsOwn, SoundLineAnswers}
 use Rattle.theory_roles.proofs.Runs.{console-reachable}
+use Rattle.model.specs.declared.CheckpointAnswer.the-variants as checkpoint-answer
+use Rattle.model.specs.declared.DeliverAnswer.the-variants as deliver-answer
+use Rattle.model.specs.declared.SendAnswer.the-variants as send-answer
+use Rattle.model.specs.declared.LineAnswer.the-variants as line-answer
+use Rattle.theory_roles.specs.declared.ListAnswer.the-variants as list-answer
 
 console-sound : (s : Run) → ConsoleReached s → sound s ≡ true
 unfolding ConsoleIsReachable

@@ -1,44 +1,18 @@
 -- What a list and the counts hold on a state that console calls reach: what the history keeps.
 -- Assumes nothing.
-use mathlib.Core.Path.{_≡_, refl, sym, _∙_, ap}
-use mathlib.Core.Bool.{Bool, true, false}
-use mathlib.Core.List.{List, [], _∷_, _++_, append-nil}
-use mathlib.Core.Option.{none, some}
-use Prim.Native.Nat.{ℕ, zero, suc, _*_, _≤_, _<_}
-use native.Mathlib.Omega.{arith}
-use lib.Dec.{ltb}
-use lib.ListN.{length, length-map}
-use borrow.Author.Tests.{lt-ltb, le-ltb}
-use Rattle.laws.specs.Choice.{pick, by-bool}
-use Rattle.laws.specs.Counting.{count-same}
-use Rattle.laws.specs.Front.{written-front}
-use Rattle.laws.specs.Lists.{table, gather}
-use Rattle.laws.specs.Select.{map-append}
-use Rattle.laws.specs.Sums.{sumBelow, sum-same, length-gather}
+use Rattle.laws.specs.Basics.{_≡_, refl, sym, _∙_, ap, Bool, true, false, List, [], _∷_, _++_, append-nil, none, some, ℕ, zero, suc, _*_, _≤_, _<_, arith, ltb, length, lt-ltb, le-ltb, pick, by-bool}
+use lib.ListN.{length-map}
+use Rattle.laws.specs.{Counting.count-same, Front.written-front, Lists.table, Lists.gather, Select.map-append, Sums.sumBelow, Sums.sum-same, Sums.length-gather}
 use Rattle.laws.specs.Tables.{gather-same, table-same, length-table}
-use Rattle.model.specs.declared.Run.{Run}
-use Rattle.model.specs.declared.Checkpoint.{Checkpoint}
-use Rattle.model.specs.declared.Refusal.the-variants.{ListTooShort}
-use Rattle.model.specs.Words.{mostProcesses, process}
-use Rattle.model.specs.Steps.{Deletion, listed}
-use Rattle.model.specs.Sound.{sound}
-use Rattle.model.specs.Refusals.{firstOf}
+use Rattle.model.specs.declared.{Run.Run, Checkpoint.Checkpoint, Refusal.the-variants.ListTooShort}
+use Rattle.model.specs.{Words.mostProcesses, Words.process, Steps.Deletion, Steps.listed, Sound.sound, Refusals.firstOf}
 use Rattle.histories.specs.History.{Lists, checkpoints}
-use Rattle.whole_runs.specs.Outcomes.{pairs}
-use Rattle.whole_runs.specs.Survival.{Surviving}
-use Rattle.whole_runs.specs.Answers.{liveOf}
-use Rattle.histories.proofs.Run.{Ideal, keeps}
-use Rattle.histories.proofs.Invariant.{Inv}
+use Rattle.whole_runs.specs.{Outcomes.pairs, Survival.Surviving, Answers.liveOf}
+use Rattle.histories.proofs.{Run.Ideal, Run.keeps, Invariant.Inv}
 use Rattle.model.proofs.simulation.View.{passing, checkpointOf, keptOf, processOf, stateOf}
-use Rattle.model.proofs.simulation.Reads.{count-is, process-is}
-use Rattle.model.proofs.simulation.Kept.{kept-length, kept-most}
-use Rattle.whole_runs.proofs.whole.Pairs.{length-pairs}
-use Rattle.whole_runs.proofs.whole.Handed.{gather-length}
-use Rattle.whole_runs.proofs.whole.Agreement.{Agrees}
-use Rattle.whole_runs.proofs.whole.Reached.{Reached}
-use Rattle.whole_runs.proofs.WholeRuns.{reached-sound}
-use Rattle.theory_roles.specs.declared.Caller.{Caller}
-use Rattle.theory_roles.specs.declared.Operation.the-variants.{List as Listing, Counts}
+use Rattle.model.proofs.{simulation.Reads.count-is, simulation.Reads.process-is, simulation.Kept.kept-length, simulation.Kept.kept-most}
+use Rattle.whole_runs.proofs.{whole.Pairs.length-pairs, whole.Handed.gather-length, whole.Agreement.Agrees, whole.Reached.Reached, WholeRuns.reached-sound}
+use Rattle.theory_roles.specs.declared.{Caller.Caller, Operation.the-variants.List as Listing, Operation.the-variants.Counts}
 use Rattle.theory_roles.specs.Console.{denied, entitled, listedTo, listRefusal, consoleList, keptCounts, countsRefusal, consoleCounts}
 use Rattle.theory_roles.specs.Shown.{keptNumber, keptPairs, ListIsRight, CountsAreRight, ListIsKept, CountsAreKept}
 use Rattle.theory_roles.proofs.Runs.{console-reached}

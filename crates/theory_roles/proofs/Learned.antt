@@ -1,28 +1,9 @@
 -- An owner learns nothing but the leaks: by unwinding. A call either exposes nothing, and then leaves the owner's part as it was; or it exposes one thing, and then
 -- two calls that expose the same, on states that are alike, return the same to the owner and leave states that are alike.
 -- Assumes nothing.
-use mathlib.Core.Path.{_≡_, refl, sym, _∙_, ap, subst}
-use mathlib.Core.Bool.{Bool, true, false, _&&_, _||_, not}
-use mathlib.Core.List.{List, [], _∷_}
-use mathlib.Core.Logic.{_⊎_, inl, inr}
-use mathlib.Core.Option.{Option, none, some}
-use Prim.Native.Nat.{ℕ, _≤_, _<_}
-use native.Mathlib.Omega.{arith}
-use lib.Dec.{eqb, ltb}
-use lib.ListN.{getD, set}
-use borrow.Author.Tests.{ltb-true}
-use Rattle.laws.specs.Choice.{by-bool}
-use Rattle.laws.specs.Lists.{orElse}
-use Rattle.laws.specs.Loops.{either}
-use Rattle.laws.specs.Search.{all-out}
-use Rattle.laws.specs.Truth.{never-both, and-left, and-right, and-both}
-use Rattle.model.specs.declared.Message.{Message}
-use Rattle.model.specs.declared.Named.{Named}
-use Rattle.model.specs.declared.Refusal.{Refusal}
-use Rattle.model.specs.declared.Refusal.the-variants.{Denied}
-use Rattle.model.specs.declared.Run.{Run}
-use Rattle.model.specs.declared.Pin.the-variants.{At}
-use Rattle.model.specs.declared.StartAnswer.the-variants as start-answer
+use Rattle.laws.specs.Basics.{_≡_, refl, sym, _∙_, ap, subst, Bool, true, false, not, _&&_, _||_, List, [], _∷_, Option, none, some, _⊎_, inl, inr, ℕ, _≤_, _<_, arith, eqb, ltb, getD, set, ltb-true, by-bool}
+use Rattle.laws.specs.{Lists.orElse, Loops.either, Search.all-out, Truth.never-both, Truth.and-left, Truth.and-right, Truth.and-both}
+use Rattle.model.specs.declared.{Message.Message, Named.Named, Refusal.Refusal, Refusal.the-variants.Denied, Run.Run, Pin.the-variants.At}
 use Rattle.model.specs.declared.StartAnswer.the-variants.{Started}
 use Rattle.model.specs.Words.{mostProcesses, zeroVector, noPins, noMessage, blank, inSet, process, withDisk}
 use Rattle.model.specs.Steps.{checkpointZero, started, startState, found, forces, checkpointState, sendState, deliverState, loseState, recoverState}
@@ -34,18 +15,16 @@ use Rattle.whole_runs.specs.Outcomes.{startOutcome, message, checkpointReport, 
 use Rattle.whole_runs.specs.Earliest.{earliestRefusal, earliestOutcome}
 use Rattle.whole_runs.specs.Calls.{checkpoint, send, deliver, lose, recover, line, earliest, Reply, Answered, answered}
 use Rattle.whole_runs.proofs.whole.Reached.{refused-number}
-use Rattle.theory_roles.specs.declared.Role.{Role}
-use Rattle.theory_roles.specs.declared.Role.the-variants.{Operator, JobOwner, Viewer}
+use Rattle.theory_roles.specs.declared.{Role.Role, Role.the-variants.Operator, Role.the-variants.JobOwner, Role.the-variants.Viewer, Caller.Caller}
 use Rattle.theory_roles.specs.declared.Operation.the-variants.{Start, Checkpoint, Send, Deliver, Lose, Recover, Line, Earliest, Counts}
-use Rattle.theory_roles.specs.declared.Caller.{Caller}
 use Rattle.theory_roles.specs.Console.{owns, denied, deniedProcess, deniedMessage, consoleStart, consoleCheckpoint, consoleSend, consoleDeliver, consoleLose, consoleRecover, consoleLine, consoleEarliest, consoleCounts, countsRefusal}
 use Rattle.theory_roles.specs.Runs.{Asked, made, list, counts, ConsoleCall, ConsoleReached, consoleAnswered, consoleCall, stateAfterConsole}
 use Rattle.theory_roles.specs.Isolation.{owner}
 use Rattle.theory_roles.specs.Learned.{isOwnerBy, isOwner, sees, seen, arrivalOf, arrives, leak, restarts, Exposed, asked, stored, sent, took, restarted, done, exposes, exposed, LearnsNoMore}
 use Rattle.theory_roles.proofs.Alike.{Alike, owned-below, alike-then, alike-back, reached-fit, reached-on}
 use Rattle.theory_roles.proofs.Steps.{checkpoint-alike, send-alike, deliver-alike, checkpoint-other, send-other, deliver-other, lose-other}
-use Rattle.theory_roles.proofs.Restarts.{recover-alike}
-use Rattle.theory_roles.proofs.Own.{run-list, own-same}
+use Rattle.theory_roles.proofs.{Restarts.recover-alike, Own.run-list, Own.own-same}
+use Rattle.model.specs.declared.StartAnswer.the-variants as start-answer
 
 -- What a call did that exposed something: what the owner sees of it, and the state after it.
 abbrev Did : ℕ → Run → Exposed → List Reply → Run → Type 0

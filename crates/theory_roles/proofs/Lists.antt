@@ -1,18 +1,11 @@
 -- The owner of a set is its owner. Lists of console calls put together: the state after them, what they expose, what the tenant of specs/Real sees. And two lists of answers that differ in the last one.
 -- Assumes nothing.
-use mathlib.Core.Path.{_≡_, refl, sym, _∙_, ap}
-use mathlib.Core.Bool.{true}
-use mathlib.Core.List.{List, [], _∷_, _++_, append-assoc}
-use mathlib.Core.Option.{Option, some}
-use Prim.Native.Nat.{ℕ}
-use Rattle.laws.specs.Choice.{by-bool}
-use Rattle.laws.specs.Lists.{lastOf}
-use Rattle.laws.specs.Search.{all-in}
+use Rattle.laws.specs.Basics.{_≡_, refl, sym, _∙_, ap, true, List, [], _∷_, _++_, append-assoc, Option, some, ℕ, by-bool}
+use Rattle.laws.specs.{Lists.lastOf, Search.all-in}
 use Rattle.model.specs.declared.Run.{Run}
 use Rattle.model.specs.Words.{inSet}
 use Rattle.whole_runs.specs.Calls.{Reply}
-use Rattle.theory_roles.specs.Runs.{ConsoleCall, consoleCall, stateAfterConsole}
-use Rattle.theory_roles.specs.Isolation.{owner}
+use Rattle.theory_roles.specs.{Runs.ConsoleCall, Runs.consoleCall, Runs.stateAfterConsole, Isolation.owner}
 use Rattle.theory_roles.specs.Learned.{isOwnerBy, isOwner, sees, seen, Exposed, exposes, exposed}
 
 pub owner-itself : (owned n : ℕ) → isOwner owned n (owner owned) ≡ true

@@ -1,53 +1,26 @@
 -- 10 is real: two runs of which one has used all numbers. They are too long to compute: by the run as functions.
 -- Assumes nothing.
-use mathlib.Core.Path.{_≡_, refl, sym, _∙_, ap, subst}
-use mathlib.Core.Bool.{true, false, not}
-use mathlib.Core.List.{List, [], _∷_, _++_, map}
-use mathlib.Core.Option.{Option, none, some}
-use Prim.Native.Nat.{ℕ, zero, suc, _≤_, _<_}
-use native.Mathlib.Omega.{arith}
-use lib.Dec.{eqb, ltb, leb}
-use lib.ListN.{length}
-use borrow.Author.Tests.{le-leb}
-use Rattle.laws.specs.Choice.{by-bool, by-eq}
-use Rattle.laws.specs.Lists.{lastOf}
-use Rattle.laws.specs.Search.{anyBelow}
-use Rattle.laws.specs.Select.{lastOf-snoc}
-use Rattle.laws.specs.Truth.{and-no-right}
-use Rattle.laws.specs.Update.{upd-same, upd-other}
-use Rattle.model.specs.declared.Refusal.{Refusal}
-use Rattle.model.specs.declared.Refusal.the-variants.{MessageNumbersUsed}
-use Rattle.model.specs.declared.Run.{Run}
-use Rattle.model.specs.declared.StartAnswer.the-variants.{Started}
-use Rattle.model.specs.Words.{ones, mostUnderWay, mostMessages, inSet}
-use Rattle.model.specs.Sound.{isBlockCount}
+use Rattle.laws.specs.Basics.{_≡_, refl, sym, _∙_, ap, subst, true, false, not, List, [], _∷_, _++_, map, Option, none, some, ℕ, zero, suc, _≤_, _<_, arith, eqb, ltb, leb, length, le-leb, by-bool, by-eq}
+use Rattle.laws.specs.{Lists.lastOf, Search.anyBelow, Select.lastOf-snoc, Truth.and-no-right, Update.upd-same, Update.upd-other}
+use Rattle.model.specs.declared.{Refusal.Refusal, Refusal.the-variants.MessageNumbersUsed, Run.Run, StartAnswer.the-variants.Started}
+use Rattle.model.specs.{Words.ones, Words.mostUnderWay, Words.mostMessages, Words.inSet, Sound.isBlockCount, laws.Refusals.refusal-in}
 use Rattle.model.specs.Refusals.{number, firstOf, startRefusal, sendRefusal}
-use Rattle.model.specs.laws.Refusals.{refusal-in}
-use Rattle.histories.proofs.Run.{Ideal, begin, begun, sending, lost}
-use Rattle.histories.proofs.Begin.{begin-transit}
-use Rattle.histories.proofs.Invariant.{Inv}
-use Rattle.model.proofs.simulation.View.{messagesOf, stateOf, Limits}
-use Rattle.model.proofs.simulation.Reads.{count-is, last-is, underway-is}
-use Rattle.model.proofs.simulation.Passing.{passing-none}
+use Rattle.histories.proofs.{Run.Ideal, Run.begin, Run.begun, Run.sending, Run.lost, Begin.begin-transit, Invariant.Inv}
+use Rattle.model.proofs.{simulation.View.messagesOf, simulation.View.stateOf, simulation.View.Limits, simulation.Passing.passing-none}
+use Rattle.model.proofs.{simulation.Reads.count-is, simulation.Reads.last-is, simulation.Reads.underway-is, simulation.Sound.state-sound}
 use Rattle.model.proofs.simulation.Admitted.{send-admitted, lose-admitted}
-use Rattle.model.proofs.simulation.Sound.{state-sound}
-use Rattle.whole_runs.specs.Outcomes.{sendReport, sendOutcome, startOutcome}
-use Rattle.whole_runs.specs.Calls.{send, lose, call, Reply, answered}
+use Rattle.whole_runs.specs.{Outcomes.sendReport, Outcomes.sendOutcome, Outcomes.startOutcome, Calls.send, Calls.lose, Calls.call, Calls.Reply, Calls.answered}
 use Rattle.whole_runs.specs.Survival.{beginning}
-use Rattle.whole_runs.proofs.whole.Reached.{refusal}
-use Rattle.whole_runs.proofs.whole.Refused.{numberOf}
-use Rattle.whole_runs.proofs.whole.Runs.{stepped}
-use Rattle.whole_runs.proofs.WholeRuns.{start-reached}
+use Rattle.whole_runs.proofs.{whole.Reached.refusal, whole.Refused.numberOf, whole.Runs.stepped, WholeRuns.start-reached}
 use Rattle.theory_roles.specs.declared.Operation.the-variants.{Send}
 use Rattle.theory_roles.specs.Console.{may, owns, entitled, entitledBy, entitledMessage, entitledMessageBy, denied, deniedProcess, deniedMessage, consoleStart, consoleSend, consoleLose}
-use Rattle.theory_roles.specs.Isolation.{owner}
-use Rattle.theory_roles.specs.Runs.{made, ConsoleCall, consoleAnswered, consoleCall, stateAfterConsole}
+use Rattle.theory_roles.specs.{Isolation.owner, Runs.made, Runs.ConsoleCall, Runs.consoleAnswered, Runs.consoleCall, Runs.stateAfterConsole}
 use Rattle.theory_roles.specs.Table.{operator}
 use Rattle.theory_roles.specs.Learned.{isOwnerBy, isOwner, sees, seen, room, leak, Exposed, asked, done, exposes, exposed}
-use Rattle.theory_roles.specs.Real as real
 use Rattle.theory_roles.specs.Real.{used, code, hide, hiddenLeak, hidden, tenant, operators, messages, pairOf, Real}
 use Rattle.theory_roles.proofs.Far.{At, at, call-at, inv-at, limits-at, size-at, by-send}
 use Rattle.theory_roles.proofs.Lists.{owner-itself, after-append, exposed-append, seen-append, differing}
+use Rattle.theory_roles.specs.Real as real
 
 -- A state after c messages, none of them under way.
 record Calm (s : Run) (c : ℕ) : Type 0 where

@@ -1,43 +1,25 @@
 -- An owner's call on two states that are alike to it, where it shows the same of others: it returns the same, and leaves two states that are alike.
 -- Assumes nothing.
-use mathlib.Core.Path.{_≡_, refl, sym, _∙_, ap}
-use mathlib.Core.Bool.{Bool, true, false, _&&_, _||_, not}
-use mathlib.Core.List.{List, [], _∷_}
-use mathlib.Core.Option.{Option, none, some}
-use Prim.Native.Nat.{ℕ, _+_, _*_, _^_, _≤_}
-use native.Mathlib.Omega.{arith}
-use lib.Dec.{eqb, ltb, leb}
-use lib.ListN.{length, getD}
-use borrow.Author.Tests.{ltb-false}
-use Rattle.laws.specs.Choice.{pick, by-bool}
-use Rattle.laws.specs.Front.{getD-written}
-use Rattle.laws.specs.Lists.{table}
-use Rattle.laws.specs.Tables.{length-table, getD-table, table-same}
-use Rattle.laws.specs.Truth.{never-both}
-use Rattle.model.specs.declared.Interval.{Interval}
-use Rattle.model.specs.declared.Message.{Message}
-use Rattle.model.specs.declared.Run.{Run}
+use Rattle.laws.specs.Basics.{_≡_, refl, sym, _∙_, ap, Bool, true, false, not, _&&_, _||_, List, [], _∷_, Option, none, some, ℕ, _+_, _*_, _^_, _≤_, arith, eqb, ltb, leb, length, getD, ltb-false, pick, by-bool}
+use Rattle.laws.specs.{Front.getD-written, Lists.table, Tables.length-table, Tables.getD-table, Tables.table-same, Truth.never-both}
+use Rattle.model.specs.declared.{Interval.Interval, Message.Message, Run.Run, LineAnswer.the-variants.Refused, LineAnswer.the-variants.Written}
 use Rattle.model.specs.declared.Refusal.the-variants.{UnsoundState, ListTooShort, NoSuchProcess, SenderIsReceiver, NoSuchFailedProcess, NotUnderWay, TooManyUnderWay, MessageNumbersUsed, IntervalsUsed, BlocksUsed}
-use Rattle.model.specs.declared.CheckpointAnswer.the-variants as checkpoint-answer
-use Rattle.model.specs.declared.SendAnswer.the-variants as send-answer
-use Rattle.model.specs.declared.DeliverAnswer.the-variants as deliver-answer
-use Rattle.model.specs.declared.LineAnswer.the-variants.{Refused, Written}
 use Rattle.model.specs.Words.{basic, mostUnderWay, mostMessages, mostInterval, entry, Process, process, own, live}
 use Rattle.model.specs.Steps.{found, advanced, checkpointed, checkpointDeletions, deletions, forces, risen, delivered, deliverRisen, deliverDeletions, member, lineOf}
-use Rattle.model.specs.Sound.{sound}
+use Rattle.model.specs.{Sound.sound, laws.Refusals.by-refusal, laws.Refusals.no-rule}
 use Rattle.model.specs.Refusals.{firstOf, pastBlocks, checkpointRefusal, sendRefusal, forcesPast, forcesOver, deliverRefusal, loseRefusal, lineRefusal}
-use Rattle.model.specs.laws.Refusals.{by-refusal, no-rule}
 use Rattle.whole_runs.specs.Outcomes.{pairs, written, checkpointReport, checkpointOutcome, sendReport, sendOutcome, deliverReport, deliverAnswer, deliverOutcome, loseReport, loseOutcome, lineReport, lineOutcome}
 use Rattle.whole_runs.specs.Calls.{checkpoint, send, deliver, lose, recover, line, earliest, Reply, Answered, answered}
-use Rattle.theory_roles.specs.declared.Caller.{Caller}
-use Rattle.theory_roles.specs.declared.Operation.the-variants.{List as Listing}
+use Rattle.theory_roles.specs.declared.{Caller.Caller, Operation.the-variants.List as Listing}
 use Rattle.theory_roles.specs.Console.{may, owns, entitledBy, entitled, entitledMessageBy, entitledMessage, denied, deniedProcess, deniedMessage, shown, listRefusal, listReport, consoleCheckpoint, consoleSend, consoleDeliver, consoleLose, consoleRecover, consoleLine, consoleEarliest, consoleList, consoleCounts}
 use Rattle.theory_roles.specs.Runs.{Asked, made, list, counts, ConsoleReached, consoleAnswered}
 use Rattle.theory_roles.specs.Isolation.{owner, SameToOwner, ListIsOwn}
-use Rattle.theory_roles.proofs.Isolation.{list-is-own}
+use Rattle.theory_roles.proofs.{Isolation.list-is-own, Alike.Alike, Alike.Fit, Alike.owned-below, Alike.owned-too, Alike.alike-then, Alike.alike-back}
 use Rattle.theory_roles.specs.Learned.{Arrival, arrivalOf, arrives, isThere, room, bound, arrival, there, members, leak}
-use Rattle.theory_roles.proofs.Alike.{Alike, Fit, owned-below, owned-too, alike-then, alike-back}
 use Rattle.theory_roles.proofs.Steps.{checkpoint-alike, send-alike, deliver-alike, lose-other}
+use Rattle.model.specs.declared.CheckpointAnswer.the-variants as checkpoint-answer
+use Rattle.model.specs.declared.SendAnswer.the-variants as send-answer
+use Rattle.model.specs.declared.DeliverAnswer.the-variants as deliver-answer
 
 -- Two calls return the same and leave states that are alike.
 abbrev pub Same : ℕ → Answered → Answered → Type 0

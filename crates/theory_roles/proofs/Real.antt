@@ -1,18 +1,8 @@
 -- Each leak is real: by computation, but for 10 and 16, which take too many calls (Numbers, Bound).
 -- Assumes nothing.
-use mathlib.Core.Path.{_≡_, refl, sym, _∙_, ap}
-use mathlib.Core.Bool.{Bool, true, false}
-use mathlib.Core.List.{List, [], _∷_}
-use mathlib.Core.Option.{none}
-use Prim.Native.Nat.{ℕ}
-use lib.Dec.{eqb}
-use lib.ListN.{getD, replicate}
-use borrow.Author.Tests.{eqb-false}
-use Rattle.laws.specs.Bits.{bitsOf}
-use Rattle.laws.specs.Lists.{select, orElse, lastOf, table, gather, placed}
-use Rattle.laws.specs.Search.{allBelow, anyBelow}
-use Rattle.laws.specs.Sums.{sumBelow}
-use Rattle.laws.specs.Tests.{countBelow, every, some-of}
+use Rattle.laws.specs.Basics.{_≡_, refl, sym, _∙_, ap, Bool, true, false, List, [], _∷_, none, ℕ, eqb, getD, replicate, eqb-false}
+use Rattle.laws.specs.{Bits.bitsOf, Lists.select, Lists.orElse, Lists.lastOf, Lists.table, Lists.gather, Lists.placed, Search.allBelow, Search.anyBelow}
+use Rattle.laws.specs.{Sums.sumBelow, Tests.countBelow, Tests.every, Tests.some-of}
 use Rattle.model.specs.Words.{isPinned, live, blocksOf, blockCount, blank, process, withProcess, own, underWay, withMessages, withDisk}
 use Rattle.model.specs.Steps.{settled, listed, gone, deletions, billed, withProcesses, checkpointZero, started, opening, startState, advanced, storing as stores, checkpointed, checkpointState, checkpointDeletions, sentMessage, marked, sendState, found, others, newer, forces, takenEntry, takenVector, takenPin, takenPins, risen, takenIn, delivered, deliverState, deliverRisen, deliverDeletions, loseState, allowed, states, latestAllowed, member, lineOf, rolledBack, vectorAfter, notLost, ownAfter, latestPin, movedPin, pinAfter, pinsAfter, recovered, lostBy, stillUnderWay, goneAt, deletedAt, recoverState, recoverDeletions, rolledBackCount}
 use Rattle.model.specs.Sound.{countSound, ownSound, within, vectorsSound, ascending, keptSound, pinSound, pinsSound, messageSound, messagesSound, zeroFrom, unusedCheckpoint, unusedMessage, isNothing, nothingFrom, rowUnused, unusedSound, causeSound, isBlockCount, recordSound, keptBlocks, diskSound, sound}
@@ -24,8 +14,7 @@ use Rattle.theory_roles.specs.Runs.{made, list, consoleAnswered, console
 use Rattle.theory_tables.specs.Exam.{deletionList, lineList}
 use Rattle.theory_roles.specs.Learned.{isOwnerBy, isOwner, sees, seen, arrivalOf, arrives, isThere, leak, nothing, room, bound, arrival, there, members, restart, restarts, Exposed, asked, restarted, done, exposes, exposed}
 use Rattle.theory_roles.specs.Real.{full, number as numbers, used, blocks, carried, presence, place, rollback, pins, code, hide, hiddenLeak, hidden, pairOf, begun, Real, EveryLeakIsReal, OthersAreSkipped}
-use Rattle.theory_roles.proofs.Bound.{blocks-real}
-use Rattle.theory_roles.proofs.Numbers.{used-real}
+use Rattle.theory_roles.proofs.{Bound.blocks-real, Numbers.used-real}
 
 -- Two lists of which something differs are not the same.
 differ : (f : List Reply → ℕ) (l m : List Reply) → eqb (f l) (f m) ≡ false → l ≡ m → ⊥

@@ -1,29 +1,14 @@
 -- A recovery or sweep, alike to an owner: what it leaves of a process follows from the process's part, its member's index, and which of its pins then name a checkpoint.
 -- Assumes nothing.
-use mathlib.Core.Path.{_≡_, refl, sym, _∙_, ap}
-use mathlib.Core.Bool.{Bool, true, false, _&&_, not}
-use mathlib.Core.List.{List, []}
-use mathlib.Core.Option.{Option, some}
-use Prim.Native.Nat.{ℕ, _<_}
-use lib.Dec.{eqb, ltb, leb}
-use lib.ListN.{getD}
-use borrow.Author.Tests.{eqb-true}
-use Rattle.laws.specs.Choice.{pick, by-bool}
-use Rattle.laws.specs.Lists.{select, lastOf, table}
-use Rattle.laws.specs.Tables.{getD-table, table-same}
-use Rattle.laws.specs.Truth.{never-both}
-use Rattle.model.specs.declared.Checkpoint.{Checkpoint}
-use Rattle.model.specs.declared.Interval.{Interval}
-use Rattle.model.specs.declared.Pin.{Pin}
-use Rattle.model.specs.declared.Pin.the-variants.{Nothing, At}
-use Rattle.model.specs.declared.Run.{Run}
+use Rattle.laws.specs.Basics.{_≡_, refl, sym, _∙_, ap, Bool, true, false, not, _&&_, List, [], Option, some, ℕ, _<_, eqb, ltb, leb, getD, eqb-true, pick, by-bool}
+use Rattle.laws.specs.{Lists.select, Lists.lastOf, Lists.table, Tables.getD-table, Tables.table-same, Truth.never-both}
+use Rattle.model.specs.declared.{Checkpoint.Checkpoint, Interval.Interval, Pin.Pin, Pin.the-variants.Nothing, Pin.the-variants.At, Run.Run}
 use Rattle.model.specs.Words.{mostProcesses, entry, below, liveIndex, isPinned, Process, process, own, withMessages, withDisk}
 use Rattle.model.specs.Steps.{advanced, states, member, rolledBack, vectorAfter, notLost, ownAfter, latestPin, movedPin, pinAfter, pinsAfter, recovered, recoverState}
 use Rattle.model.specs.Sound.{isNothing}
 use Rattle.model.proofs.simulation.Parts.{process-all, process-messages, process-disk, count-all}
 use Rattle.model.proofs.simulation.Rows.{process-eq}
-use Rattle.theory_roles.specs.Console.{owns}
-use Rattle.theory_roles.specs.Learned.{Restart, restart, restarts}
+use Rattle.theory_roles.specs.{Console.owns, Learned.Restart, Learned.restart, Learned.restarts}
 use Rattle.theory_roles.proofs.Alike.{Alike, Fit, owned-below, owned-too}
 
 not-not : (a b : Bool) → not a ≡ not b → a ≡ b

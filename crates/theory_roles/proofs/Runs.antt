@@ -1,33 +1,23 @@
 -- States that console calls reach are states that the library's calls reach, and the console's history is theirs: demand 3 holds there.
 -- Assumes nothing.
-use mathlib.Core.Path.{_≡_, refl, sym, subst}
-use mathlib.Core.List.{List, [], _∷_, _++_}
-use mathlib.Core.Logic.{_⊎_, inl, inr}
-use mathlib.Core.Option.{none}
-use Prim.Native.Nat.{ℕ}
-use native.Mathlib.Omega.{arith}
-use Rattle.laws.specs.Choice.{by-bool}
+use Rattle.laws.specs.Basics.{_≡_, refl, sym, subst, List, [], _∷_, _++_, none, _⊎_, inl, inr, ℕ, arith, by-bool}
 use Rattle.laws.specs.Loops.{either}
-use Rattle.model.specs.declared.Run.{Run}
-use Rattle.model.specs.declared.Refusal.{Refusal}
-use Rattle.model.specs.declared.StartAnswer.the-variants as start-answer
-use Rattle.model.specs.declared.StartAnswer.the-variants.{Started}
-use Rattle.model.specs.Refusals.{number, startRefusal, lineRefusal}
-use Rattle.model.specs.laws.Refusals.{by-refusal}
+use Rattle.model.specs.declared.{Run.Run, Refusal.Refusal, StartAnswer.the-variants.Started}
+use Rattle.model.specs.{Refusals.number, Refusals.startRefusal, Refusals.lineRefusal, laws.Refusals.by-refusal}
 use Rattle.whole_runs.specs.Outcomes.{startOutcome, lineOutcome, checkpointReport, sendReport, deliverReport, loseReport, lineReport, recoverReport}
 use Rattle.whole_runs.specs.Calls.{Call, checkpoint, send, deliver, lose, recover, line, earliest, Reply, Answered, answered, call, Exchange}
 use Rattle.whole_runs.specs.Survival.{Surviving, beginning, after, survivingFrom, surviving, accepted, listsAfter, restartAfter, sendsAfter, receiverAfter, underwayAfter, keptAfter, handedOut, storedBy, causeWith, countOf, handedBlocks}
 use Rattle.whole_runs.specs.WholeRuns.{Reachable}
 use Rattle.histories.proofs.Run.{Ideal, begun}
 use Rattle.model.proofs.simulation.View.{stateOf}
-use Rattle.whole_runs.proofs.whole.Reached.{Reached, exchange, refusal}
-use Rattle.whole_runs.proofs.whole.Runs.{stepped, unlessRefused}
+use Rattle.whole_runs.proofs.{whole.Reached.Reached, whole.Reached.exchange, whole.Reached.refusal, whole.Runs.stepped, whole.Runs.unlessRefused}
 use Rattle.whole_runs.proofs.whole.BlocksRight.{reached-blocks}
 use Rattle.whole_runs.proofs.WholeRuns.{start-reached, call-reached, reached-line, reached-kept, reached-answer, reachable-start, reachable-call}
 use Rattle.theory_roles.specs.declared.Caller.{Caller}
 use Rattle.theory_roles.specs.declared.Operation.the-variants.{Start, Checkpoint, Send, Deliver, Lose, Recover, Line, Earliest, List as Listing, Counts}
 use Rattle.theory_roles.specs.Console.{denied, deniedProcess, deniedMessage, consoleStart, consoleCheckpoint, consoleSend, consoleDeliver, consoleLose, consoleRecover, consoleLine, consoleEarliest, consoleList, consoleCounts, listRefusal, countsRefusal, shown}
 use Rattle.theory_roles.specs.Runs.{Asked, made, list, counts, ConsoleCall, consoleAnswered, consoleCall, stateAfterConsole, exchanged, consoleTranscript, consoleHistory, ConsoleReached, ConsoleIsReachable, RightOverConsoleRuns}
+use Rattle.model.specs.declared.StartAnswer.the-variants as start-answer
 
 -- What a console call leaves of a state and of the history: both as they were, or what the library's call leaves.
 abbrev Effect : ℕ → Surviving → Run → Call → Answered → Type 0

@@ -1,19 +1,11 @@
 -- An owner's line: its own members, the other places as lent.
 -- Assumes nothing.
-use mathlib.Core.Path.{_≡_, refl, sym, _∙_}
-use mathlib.Core.Bool.{true, false}
-use mathlib.Core.List.{List}
-use Prim.Native.Nat.{ℕ, _<_}
-use lib.Dec.{ltb}
-use lib.ListN.{length, getD, List·getD-eq-default}
-use borrow.Author.Tests.{ltb-true, ltb-false}
-use Rattle.laws.specs.Choice.{by-bool, pick-same}
-use Rattle.laws.specs.Tables.{length-table, getD-table, getD-table-past, table-is}
+use Rattle.laws.specs.Basics.{_≡_, refl, sym, _∙_, true, false, List, ℕ, _<_, ltb, length, getD, ltb-true, ltb-false, by-bool}
+use lib.ListN.{List·getD-eq-default}
+use Rattle.laws.specs.{Choice.pick-same, Tables.length-table, Tables.getD-table, Tables.getD-table-past, Tables.table-is}
 use Rattle.whole_runs.specs.Outcomes.{lineOutcome}
-use Rattle.theory_roles.specs.declared.Caller.{Caller}
-use Rattle.theory_roles.specs.declared.Operation.the-variants.{Line}
-use Rattle.theory_roles.specs.Console.{entitled, denied, shown, consoleLine}
-use Rattle.theory_roles.specs.Shown.{OwnMembersAlone}
+use Rattle.theory_roles.specs.declared.{Caller.Caller, Operation.the-variants.Line}
+use Rattle.theory_roles.specs.{Console.entitled, Console.denied, Console.shown, Console.consoleLine, Shown.OwnMembersAlone}
 
 module _ (c : Caller) (n : ℕ) (lent wrote : List ℕ) where
   pub length-shown : length (shown c n lent wrote) ≡ length lent

@@ -1,12 +1,7 @@
 -- What the step of an accepted call leaves alike to an owner: done alike to one of its processes it keeps two states alike, and done to another's it leaves its own.
 -- Assumes nothing.
-use mathlib.Core.Path.{_≡_, refl, ap, subst}
-use mathlib.Core.Bool.{true, false}
-use mathlib.Core.List.{List}
-use Prim.Native.Nat.{ℕ}
-use Rattle.model.specs.declared.Disk.{Disk}
-use Rattle.model.specs.declared.Message.{Message}
-use Rattle.model.specs.declared.Run.{Run}
+use Rattle.laws.specs.Basics.{_≡_, refl, ap, subst, true, false, List, ℕ}
+use Rattle.model.specs.declared.{Disk.Disk, Message.Message, Run.Run}
 use Rattle.model.specs.Words.{basic, Process, process, withProcess, withMessages, withDisk}
 use Rattle.model.specs.Steps.{settled, checkpointed, checkpointState, marked, sendState, delivered, deliverState, loseState}
 use Rattle.theory_roles.specs.Console.{owns}

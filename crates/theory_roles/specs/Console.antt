@@ -1,43 +1,24 @@
 -- Document 02, Note 13, "A console for shared clusters": who may do what, and the outcome of each console call, by the library's own outcomes.
 -- Assumes nothing.
-use mathlib.Core.Bool.{Bool, true, false, _&&_, not}
-use mathlib.Core.List.{List, [], _∷_}
-use mathlib.Core.Option.{Option, none, some}
-use Prim.Native.Nat.{ℕ}
-use lib.Dec.{ltb}
-use lib.ListN.{length, getD}
-use Rattle.laws.specs.Choice.{pick}
+use Rattle.laws.specs.Basics.{Bool, true, false, not, _&&_, List, [], _∷_, Option, none, some, ℕ, ltb, length, getD, pick}
 use Rattle.laws.specs.Lists.{table, gather}
-use Rattle.model.specs.declared.Run.{Run}
-use Rattle.model.specs.declared.Named.{Named}
-use Rattle.model.specs.declared.Message.{Message}
-use Rattle.model.specs.declared.Refusal.{Refusal}
-use Rattle.model.specs.declared.Refusal.the-variants.{ListTooShort, Denied}
-use Rattle.model.specs.declared.StartAnswer.{StartAnswer}
-use Rattle.model.specs.declared.StartAnswer.the-variants as start-answer
-use Rattle.model.specs.declared.CheckpointAnswer.{CheckpointAnswer}
-use Rattle.model.specs.declared.CheckpointAnswer.the-variants as checkpoint-answer
-use Rattle.model.specs.declared.SendAnswer.{SendAnswer}
-use Rattle.model.specs.declared.SendAnswer.the-variants as send-answer
-use Rattle.model.specs.declared.DeliverAnswer.{DeliverAnswer}
-use Rattle.model.specs.declared.DeliverAnswer.the-variants as deliver-answer
-use Rattle.model.specs.declared.LoseAnswer.{LoseAnswer}
-use Rattle.model.specs.declared.LoseAnswer.the-variants as lose-answer
-use Rattle.model.specs.declared.LineAnswer.{LineAnswer}
-use Rattle.model.specs.declared.LineAnswer.the-variants as line-answer
-use Rattle.model.specs.declared.RecoverAnswer.{RecoverAnswer}
-use Rattle.model.specs.declared.RecoverAnswer.the-variants as recover-answer
-use Rattle.model.specs.Words.{blank, process, inSet}
-use Rattle.model.specs.Steps.{Deletion, listed, found}
+use Rattle.model.specs.declared.{Run.Run, Named.Named, Message.Message, Refusal.Refusal, Refusal.the-variants.ListTooShort, Refusal.the-variants.Denied}
+use Rattle.model.specs.declared.{StartAnswer.StartAnswer, CheckpointAnswer.CheckpointAnswer, SendAnswer.SendAnswer, DeliverAnswer.DeliverAnswer}
+use Rattle.model.specs.declared.{LoseAnswer.LoseAnswer, LineAnswer.LineAnswer, RecoverAnswer.RecoverAnswer}
+use Rattle.model.specs.{Words.blank, Words.process, Words.inSet, Steps.Deletion, Steps.listed, Steps.found}
 use Rattle.model.specs.Refusals.{firstOf, unsound, shortDeletions, shortLine}
 use Rattle.whole_runs.specs.Outcomes.{Outcome, judged, pairs, written, Report, refusing, accepting, startOutcome, checkpointOutcome, sendOutcome, deliverOutcome, loseOutcome, lineOutcome, recoverOutcome}
 use Rattle.whole_runs.specs.Earliest.{earliestOutcome}
-use Rattle.theory_roles.specs.declared.Role.{Role}
-use Rattle.theory_roles.specs.declared.Role.the-variants.{Operator, JobOwner, Viewer}
-use Rattle.theory_roles.specs.declared.Operation.{Operation}
+use Rattle.theory_roles.specs.declared.{Role.Role, Role.the-variants.Operator, Role.the-variants.JobOwner, Role.the-variants.Viewer, Operation.Operation}
 use Rattle.theory_roles.specs.declared.Operation.the-variants.{Start, Checkpoint, Send, Deliver, Lose, Recover, Line, Earliest, List as Listing, Counts}
-use Rattle.theory_roles.specs.declared.Caller.{Caller}
-use Rattle.theory_roles.specs.declared.ListAnswer.{ListAnswer}
+use Rattle.theory_roles.specs.declared.{Caller.Caller, ListAnswer.ListAnswer}
+use Rattle.model.specs.declared.StartAnswer.the-variants as start-answer
+use Rattle.model.specs.declared.CheckpointAnswer.the-variants as checkpoint-answer
+use Rattle.model.specs.declared.SendAnswer.the-variants as send-answer
+use Rattle.model.specs.declared.DeliverAnswer.the-variants as deliver-answer
+use Rattle.model.specs.declared.LoseAnswer.the-variants as lose-answer
+use Rattle.model.specs.declared.LineAnswer.the-variants as line-answer
+use Rattle.model.specs.declared.RecoverAnswer.the-variants as recover-answer
 use Rattle.theory_roles.specs.declared.ListAnswer.the-variants as list-answer
 
 -- "A table of roles and operations says who may do what: an operator everything; a job owner checkpoint, send from, deliver to, lose to and list its own

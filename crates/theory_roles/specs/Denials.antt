@@ -1,14 +1,13 @@
 -- Document 02, Note 13: what is denied, and that 25 comes "before every other". On every state, sound or not, and for all arguments.
 -- Assumes nothing.
-use mathlib.Core.Path.{_≡_}
-use mathlib.Core.Bool.{true, false}
-use mathlib.Core.List.{List, []}
-use mathlib.Core.Option.{none, some}
-use Prim.Native.Nat.{ℕ, _≤_, _<_}
-use Rattle.model.specs.declared.Run.{Run}
-use Rattle.model.specs.declared.Named.{Named}
-use Rattle.model.specs.declared.Message.{Message}
-use Rattle.model.specs.declared.Refusal.the-variants.{Denied}
+use Rattle.laws.specs.Basics.{_≡_, true, false, List, [], none, some, ℕ, _≤_, _<_}
+use Rattle.model.specs.declared.{Run.Run, Named.Named, Message.Message, Refusal.the-variants.Denied}
+use Rattle.model.specs.{Words.blank, Words.inSet, Steps.found}
+use Rattle.whole_runs.specs.Outcomes.{Outcome}
+use Rattle.theory_roles.specs.declared.{Role.the-variants.Operator, Operation.Operation, Caller.Caller}
+use Rattle.theory_roles.specs.declared.Operation.the-variants.{Start, Checkpoint, Send, Deliver, Lose, Recover, Line, Earliest, List as Listing, Counts}
+use Rattle.theory_roles.specs.Console.{denied, deniedProcess, deniedMessage, consoleStart, consoleCheckpoint, consoleSend, consoleDeliver, consoleLose, consoleRecover, consoleLine, consoleEarliest, consoleList, consoleCounts}
+use Rattle.theory_roles.specs.Isolation.{owner}
 use Rattle.model.specs.declared.StartAnswer.the-variants as start-answer
 use Rattle.model.specs.declared.CheckpointAnswer.the-variants as checkpoint-answer
 use Rattle.model.specs.declared.SendAnswer.the-variants as send-answer
@@ -16,16 +15,7 @@ use Rattle.model.specs.declared.DeliverAnswer.the-variants as deliver-answer
 use Rattle.model.specs.declared.LoseAnswer.the-variants as lose-answer
 use Rattle.model.specs.declared.LineAnswer.the-variants as line-answer
 use Rattle.model.specs.declared.RecoverAnswer.the-variants as recover-answer
-use Rattle.model.specs.Words.{blank, inSet}
-use Rattle.model.specs.Steps.{found}
-use Rattle.whole_runs.specs.Outcomes.{Outcome}
-use Rattle.theory_roles.specs.declared.Role.the-variants.{Operator}
-use Rattle.theory_roles.specs.declared.Operation.{Operation}
-use Rattle.theory_roles.specs.declared.Operation.the-variants.{Start, Checkpoint, Send, Deliver, Lose, Recover, Line, Earliest, List as Listing, Counts}
-use Rattle.theory_roles.specs.declared.Caller.{Caller}
 use Rattle.theory_roles.specs.declared.ListAnswer.the-variants as list-answer
-use Rattle.theory_roles.specs.Console.{denied, deniedProcess, deniedMessage, consoleStart, consoleCheckpoint, consoleSend, consoleDeliver, consoleLose, consoleRecover, consoleLine, consoleEarliest, consoleList, consoleCounts}
-use Rattle.theory_roles.specs.Isolation.{owner}
 
 -- "To an owner, a process not its own (a send's receiver and a failed set aside) and a message not under way to its own processes count as denied", and nothing
 -- more of what the table lets it do; "whose bits at n or above count for nothing".

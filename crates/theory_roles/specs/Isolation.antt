@@ -1,27 +1,17 @@
 -- Document 02, Note 13: on what of a run the answers to an owner depend. "these and line members are the named leaks".
 -- Assumes nothing.
-use mathlib.Core.Path.{_≡_}
-use mathlib.Core.Bool.{true}
-use mathlib.Core.List.{List}
-use Prim.Native.Nat.{ℕ, _^_}
-use lib.Dec.{ltb, leb}
-use lib.ListN.{length}
-use Rattle.laws.specs.Choice.{pick}
-use Rattle.model.specs.declared.Run.{Run}
+use Rattle.laws.specs.Basics.{_≡_, true, List, ℕ, _^_, ltb, leb, length, pick}
+use Rattle.model.specs.declared.{Run.Run, LineAnswer.LineAnswer}
 use Rattle.model.specs.declared.Refusal.the-variants.{UnsoundState, ListTooShort, NoSuchFailedProcess, TooManyUnderWay, MessageNumbersUsed, BlocksUsed}
+use Rattle.model.specs.{Words.process, Steps.found, Sound.sound}
+use Rattle.whole_runs.specs.Outcomes.{sendReport}
+use Rattle.theory_roles.specs.declared.{Role.the-variants.JobOwner, Caller.Caller}
+use Rattle.theory_roles.specs.Console.{owns, consoleCheckpoint, consoleSend, consoleDeliver, consoleLose, consoleLine, consoleList}
+use Rattle.theory_roles.specs.Runs.{ConsoleReached}
 use Rattle.model.specs.declared.CheckpointAnswer.the-variants as checkpoint-answer
 use Rattle.model.specs.declared.SendAnswer.the-variants as send-answer
 use Rattle.model.specs.declared.DeliverAnswer.the-variants as deliver-answer
-use Rattle.model.specs.declared.LineAnswer.{LineAnswer}
 use Rattle.model.specs.declared.LineAnswer.the-variants as line-answer
-use Rattle.model.specs.Words.{process}
-use Rattle.model.specs.Steps.{found}
-use Rattle.model.specs.Sound.{sound}
-use Rattle.whole_runs.specs.Outcomes.{sendReport}
-use Rattle.theory_roles.specs.declared.Role.the-variants.{JobOwner}
-use Rattle.theory_roles.specs.declared.Caller.{Caller}
-use Rattle.theory_roles.specs.Console.{owns, consoleCheckpoint, consoleSend, consoleDeliver, consoleLose, consoleLine, consoleList}
-use Rattle.theory_roles.specs.Runs.{ConsoleReached}
 
 abbrev pub owner : ℕ → Caller
 owner owned = record { role = JobOwner; owned = owned }

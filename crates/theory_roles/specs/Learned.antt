@@ -1,31 +1,15 @@
 -- What an owner can learn of others over lists of console calls: nothing but the named leaks (document 02, Note 13). This file is the whole statement; the
 -- console's calls are those of roles/specs, and `LearnsNoMore` at the end is proved in proofs/Learned.
 -- Assumes nothing.
-use mathlib.Core.Path.{_≡_}
-use mathlib.Core.Bool.{Bool, true, false, _&&_, _||_, not}
-use mathlib.Core.List.{List, [], _∷_, _++_, map}
-use mathlib.Core.Option.{Option, none, some}
-use Prim.Native.Nat.{ℕ}
-use lib.Dec.{eqb, leb}
-use lib.ListN.{getD}
-use Rattle.laws.specs.Choice.{pick}
-use Rattle.laws.specs.Lists.{table}
-use Rattle.laws.specs.Search.{allBelow}
-use Rattle.model.specs.declared.Interval.{Interval}
-use Rattle.model.specs.declared.Message.{Message}
-use Rattle.model.specs.declared.Run.{Run}
-use Rattle.model.specs.declared.StartAnswer.the-variants.{Started}
-use Rattle.model.specs.Words.{mostProcesses, mostUnderWay, inSet}
-use Rattle.model.specs.Steps.{found, member, pinAfter}
-use Rattle.model.specs.Sound.{isNothing}
+use Rattle.laws.specs.Basics.{_≡_, Bool, true, false, not, _&&_, _||_, List, [], _∷_, _++_, map, Option, none, some, ℕ, eqb, leb, getD, pick}
+use Rattle.laws.specs.{Lists.table, Search.allBelow}
+use Rattle.model.specs.declared.{Interval.Interval, Message.Message, Run.Run, StartAnswer.the-variants.Started}
+use Rattle.model.specs.{Words.mostProcesses, Words.mostUnderWay, Words.inSet, Steps.found, Steps.member, Steps.pinAfter, Sound.isNothing}
 use Rattle.model.specs.Refusals.{pastBlocks, forcesOver}
 use Rattle.whole_runs.specs.Calls.{checkpoint, send, deliver, lose, recover, line, earliest, Reply}
-use Rattle.theory_roles.specs.declared.Role.{Role}
-use Rattle.theory_roles.specs.declared.Role.the-variants.{Operator, JobOwner, Viewer}
-use Rattle.theory_roles.specs.declared.Caller.{Caller}
-use Rattle.theory_roles.specs.Console.{owns, entitledMessage, consoleStart}
+use Rattle.theory_roles.specs.declared.{Role.Role, Role.the-variants.Operator, Role.the-variants.JobOwner, Role.the-variants.Viewer, Caller.Caller}
+use Rattle.theory_roles.specs.{Console.owns, Console.entitledMessage, Console.consoleStart, Isolation.owner}
 use Rattle.theory_roles.specs.Runs.{Asked, made, list, counts, ConsoleCall, consoleCall}
-use Rattle.theory_roles.specs.Isolation.{owner}
 
 -- THE OWNER of a set of processes: every job owner whose processes are all among them. So several owners who tell each other what they see are one, with the union
 -- of their sets; a caller with a further process is another.

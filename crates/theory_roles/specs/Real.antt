@@ -1,22 +1,12 @@
 -- Each leak is real: for each, two lists of console calls by a tenant and its neighbours that expose the same to the tenant but for this one leak, and of which it sees
 -- different answers. So no leak could be left out of `exposed`. `EveryLeakIsReal` is proved in proofs/Real.
 -- Assumes nothing.
-use mathlib.Core.Path.{_≡_}
-use mathlib.Core.Bool.{false}
-use mathlib.Core.List.{List, [], _∷_, _++_, map}
-use Prim.Native.Nat.{ℕ, zero, suc}
-use lib.Dec.{eqb}
-use lib.ListN.{replicate}
-use Rattle.laws.specs.Choice.{pick}
-use Rattle.model.specs.declared.Run.{Run}
-use Rattle.model.specs.declared.StartAnswer.the-variants.{Started}
+use Rattle.laws.specs.Basics.{_≡_, false, List, [], _∷_, _++_, map, ℕ, zero, suc, eqb, replicate, pick}
+use Rattle.model.specs.declared.{Run.Run, StartAnswer.the-variants.Started}
 use Rattle.model.specs.Words.{ones}
 use Rattle.whole_runs.specs.Calls.{Call, checkpoint, send, deliver, lose, recover, line}
 use Rattle.theory_tables.specs.Exam.{deletionList, lineList}
-use Rattle.theory_roles.specs.Console.{consoleStart}
-use Rattle.theory_roles.specs.Isolation.{owner}
-use Rattle.theory_roles.specs.Runs.{made, list, ConsoleCall}
-use Rattle.theory_roles.specs.Table.{operator}
+use Rattle.theory_roles.specs.{Console.consoleStart, Isolation.owner, Runs.made, Runs.list, Runs.ConsoleCall, Table.operator}
 use Rattle.theory_roles.specs.Learned.{Leak, nothing, room, bound, arrival, there, members, Exposed, asked, stored, sent, took, restarted, exposed, seen}
 
 -- The leaks, by what they tell. The number of a send and 10 are told by one value, the last number used.

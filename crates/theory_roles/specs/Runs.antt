@@ -1,15 +1,11 @@
 -- Document 02, Note 13: "The console works on states reached by its own calls." Lists of console calls, the surviving history of one, and what is claimed of
 -- the states that they reach.
 -- Assumes nothing.
-use mathlib.Core.Path.{_≡_}
-use mathlib.Core.List.{List, [], _∷_, _++_}
-use Prim.Native.Nat.{ℕ, _^_, _<_}
-use Rattle.model.specs.declared.Run.{Run}
-use Rattle.model.specs.declared.StartAnswer.the-variants.{Started}
+use Rattle.laws.specs.Basics.{_≡_, List, [], _∷_, _++_, ℕ, _^_, _<_}
+use Rattle.model.specs.declared.{Run.Run, StartAnswer.the-variants.Started}
 use Rattle.whole_runs.specs.Outcomes.{checkpointReport, sendReport, deliverReport, loseReport, lineReport, recoverReport}
 use Rattle.whole_runs.specs.Calls.{Call, checkpoint, send, deliver, lose, recover, line, earliest, Answered, answered, call, Exchange}
-use Rattle.whole_runs.specs.Survival.{Surviving, surviving}
-use Rattle.whole_runs.specs.Answers.{AnswerIsRight}
+use Rattle.whole_runs.specs.{Survival.Surviving, Survival.surviving, Answers.AnswerIsRight}
 use Rattle.whole_runs.specs.WholeRuns.{KeptIsRight, BlocksAreRight, LineIsRight, Reachable}
 use Rattle.theory_roles.specs.declared.Caller.{Caller}
 use Rattle.theory_roles.specs.Console.{consoleStart, consoleCheckpoint, consoleSend, consoleDeliver, consoleLose, consoleRecover, consoleLine, consoleEarliest, consoleList, consoleCounts, listReport}

@@ -1,26 +1,14 @@
 -- Document 02, Note 13: what a list, the counts and a line show, by the history and by the library's line.
 -- Assumes nothing.
-use mathlib.Core.Path.{_≡_}
-use mathlib.Core.Bool.{true, false}
-use mathlib.Core.List.{List, [], _∷_}
-use Prim.Native.Nat.{ℕ, _*_, _≤_, _<_}
-use lib.ListN.{length, getD}
-use Rattle.laws.specs.Choice.{pick}
-use Rattle.laws.specs.Lists.{table, gather}
-use Rattle.laws.specs.Sums.{sumBelow}
-use Rattle.laws.specs.Tests.{countBelow}
-use Rattle.model.specs.declared.Run.{Run}
-use Rattle.model.specs.declared.Refusal.the-variants.{ListTooShort}
-use Rattle.model.specs.declared.StartAnswer.the-variants.{Started}
-use Rattle.model.specs.declared.LineAnswer.the-variants as line-answer
-use Rattle.whole_runs.specs.Outcomes.{lineOutcome}
-use Rattle.whole_runs.specs.Survival.{Surviving}
-use Rattle.whole_runs.specs.Answers.{liveOf, atFront}
-use Rattle.theory_roles.specs.declared.Operation.the-variants.{Line, List as Listing, Counts}
-use Rattle.theory_roles.specs.declared.Caller.{Caller}
-use Rattle.theory_roles.specs.declared.ListAnswer.the-variants as list-answer
+use Rattle.laws.specs.Basics.{_≡_, true, false, List, [], _∷_, ℕ, _*_, _≤_, _<_, length, getD, pick}
+use Rattle.laws.specs.{Lists.table, Lists.gather, Sums.sumBelow, Tests.countBelow}
+use Rattle.model.specs.declared.{Run.Run, Refusal.the-variants.ListTooShort, StartAnswer.the-variants.Started}
+use Rattle.whole_runs.specs.{Outcomes.lineOutcome, Survival.Surviving, Answers.liveOf, Answers.atFront}
+use Rattle.theory_roles.specs.declared.{Operation.the-variants.Line, Operation.the-variants.List as Listing, Operation.the-variants.Counts, Caller.Caller}
 use Rattle.theory_roles.specs.Console.{entitled, denied, consoleStart, consoleLine, consoleList, consoleCounts}
 use Rattle.theory_roles.specs.Runs.{ConsoleCall, stateAfterConsole, consoleHistory}
+use Rattle.model.specs.declared.LineAnswer.the-variants as line-answer
+use Rattle.theory_roles.specs.declared.ListAnswer.the-variants as list-answer
 
 -- By the history: how many checkpoints p keeps, and the pairs of all that the caller may see, "written as deletions are": by process, then index, ascending.
 unfoldable pub keptNumber : Surviving → ℕ → ℕ

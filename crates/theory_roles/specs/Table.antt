@@ -1,24 +1,15 @@
 -- Note 13: a table of console calls, each with the number that it meets, 0 if it is accepted, and what it shows; and the named leaks, each by two runs that differ in
 -- what others did. proofs/Table has the theorem.
 -- Assumes nothing.
-use mathlib.Core.Bool.{Bool, _&&_}
-use mathlib.Core.List.{List, [], _∷_}
-use Prim.Native.Nat.{ℕ}
-use lib.Dec.{eqb}
-use lib.ListN.{length, take, drop, replicate}
+use Rattle.laws.specs.Basics.{Bool, _&&_, List, [], _∷_, ℕ, eqb, length, take, drop, replicate}
 use Rattle.laws.specs.Tests.{every, same}
 use Rattle.model.specs.declared.Run.{Run}
-use Rattle.model.specs.Words.{ones, blank}
-use Rattle.model.specs.Steps.{startState}
+use Rattle.model.specs.{Words.ones, Words.blank, Steps.startState}
 use Rattle.whole_runs.specs.Outcomes.{startReport}
 use Rattle.whole_runs.specs.Calls.{Call, checkpoint, send, deliver, lose, recover, line, earliest, stateAfter}
-use Rattle.theory_tables.specs.EarliestExam.{at}
-use Rattle.theory_tables.specs.Exam.{optional, deletionList, lineList}
-use Rattle.theory_roles.specs.declared.Role.the-variants.{Operator, Viewer}
-use Rattle.theory_roles.specs.declared.Caller.{Caller}
-use Rattle.theory_roles.specs.Console.{consoleStart}
-use Rattle.theory_roles.specs.Runs.{Asked, made, list, counts, consoleAnswered}
-use Rattle.theory_roles.specs.Isolation.{owner}
+use Rattle.theory_tables.specs.{EarliestExam.at, Exam.optional, Exam.deletionList, Exam.lineList}
+use Rattle.theory_roles.specs.declared.{Role.the-variants.Operator, Role.the-variants.Viewer, Caller.Caller}
+use Rattle.theory_roles.specs.{Console.consoleStart, Runs.Asked, Runs.made, Runs.list, Runs.counts, Runs.consoleAnswered, Isolation.owner}
 
 abbrev pub operator : Caller
 operator = record { role = Operator; owned = 0 }

@@ -1,12 +1,8 @@
 -- The exam table: cases 1 to 9 hold of the definitions, and the example trace gives the listing that document 01 prints, both ways. The disks of Note 5, step by
 -- step. The table of the numbers, and Note 8's. All by computation.
 -- Assumes nothing.
-use mathlib.Core.Path.{_≡_, refl}
-use mathlib.Core.Bool.{true, false, _&&_}
-use Rattle.laws.specs.Bits.{bitsOf}
-use Rattle.laws.specs.Lists.{select, lastOf, table, gather, placed}
-use Rattle.laws.specs.Search.{allBelow, anyBelow}
-use Rattle.laws.specs.Sums.{sumBelow}
+use Rattle.laws.specs.Basics.{_≡_, refl, true, false, _&&_}
+use Rattle.laws.specs.{Bits.bitsOf, Lists.select, Lists.lastOf, Lists.table, Lists.gather, Lists.placed, Search.allBelow, Search.anyBelow, Sums.sumBelow}
 use Rattle.laws.specs.Tests.{countBelow, every, some-of, same}
 use Rattle.model.specs.Words.{isPinned, live, blocksOf, blockCount, blank, process, withProcess, own, underWay, withMessages, withDisk}
 use Rattle.model.specs.Steps.{settled, listed, gone, deletions, billed, withProcesses, checkpointZero, started, opening, startState, advanced, storing, checkpointed, checkpointState, checkpointDeletions, sentMessage, marked, sendState, found, others, newer, forces, takenEntry, takenVector, takenPin, takenPins, risen, takenIn, delivered, deliverState, deliverRisen, deliverDeletions, loseState, allowed, states, latestAllowed, member, lineOf, rolledBack, vectorAfter, notLost, ownAfter, latestPin, movedPin, pinAfter, pinsAfter, recovered, lostBy, stillUnderWay, goneAt, deletedAt, recoverState, recoverDeletions, rolledBackCount}

@@ -1,15 +1,10 @@
 -- Note 8: a table of lists of named checkpoints on one state of three processes: the number that the call meets, 0 if it is accepted, and the line list after it.
 -- proofs/Exam has the theorem.
 -- Assumes nothing.
-use mathlib.Core.Bool.{Bool, _&&_}
-use mathlib.Core.List.{List, [], _∷_}
-use Prim.Native.Nat.{ℕ}
-use lib.Dec.{eqb}
+use Rattle.laws.specs.Basics.{Bool, _&&_, List, [], _∷_, ℕ, eqb}
 use Rattle.laws.specs.Tests.{every, same}
-use Rattle.model.specs.declared.Named.{Named}
-use Rattle.model.specs.declared.Run.{Run}
-use Rattle.model.specs.Words.{ones}
-use Rattle.model.specs.Steps.{startState}
+use Rattle.model.specs.declared.{Named.Named, Run.Run}
+use Rattle.model.specs.{Words.ones, Steps.startState}
 use Rattle.whole_runs.specs.Calls.{checkpoint, send, deliver, earliest, call, stateAfter}
 use Rattle.theory_tables.specs.Exam.{deletionList, lineList}
 

@@ -1,17 +1,8 @@
 -- Document 01, "Exam sheet": the cases that P marks, as data, and the tests that compare them with the definitions. proofs/Exam has the theorem.
 -- Assumes nothing.
-use mathlib.Core.Bool.{Bool, true, false, _&&_}
-use mathlib.Core.List.{List, [], _∷_, _++_, map}
-use mathlib.Core.Option.{Option, none, some}
-use Prim.Native.Nat.{ℕ, suc, _*_}
-use lib.Dec.{eqb}
-use lib.ListN.{length, getD, replicate, take, drop}
-use Rattle.laws.specs.Lists.{table}
-use Rattle.laws.specs.Tests.{every, same}
-use Rattle.model.specs.declared.Pin.{Pin}
-use Rattle.model.specs.declared.Pin.the-variants.{Nothing, At}
-use Rattle.model.specs.declared.Checkpoint.{Checkpoint}
-use Rattle.model.specs.declared.Run.{Run}
+use Rattle.laws.specs.Basics.{Bool, true, false, _&&_, List, [], _∷_, _++_, map, Option, none, some, ℕ, suc, _*_, eqb, length, getD, take, drop, replicate}
+use Rattle.laws.specs.{Lists.table, Tests.every, Tests.same}
+use Rattle.model.specs.declared.{Pin.Pin, Pin.the-variants.Nothing, Pin.the-variants.At, Checkpoint.Checkpoint, Run.Run}
 use Rattle.model.specs.Words.{ones, entry, process}
 use Rattle.whole_runs.specs.Outcomes.{startOutcome}
 use Rattle.whole_runs.specs.Calls.{Call, checkpoint, send, deliver, recover, line, Reply, Exchange, call, stateAfter, transcript}

@@ -2,22 +2,13 @@
 -- limit that does not. What a refused start returns, and under which record number 13 prints. Note 11 of document 02: what is printed where a replay
 -- stops, and which words ask for all. proofs/Exam has the theorem.
 -- Assumes nothing.
-use mathlib.Core.Bool.{Bool, true, false, _&&_, not}
-use mathlib.Core.List.{List, [], _∷_}
-use Prim.Native.Nat.{ℕ, _-_}
-use lib.Dec.{eqb}
-use lib.ListN.{length, replicate, set}
-use Rattle.laws.specs.Choice.{pick}
+use Rattle.laws.specs.Basics.{Bool, true, false, not, _&&_, List, [], _∷_, ℕ, _-_, eqb, length, set, replicate, pick}
 use Rattle.laws.specs.Tests.{every, same}
-use Rattle.model.specs.declared.Interval.{Interval}
-use Rattle.model.specs.declared.Pin.the-variants.{At}
-use Rattle.model.specs.declared.Run.{Run}
+use Rattle.model.specs.declared.{Interval.Interval, Pin.the-variants.At, Run.Run}
 use Rattle.model.specs.Words.{mostProcesses, mostUnderWay, initial, basic, ones, zeroVector, noPins, blank, withProcess, withMessages, withDisk}
-use Rattle.model.specs.Steps.{startState}
-use Rattle.model.specs.Sound.{zeroFrom, nothingFrom, unusedCheckpoint, unusedMessage}
-use Rattle.whole_runs.specs.Outcomes.{startOutcome, startReport}
+use Rattle.model.specs.{Steps.startState, Sound.zeroFrom, Sound.nothingFrom, Sound.unusedCheckpoint, Sound.unusedMessage}
+use Rattle.whole_runs.specs.{Outcomes.startOutcome, Outcomes.startReport, Listing.asksForAll, Listing.listing}
 use Rattle.whole_runs.specs.Calls.{Call, checkpoint, send, deliver, lose, recover, line, call, stateAfter}
-use Rattle.whole_runs.specs.Listing.{asksForAll, listing}
 use Rattle.theory_tables.specs.Exam.{deletionList, lineList}
 
 -- A count and block counts, and the number that a start with them meets; 0: accepted.

@@ -1,19 +1,11 @@
 -- What the functions of this crate answer, in the words of the model: the part of a trace that a record is, the event that a part stands
 -- for, and the record of an event.
 -- Assumes nothing.
-use mathlib.Core.List.{List, []}
-use mathlib.Core.Option.{Option, none, some}
-use Prim.Native.Nat.{ℕ, _+_}
-use lib.Dec.{eqb, leb}
-use lib.ListN.{length, take, drop, replicate}
-use Rattle.laws.specs.Choice.{pick}
+use Rattle.laws.specs.Basics.{List, [], Option, none, some, ℕ, _+_, eqb, leb, length, take, drop, replicate, pick}
 use Rattle.laws.specs.Lists.{orElse}
-use Rattle.model.specs.declared.Event.{Event}
-use Rattle.model.specs.declared.Fields.{Fields}
+use Rattle.model.specs.declared.{Event.Event, Fields.Fields}
 use Rattle.model.specs.Trace.{fields, decoded, fits, encoded}
-use Rattle.trace.specs.declared.Decoded.{Decoded}
-use Rattle.trace.specs.declared.Decoded.the-variants.{Malformed, StandsFor}
-use Rattle.trace.specs.declared.Encoded.{Encoded}
+use Rattle.trace.specs.declared.{Decoded.Decoded, Decoded.the-variants.Malformed, Decoded.the-variants.StandsFor, Encoded.Encoded}
 
 -- The four bytes of a trace from a place on; nothing if fewer are left.
 unfoldable pub recordAt : List ℕ → ℕ → List ℕ

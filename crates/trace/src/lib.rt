@@ -2,9 +2,7 @@
 use model::Event;
 use model::Fields;
 use model::PROCESSES;
-ghost use mathlib.Core.Path.{_≡_};
-ghost use Prim.Native.Nat.{_≤_, _<_};
-ghost use lib.ListN.{length};
+ghost use Rattle.laws.specs.Basics.{_≡_, _≤_, _<_, length};
 ghost use Rattle.model.specs.Trace.{word, fields, ifZero, eventOf, fieldsOf, wordOf, bytesOf};
 ghost use Rattle.trace.specs.Answers.{recordAt, fieldsRead, eventIn, eventRead, recordOf};
 

@@ -1,7 +1,7 @@
 // A reader of a trace: "A reader of a trace carries the lent trace together with the count of records taken. It hands a record on as the part
 // of the trace with its four bytes, not as a copy." The prover covers no function over a struct that holds a reference, so the functions over
 // `Reader` are thin, over covered ones with plain parameters, and each is proved by hand. Every trace and every count will do.
-ghost use mathlib.Core.Path.{_≡_};
+ghost use Rattle.laws.specs.Basics.{_≡_};
 ghost use Rattle.trace.specs.reader.Reading.{recordAfter, recordLeft, takenAfter, newReader, readerAfter};
 
 // The whole trace, first byte included, and how many of its records were taken.

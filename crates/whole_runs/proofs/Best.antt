@@ -1,28 +1,15 @@
 -- The best line for a failed set: there is one only, the reported line is it, and what is in it is kept.
 -- Assumes nothing.
-use mathlib.Core.Path.{_≡_, sym, _∙_, ap}
-use mathlib.Core.Bool.{true}
-use mathlib.Core.Logic.{inl, inr}
-use Prim.Native.Nat.{ℕ, suc, _^_, _≤_, _<_}
-use native.Mathlib.Omega.{arith}
-use Rattle.laws.specs.Bits.{pow-less, bit-one, bit-alone}
-use Rattle.laws.specs.Tables.{getD-table}
-use Rattle.laws.specs.Truth.{never-both}
+use Rattle.laws.specs.Basics.{_≡_, sym, _∙_, ap, true, inl, inr, ℕ, suc, _^_, _≤_, _<_, arith}
+use Rattle.laws.specs.{Bits.pow-less, Bits.bit-one, Bits.bit-alone, Tables.getD-table, Truth.never-both}
 use Rattle.model.specs.declared.Run.{Run}
 use Rattle.model.specs.Words.{failed}
 use Rattle.histories.specs.History.{Lists, Line, checkpoints}
-use Rattle.whole_runs.specs.Outcomes.{startOutcome}
-use Rattle.whole_runs.specs.Calls.{stateAfter, transcript}
-use Rattle.whole_runs.specs.Survival.{Surviving, surviving}
-use Rattle.whole_runs.specs.Best.{Best, InBestLine, OneBestLine}
-use Rattle.whole_runs.specs.Answers.{RightLine}
-use Rattle.whole_runs.specs.WholeRuns.{reported, RightOverWholeRuns}
-use Rattle.whole_runs.specs.Clean.{ReportedIsBest}
-use Rattle.histories.proofs.Run.{Ideal, line}
-use Rattle.histories.proofs.Line.{line-at}
+use Rattle.whole_runs.specs.{Outcomes.startOutcome, Calls.stateAfter, Calls.transcript, Survival.Surviving, Survival.surviving, Answers.RightLine}
+use Rattle.whole_runs.specs.{Best.Best, Best.InBestLine, Best.OneBestLine, WholeRuns.reported, WholeRuns.RightOverWholeRuns, Clean.ReportedIsBest}
+use Rattle.histories.proofs.{Run.Ideal, Run.line, Line.line-at}
 use Rattle.model.proofs.simulation.Lines.{line-is}
-use Rattle.whole_runs.proofs.whole.Reached.{Reached}
-use Rattle.whole_runs.proofs.WholeRuns.{right-over-whole-runs, reached-line}
+use Rattle.whole_runs.proofs.{whole.Reached.Reached, WholeRuns.right-over-whole-runs, WholeRuns.reached-line}
 
 -- Two best lines are nowhere later than each other.
 pub one-best-line : OneBestLine

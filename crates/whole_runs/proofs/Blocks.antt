@@ -1,16 +1,9 @@
 -- Replaying block by block prints what replaying the whole prints. A block is a whole number of records; where the limit of records falls
 -- inside a block, its later records and all that follows print nothing. Where the replay stops at a record, nothing after it is printed.
 -- Assumes nothing.
-use mathlib.Core.Path.{_≡_, refl, sym, _∙_, ap}
-use mathlib.Core.Bool.{Bool, true, _&&_}
-use mathlib.Core.List.{List, [], _∷_, _++_, append-nil, append-assoc}
-use Prim.Native.Nat.{ℕ, zero, suc, _+_, _*_, _≤_, _<_}
-use native.Mathlib.Omega.{arith}
-use lib.Dec.{ltb}
-use lib.ListN.{length, take, drop, length-drop}
-use lib.Seq.{length-take-le, take-add}
-use borrow.Author.Tests.{lt-ltb, le-ltb, ltb-false}
-use Rattle.laws.specs.Choice.{pick, pick-same, by-bool}
+use Rattle.laws.specs.Basics.{_≡_, refl, sym, _∙_, ap, Bool, true, _&&_, List, [], _∷_, _++_, append-nil, append-assoc, ℕ, zero, suc, _+_, _*_, _≤_, _<_, arith, ltb, length, take, drop, length-drop, length-take-le, lt-ltb, le-ltb, ltb-false, pick, by-bool}
+use lib.Seq.{take-add}
+use Rattle.laws.specs.Choice.{pick-same}
 use Rattle.model.specs.declared.Run.{Run}
 use Rattle.model.specs.Trace.{decoded}
 use Rattle.whole_runs.specs.Listing.{perform, lineText, mostRecords, goesOn, records, goesOnAfterAll, stateAfterRecords}

@@ -1,28 +1,16 @@
 -- Note 6, proved: straight after an accepted recovery or sweep a checkpoint is kept exactly if some failure would use it.
 -- Assumes nothing.
-use mathlib.Core.Path.{_≡_, refl, sym, _∙_}
-use mathlib.Core.List.{List, [], _∷_, _++_}
-use mathlib.Core.Option.{none}
-use Prim.Native.Nat.{ℕ, _^_, _<_}
-use native.Mathlib.Omega.{arith}
+use Rattle.laws.specs.Basics.{_≡_, refl, sym, _∙_, List, [], _∷_, _++_, none, ℕ, _^_, _<_, arith}
 use lib.Pow.{pow-pos}
 use Rattle.laws.specs.Bits.{pow-less}
 use Rattle.model.specs.declared.Run.{Run}
-use Rattle.model.specs.Words.{failed}
-use Rattle.model.specs.Refusals.{recoverRefusal}
-use Rattle.whole_runs.specs.Outcomes.{startOutcome, recoverOutcome}
-use Rattle.whole_runs.specs.Calls.{Call, recover, call, stateAfter, transcript}
-use Rattle.whole_runs.specs.Survival.{Surviving, beginning, after, survivingFrom, surviving}
-use Rattle.whole_runs.specs.WholeRuns.{StatePromise}
+use Rattle.model.specs.{Words.failed, Refusals.recoverRefusal}
+use Rattle.whole_runs.specs.{Outcomes.startOutcome, Outcomes.recoverOutcome, Calls.Call, Calls.recover, Calls.call, Calls.stateAfter, Calls.transcript}
+use Rattle.whole_runs.specs.{Survival.Surviving, Survival.beginning, Survival.after, Survival.survivingFrom, Survival.surviving, WholeRuns.StatePromise}
 use Rattle.whole_runs.specs.Clean.{OnlyNeededKept, CleanAfterRecovery, CleanPromise}
-use Rattle.histories.proofs.Run.{Ideal, begun, recovered}
-use Rattle.histories.proofs.Invariant.{Inv}
-use Rattle.histories.proofs.Rule.{keeps-out}
-use Rattle.histories.proofs.Recovered.{recovered-current}
-use Rattle.whole_runs.proofs.whole.Reached.{Reached, exchange, refusal}
-use Rattle.whole_runs.proofs.whole.Runs.{stepped, runAfter}
-use Rattle.whole_runs.proofs.WholeRuns.{accepted-reached, reachable-reached, recover-promise}
-use Rattle.whole_runs.proofs.Best.{in-best-line, best-kept}
+use Rattle.histories.proofs.{Run.Ideal, Run.begun, Run.recovered, Invariant.Inv, Rule.keeps-out, Recovered.recovered-current}
+use Rattle.whole_runs.proofs.{whole.Reached.Reached, whole.Reached.exchange, whole.Reached.refusal, whole.Runs.stepped, whole.Runs.runAfter}
+use Rattle.whole_runs.proofs.{WholeRuns.accepted-reached, WholeRuns.reachable-reached, WholeRuns.recover-promise, Best.in-best-line, Best.best-kept}
 
 -- A pin that a recovery leaves, of p for f, is of f's current interval: the checkpoint that it names is in the best line for the failure of f alone.
 clean : (n : ℕ) (s : Run) (h : Surviving) (r : Ideal) (F : ℕ) → Inv r → Reached n s h (recovered r (failed F)) → OnlyNeededKept n (h .lists) (h .kept)

@@ -1,39 +1,19 @@
 -- How large the numbers of a reply can be, whatever the state: a call that is refused reports no value and no deletion, and one that is accepted
 -- found the state sound and the limits kept. The length of a printed line rests on this.
 -- Assumes nothing.
-use mathlib.Core.Path.{_≡_}
-use mathlib.Core.Bool.{Bool, true, _&&_, not}
-use mathlib.Core.List.{List, [], _∷_}
-use mathlib.Core.Option.{Option, none, some}
-use Prim.Native.Nat.{ℕ, _+_, _≤_, _<_}
-use native.Mathlib.Omega.{arith}
-use lib.Dec.{leb, eqb}
-use lib.ListN.{length, getD, length-append, length-map, length-take}
-use Rattle.laws.specs.Choice.{by-bool}
-use Rattle.laws.specs.Counting.{count-le}
-use Rattle.laws.specs.Lists.{select, orElse, lastOf}
-use Rattle.laws.specs.Prefixes.{every-select, every-last}
-use Rattle.laws.specs.Select.{select-length}
-use Rattle.laws.specs.Tests.{every}
-use Rattle.laws.specs.Truth.{and-left, and-right}
-use Rattle.model.specs.declared.Interval.{Interval}
-use Rattle.model.specs.declared.Checkpoint.{Checkpoint}
-use Rattle.model.specs.declared.Message.{Message}
-use Rattle.model.specs.declared.Named.{Named}
-use Rattle.model.specs.declared.Run.{Run}
-use Rattle.model.specs.declared.Event.{Event}
-use Rattle.model.specs.declared.Refusal.{Refusal}
+use Rattle.laws.specs.Basics.{_≡_, Bool, true, not, _&&_, List, [], _∷_, Option, none, some, ℕ, _+_, _≤_, _<_, arith, eqb, leb, length, getD, length-append, by-bool}
+use lib.ListN.{length-map, length-take}
+use Rattle.laws.specs.{Counting.count-le, Lists.select, Lists.orElse, Lists.lastOf, Prefixes.every-select, Prefixes.every-last, Select.select-length}
+use Rattle.laws.specs.{Tests.every, Truth.and-left, Truth.and-right}
+use Rattle.model.specs.declared.{Interval.Interval, Checkpoint.Checkpoint, Message.Message, Named.Named, Run.Run, Event.Event, Refusal.Refusal}
 use Rattle.model.specs.declared.Refusal.the-variants.{MalformedRecord}
 use Rattle.model.specs.Words.{basic, forced, isPinned, Process, process, own, underWay, live}
 use Rattle.model.specs.Steps.{Deletion, listed, gone, deletions, storing, checkpointed, checkpointDeletions, found, forces, takenIn, delivered, deliverDeletions, member, pinsAfter, goneAt, deletedAt, recoverDeletions, rolledBack, rolledBackCount}
-use Rattle.model.specs.Sound.{messageSound, sound}
+use Rattle.model.specs.{Sound.messageSound, Sound.sound, laws.Refusals.by-refusal, laws.Refusals.number-range, laws.Sound.sound-state, laws.Sound.sound-message}
 use Rattle.model.specs.Refusals.{number, checkpointRefusal, sendRefusal, deliverRefusal, loseRefusal, lineRefusal, recoverRefusal}
-use Rattle.model.specs.laws.Refusals.{by-refusal, number-range}
-use Rattle.model.specs.laws.Sound.{sound-state, sound-message}
 use Rattle.whole_runs.specs.Outcomes.{Report, refusing, accepting, message, deliverAnswer, checkpointOutcome, checkpointReport, sendOutcome, sendReport, deliverOutcome, deliverReport, loseOutcome, loseReport, lineOutcome, lineReport, recoverOutcome, recoverReport}
-use Rattle.whole_runs.specs.Earliest.{earliestRefusal, earliestOutcome}
+use Rattle.whole_runs.specs.{Earliest.earliestRefusal, Earliest.earliestOutcome, Listing.callOf, Listing.perform}
 use Rattle.whole_runs.specs.Calls.{Call, checkpoint, send, deliver, lose, recover, line, earliest, answered, call}
-use Rattle.whole_runs.specs.Listing.{callOf, perform}
 use Rattle.model.proofs.simulation.Accepted.{checkpoint-out, send-out, deliver-out, recover-out}
 use Rattle.whole_runs.proofs.whole.Handed.{gather-length}
 

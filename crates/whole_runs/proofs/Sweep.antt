@@ -1,59 +1,29 @@
 -- Note 4: a sweep. Nobody rolls back, of any state; the messages under way stay, of a sound one; the lines stay, of a state that calls from a start reach. And that no
 -- call is refused with 6.
 -- Assumes nothing.
-use mathlib.Core.Path.{_≡_, refl, sym, _∙_, ap, fun-ext}
-use mathlib.Core.Bool.{Bool, true, false, _&&_, not}
-use mathlib.Core.List.{List, []}
-use mathlib.Core.Option.{Option, none, some}
-use Prim.Native.Nat.{ℕ, zero, suc, _<_}
+use Rattle.laws.specs.Basics.{_≡_, refl, sym, _∙_, ap, fun-ext, Bool, true, false, not, _&&_, List, [], Option, none, some, ℕ, zero, suc, _<_, arith, eqb, ltb, length, getD, le-ltb, leb-true, pick, by-bool}
 use native.Mathlib.Nat.{div-eq-of-lt, one-le-pow}
-use native.Mathlib.Omega.{arith}
-use lib.Dec.{eqb, ltb}
-use lib.ListN.{length, getD}
 use lib.Seq.{set-getD}
-use borrow.Author.Tests.{le-ltb, leb-true}
-use Rattle.laws.specs.Choice.{pick, by-bool}
-use Rattle.laws.specs.Counting.{count-none}
-use Rattle.laws.specs.Rows.{every-at, every-by}
-use Rattle.laws.specs.Search.{anyBelow, any-out, all-in, all-out}
-use Rattle.laws.specs.Select.{all-chosen, lastOf-snoc}
-use Rattle.laws.specs.Tables.{table-same}
-use Rattle.laws.specs.Truth.{never-both}
-use Rattle.model.specs.declared.Pin.the-variants.{Nothing}
-use Rattle.model.specs.declared.Checkpoint.{Checkpoint}
-use Rattle.model.specs.declared.Message.{Message}
-use Rattle.model.specs.declared.Run.{Run}
-use Rattle.model.specs.declared.Refusal.{Refusal}
-use Rattle.model.specs.declared.LineAnswer.{LineAnswer}
-use Rattle.model.specs.declared.LineAnswer.the-variants as line-answer
+use Rattle.laws.specs.{Counting.count-none, Rows.every-at, Rows.every-by, Search.anyBelow, Search.any-out, Search.all-in, Search.all-out, Tables.table-same}
+use Rattle.laws.specs.{Select.all-chosen, Select.lastOf-snoc, Truth.never-both}
+use Rattle.model.specs.declared.{Pin.the-variants.Nothing, Checkpoint.Checkpoint, Message.Message, Run.Run, Refusal.Refusal, LineAnswer.LineAnswer}
 use Rattle.model.specs.declared.RecoverAnswer.{RecoverAnswer}
-use Rattle.model.specs.declared.RecoverAnswer.the-variants as recover-answer
 use Rattle.model.specs.Words.{entry, Process, live, noCheckpoint, noMessage, process, withProcess, own, underWay, withMessages, withDisk, failed}
 use Rattle.model.specs.Steps.{withProcesses, allowed, states, latestAllowed, member, lineOf, rolledBack, vectorAfter, ownAfter, pinAfter, recovered, lostBy, stillUnderWay, recoverState, recoverDeletions, rolledBackCount}
-use Rattle.model.specs.Sound.{within, messageSound, sound}
-use Rattle.model.specs.Refusals.{missing, noMember, lineRefusal, recoverRefusal}
-use Rattle.model.specs.laws.Refusals.{by-refusal}
-use Rattle.model.specs.laws.Sound.{sound-state, sound-message}
-use Rattle.whole_runs.specs.Outcomes.{written, startOutcome, lineOutcome, recoverOutcome}
-use Rattle.whole_runs.specs.Calls.{stateAfter, transcript}
-use Rattle.whole_runs.specs.Survival.{Surviving, beginning, survivingFrom}
-use Rattle.whole_runs.specs.WholeRuns.{Reachable}
+use Rattle.model.specs.{Sound.within, Sound.messageSound, Sound.sound, Refusals.missing, Refusals.noMember, Refusals.lineRefusal, Refusals.recoverRefusal}
+use Rattle.model.specs.{laws.Refusals.by-refusal, laws.Sound.sound-state, laws.Sound.sound-message}
+use Rattle.whole_runs.specs.{Outcomes.written, Outcomes.startOutcome, Outcomes.lineOutcome, Outcomes.recoverOutcome, Calls.stateAfter, Calls.transcript}
+use Rattle.whole_runs.specs.{Survival.Surviving, Survival.beginning, Survival.survivingFrom, WholeRuns.Reachable}
 use Rattle.whole_runs.specs.Sweep.{liveLine, SweepIsQuiet, SweepIsAccepted, SweepLeavesLines, SixNeverOccurs, EmptyLinePromise, Swept, SweepPromise}
-use Rattle.histories.proofs.Run as ideal
-use Rattle.histories.proofs.Run.{Ideal, Failed, begun, safe, rolled}
-use Rattle.histories.proofs.Invariant.{Inv}
-use Rattle.histories.proofs.Maximal.{line-by-history}
-use Rattle.histories.proofs.Recovered.{recovered-inv}
+use Rattle.histories.proofs.{Run.Ideal, Run.Failed, Run.begun, Run.safe, Run.rolled, Invariant.Inv, Maximal.line-by-history, Recovered.recovered-inv}
 use Rattle.histories.proofs.RecoveredViews.{recovered-n, recovered-events-stays}
-use Rattle.model.proofs.simulation.Parts.{underWay-put}
-use Rattle.model.proofs.Numbers.{numbers-are-right}
-use Rattle.model.proofs.simulation.Accepted.{line-in, recover-in}
-use Rattle.model.proofs.simulation.Lines.{line-is}
-use Rattle.model.proofs.simulation.Recover.{recover-is}
-use Rattle.whole_runs.proofs.whole.Reached.{Reached}
-use Rattle.whole_runs.proofs.whole.Refused.{numberOf, reports-number}
-use Rattle.whole_runs.proofs.whole.Runs.{runAfter}
+use Rattle.model.proofs.{simulation.Parts.underWay-put, Numbers.numbers-are-right, simulation.Accepted.line-in, simulation.Accepted.recover-in}
+use Rattle.model.proofs.{simulation.Lines.line-is, simulation.Recover.recover-is}
+use Rattle.whole_runs.proofs.{whole.Reached.Reached, whole.Refused.numberOf, whole.Refused.reports-number, whole.Runs.runAfter}
 use Rattle.whole_runs.proofs.WholeRuns.{reachable-reached, reports-start}
+use Rattle.model.specs.declared.LineAnswer.the-variants as line-answer
+use Rattle.model.specs.declared.RecoverAnswer.the-variants as recover-answer
+use Rattle.histories.proofs.Run as ideal
 
 -- No process is in the empty set.
 nobody-failed : (f : ℕ) → failed 0 f ≡ false

@@ -1,39 +1,20 @@
 -- States of a trace run. Note 5: "a trace run uses 1". Every kept checkpoint has block count 1. And no more is written than one block for each process and each
 -- record, so no record of a trace meets 16.
 -- Assumes nothing.
-use mathlib.Core.Path.{_≡_, refl, sym, _∙_, ap}
-use mathlib.Core.Bool.{Bool, true, false, _&&_}
-use mathlib.Core.List.{List, [], _∷_, _++_}
-use mathlib.Core.Option.{Option, none, some}
-use Prim.Native.Nat.{ℕ, suc, _+_, _*_, _≤_, _<_}
-use native.Mathlib.Omega.{arith}
-use lib.Dec.{eqb, leb}
-use lib.ListN.{length, getD, length-append, getD-replicate, List·getD-eq-default}
-use borrow.Author.Tests.{eq-eqb, leb-true, leb-false, le-ltb}
-use Rattle.laws.specs.Choice.{by-bool}
-use Rattle.laws.specs.Sums.{sum-le}
-use Rattle.laws.specs.Tests.{every}
-use Rattle.laws.specs.Truth.{never-both}
-use Rattle.model.specs.declared.Run.{Run}
-use Rattle.model.specs.declared.Event.{Event}
-use Rattle.model.specs.Words.{mostProcesses, ones, process}
-use Rattle.model.specs.Steps.{startState}
-use Rattle.model.specs.Refusals.{number, startRefusal}
-use Rattle.model.specs.Trace.{decoded}
-use Rattle.whole_runs.specs.Outcomes.{startOutcome}
+use Rattle.laws.specs.Basics.{_≡_, refl, sym, _∙_, ap, Bool, true, false, _&&_, List, [], _∷_, _++_, Option, none, some, ℕ, suc, _+_, _*_, _≤_, _<_, arith, eqb, leb, length, getD, length-append, getD-replicate, eq-eqb, le-ltb, leb-true, leb-false, by-bool}
+use lib.ListN.{List·getD-eq-default}
+use Rattle.laws.specs.{Sums.sum-le, Tests.every, Truth.never-both}
+use Rattle.model.specs.declared.{Run.Run, Event.Event}
+use Rattle.model.specs.{Words.mostProcesses, Words.ones, Words.process, Steps.startState, Refusals.number, Refusals.startRefusal, Trace.decoded}
+use Rattle.whole_runs.specs.{Outcomes.startOutcome, Answers.Reason, Answers.lowest, Answers.pastBound, Answers.reasons}
 use Rattle.whole_runs.specs.Calls.{Call, checkpoint, send, deliver, lose, recover, line, earliest, Exchange, call, stateAfter, transcript}
 use Rattle.whole_runs.specs.Survival.{Surviving, beginning, accepted, after, survivingFrom, storedBy, countOf}
-use Rattle.whole_runs.specs.Answers.{Reason, lowest, pastBound, reasons}
 use Rattle.whole_runs.specs.Listing.{callOf, perform, mostRecords, stateAfterRecords}
 use Rattle.whole_runs.specs.WholeRuns.{Reachable, Traced, TraceMeetsNoBound}
 use Rattle.histories.proofs.Run.{Ideal, begun, openLedger}
-use Rattle.model.proofs.simulation.View.{checkpointOf, processOf}
-use Rattle.model.proofs.simulation.Reads.{count-is, process-is}
-use Rattle.model.proofs.simulation.Kept.{kept-every}
-use Rattle.model.proofs.simulation.Billing.{stored-blocks}
-use Rattle.model.proofs.simulation.Accepted.{start-out}
-use Rattle.whole_runs.proofs.whole.Reached.{Reached}
-use Rattle.whole_runs.proofs.whole.Runs.{runAfter, counts-after}
+use Rattle.model.proofs.{simulation.View.checkpointOf, simulation.View.processOf, simulation.Reads.count-is, simulation.Reads.process-is}
+use Rattle.model.proofs.{simulation.Kept.kept-every, simulation.Billing.stored-blocks, simulation.Accepted.start-out}
+use Rattle.whole_runs.proofs.{whole.Reached.Reached, whole.Runs.runAfter, whole.Runs.counts-after}
 use Rattle.whole_runs.proofs.WholeRuns.{started-state, after-one, reachable-reached, reached-answer}
 
 -- The start, one call more, one record more.

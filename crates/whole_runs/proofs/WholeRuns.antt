@@ -1,61 +1,30 @@
 -- Demand 3, proved: right over whole runs. And what later work cites of states that calls from a start reach.
 -- Assumes nothing.
-use mathlib.Core.Path.{_≡_, refl, sym, _∙_, ap, subst}
-use mathlib.Core.Bool.{Bool, true, _&&_, not}
-use mathlib.Core.List.{List, [], _∷_, _++_}
-use mathlib.Core.Option.{Option, none, some}
-use Prim.Native.Nat.{ℕ, _^_, _<_}
-use native.Mathlib.Omega.{arith}
-use lib.Dec.{eqb, leb}
-use lib.ListN.{getD}
-use borrow.Author.Tests.{eq-eqb, eqb-true}
-use Rattle.laws.specs.Choice.{by-eq}
-use Rattle.laws.specs.Counting.{count-mono}
-use Rattle.laws.specs.Elements.{same-test}
-use Rattle.laws.specs.Ranges.{any-same}
-use Rattle.laws.specs.Sums.{sum-same}
-use Rattle.model.specs.declared.Named.{Named}
-use Rattle.model.specs.declared.Run.{Run}
-use Rattle.model.specs.declared.StartAnswer.the-variants.{Started}
+use Rattle.laws.specs.Basics.{_≡_, refl, sym, _∙_, ap, subst, Bool, true, not, _&&_, List, [], _∷_, _++_, Option, none, some, ℕ, _^_, _<_, arith, eqb, leb, getD, eq-eqb, eqb-true, by-eq}
+use Rattle.laws.specs.{Counting.count-mono, Elements.same-test, Ranges.any-same, Sums.sum-same}
+use Rattle.model.specs.declared.{Named.Named, Run.Run, StartAnswer.the-variants.Started}
 use Rattle.model.specs.declared.Refusal.the-variants.{CountOutsideRange, BlockCountOutsideRange}
-use Rattle.model.specs.Words.{mostProcesses, blank}
-use Rattle.model.specs.Steps.{started, opening, withProcesses, startState}
-use Rattle.model.specs.Sound.{isBlockCount, sound}
+use Rattle.model.specs.{Words.mostProcesses, Words.blank, Steps.started, Steps.opening, Steps.withProcesses, Steps.startState, Sound.isBlockCount, Sound.sound}
 use Rattle.histories.specs.History.{checkpoints}
-use Rattle.model.specs.Refusals.{firstOf, startRefusal}
-use Rattle.model.specs.laws.Refusals.{by-refusal}
+use Rattle.model.specs.{Refusals.firstOf, Refusals.startRefusal, laws.Refusals.by-refusal}
 use Rattle.whole_runs.specs.Outcomes.{startOutcome, checkpointOutcome, sendOutcome, deliverOutcome, loseOutcome, recoverOutcome, startReport}
 use Rattle.whole_runs.specs.Calls.{Call, checkpoint, send, deliver, lose, recover, line, earliest, Exchange, answered, call, stateAfter, transcript}
 use Rattle.whole_runs.specs.Survival.{Surviving, beginning, after, survivingFrom, surviving}
 use Rattle.whole_runs.specs.Answers.{AnswerIsRight, AnswersAreRight}
 use Rattle.whole_runs.specs.WholeRuns.{LineIsRight, KeptIsRight, StartsAreRight, CountsBelowDecide, RightOverWholeRuns, Reachable, LinePromise, StatePromise, StartPromise, EarliestIsRight, EarliestPromise}
-use Rattle.histories.proofs.Run.{Ideal, begin, openLedger, begun, keeps}
-use Rattle.histories.proofs.Ledger.{ledger-keeps, ledger-inv}
-use Rattle.histories.proofs.Invariant.{Inv}
-use Rattle.histories.proofs.Begin.{begin-inv, begin-n, begin-pin-own, begin-pin-other}
-use Rattle.histories.proofs.Memory.{Memory, begin-memory}
+use Rattle.histories.proofs.{Run.Ideal, Run.begin, Run.openLedger, Run.begun, Run.keeps, Ledger.ledger-keeps, Ledger.ledger-inv, Invariant.Inv}
+use Rattle.histories.proofs.{Begin.begin-inv, Begin.begin-n, Begin.begin-pin-own, Begin.begin-pin-other, Memory.Memory, Memory.begin-memory}
 use Rattle.histories.proofs.Rule.{keeps-in, keeps-out, same-some}
-use Rattle.model.proofs.simulation.View.{stateOf, Limits, processOf}
-use Rattle.model.proofs.simulation.Parts.{all-agree}
-use Rattle.model.proofs.simulation.Reads.{count-is, process-is}
-use Rattle.model.proofs.simulation.Accepted.{start-out}
-use Rattle.model.proofs.simulation.Start.{start-kept-in, start-is}
-use Rattle.model.proofs.simulation.Kept.{few-kept, pins-name, kept-holds}
-use Rattle.model.proofs.simulation.Lines.{line-is}
-use Rattle.model.proofs.simulation.Sound.{state-sound}
-use Rattle.model.proofs.simulation.SoundLimits.{limits-begin}
-use Rattle.whole_runs.proofs.whole.Agreement.{Agrees}
-use Rattle.whole_runs.proofs.whole.Accepted.{Step, step-reached}
-use Rattle.whole_runs.proofs.whole.Answers.{answer-right}
-use Rattle.whole_runs.proofs.whole.Because.{basic-step, forced-step}
-use Rattle.whole_runs.proofs.whole.BlocksRight.{reached-blocks}
-use Rattle.whole_runs.proofs.whole.Refused.{numberOf, members-found, start-number}
-use Rattle.whole_runs.proofs.whole.Earliest.{earliest-right}
-use Rattle.whole_runs.proofs.whole.LineRight.{line-right}
+use Rattle.model.proofs.{simulation.View.stateOf, simulation.View.Limits, simulation.View.processOf, simulation.Parts.all-agree, simulation.Accepted.start-out}
+use Rattle.model.proofs.{simulation.Reads.count-is, simulation.Reads.process-is, simulation.Start.start-kept-in, simulation.Start.start-is}
+use Rattle.model.proofs.{simulation.Kept.few-kept, simulation.Kept.pins-name, simulation.Kept.kept-holds, simulation.Lines.line-is}
+use Rattle.model.proofs.{simulation.Sound.state-sound, simulation.SoundLimits.limits-begin}
+use Rattle.whole_runs.proofs.{whole.Agreement.Agrees, whole.Accepted.Step, whole.Accepted.step-reached, whole.Answers.answer-right}
+use Rattle.whole_runs.proofs.{whole.Because.basic-step, whole.Because.forced-step, whole.BlocksRight.reached-blocks, whole.Earliest.earliest-right}
+use Rattle.whole_runs.proofs.{whole.Refused.numberOf, whole.Refused.members-found, whole.Refused.start-number, whole.LineRight.line-right}
 use Rattle.whole_runs.proofs.whole.Reached.{Reached, exchange, refusal, refused-reached}
-use Rattle.whole_runs.proofs.whole.Recovers.{recover-step}
+use Rattle.whole_runs.proofs.{whole.Recovers.recover-step, whole.Runs.stepped, whole.Runs.unlessRefused, whole.Runs.runAfter}
 use Rattle.whole_runs.proofs.whole.Restarts.{begin-restarted, step-restarted, needed-in, needed-out}
-use Rattle.whole_runs.proofs.whole.Runs.{stepped, unlessRefused, runAfter}
 use Rattle.whole_runs.proofs.whole.Steps.{send-step, lose-step, line-step, earliest-step}
 
 -- The history of the start agrees with the run as functions at its start.

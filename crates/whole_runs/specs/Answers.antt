@@ -1,25 +1,14 @@
 -- What every answer of a list of calls is, by the surviving history before the call and the call's arguments, and by nothing in a state.
 -- Document 01: the surviving history "is built from the calls and their answers, and from nothing in the state".
 -- Assumes nothing.
-use mathlib.Core.Path.{_≡_}
-use mathlib.Core.Bool.{Bool, true, false, _&&_, _||_, not}
-use mathlib.Core.List.{List, [], _∷_, _++_, List·Memᴰ}
-use mathlib.Core.Logic.{_⊎_}
-use mathlib.Core.Option.{Option, none, some}
-use Prim.Native.Nat.{ℕ, suc, _+_, _-_, _*_, _^_, _≤_, _<_}
-use lib.Dec.{eqb, ltb, leb}
-use lib.ListN.{length, getD, drop}
-use Rattle.laws.specs.Choice.{pick}
-use Rattle.laws.specs.Lists.{table, gather}
-use Rattle.laws.specs.Search.{anyBelow}
-use Rattle.laws.specs.Tests.{countBelow, some-of}
+use Rattle.laws.specs.Basics.{_≡_, Bool, true, false, not, _&&_, _||_, List, [], _∷_, _++_, Option, none, some, _⊎_, ℕ, suc, _+_, _-_, _*_, _^_, _≤_, _<_, eqb, ltb, leb, length, getD, drop, pick}
+use mathlib.Core.List.{List·Memᴰ}
+use Rattle.laws.specs.{Lists.table, Lists.gather, Search.anyBelow, Tests.countBelow, Tests.some-of}
 use Rattle.model.specs.declared.Named.{Named}
 use Rattle.model.specs.Words.{inSet, failed, mostBlocks, mostProcesses, mostBlockCount, mostInterval, mostUnderWay, mostMessages}
 use Rattle.histories.specs.History.{sent, Line, checkpoints, afterState, beforeCheckpoint, Consistent, before, ComesBefore}
 use Rattle.whole_runs.specs.Calls.{Call, checkpoint, send, deliver, lose, recover, line, earliest, Exchange}
-use Rattle.whole_runs.specs.Earliest.{someAbsent, unfit}
-use Rattle.whole_runs.specs.Survival.{Surviving, after, surviving}
-use Rattle.whole_runs.specs.Best.{Possible}
+use Rattle.whole_runs.specs.{Earliest.someAbsent, Earliest.unfit, Survival.Surviving, Survival.after, Survival.surviving, Best.Possible}
 
 -- A reason to refuse a call, with its number.
 pub record Reason : Type 0 where

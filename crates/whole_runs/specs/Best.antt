@@ -1,9 +1,7 @@
 -- The best line for a failed set, by the messages of the surviving history alone: no vector, pin, pair or state is in it. Document 01 has its sentences, and
 -- document 02 its name: Note 6, "its best line, by the message definition over the surviving history".
 -- Assumes nothing.
-use mathlib.Core.Path.{_≡_}
-use mathlib.Core.Bool.{true}
-use Prim.Native.Nat.{ℕ, _<_, _≤_}
+use Rattle.laws.specs.Basics.{_≡_, true, ℕ, _≤_, _<_}
 use Rattle.model.specs.Words.{failed}
 use Rattle.histories.specs.History.{Lists, Line, checkpoints, Consistent}
 

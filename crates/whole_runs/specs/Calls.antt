@@ -1,10 +1,8 @@
 -- Lists of calls and their answers: document 01, "Demand 3 is one claim about the whole list of calls".
 -- "an answer is all that a call returns beside the state, and its lent lists as they then stand."
 -- Assumes nothing.
-use mathlib.Core.List.{List, [], _∷_}
-use Prim.Native.Nat.{ℕ}
-use Rattle.model.specs.declared.Named.{Named}
-use Rattle.model.specs.declared.Run.{Run}
+use Rattle.laws.specs.Basics.{List, [], _∷_, ℕ}
+use Rattle.model.specs.declared.{Named.Named, Run.Run}
 use Rattle.whole_runs.specs.Outcomes.{Outcome, Report, checkpointOutcome, checkpointReport, sendOutcome, sendReport, deliverOutcome, deliverReport, loseOutcome, loseReport, lineOutcome, lineReport, recoverOutcome, recoverReport}
 use Rattle.whole_runs.specs.Earliest.{earliestOutcome}
 

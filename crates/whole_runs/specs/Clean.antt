@@ -1,19 +1,11 @@
 -- Note 6, "Nothing kept in vain after a restart": "The handbook says that a recovery cleans the disks fully. Prove it". proofs/Clean has the theorems.
 -- Assumes nothing.
-use mathlib.Core.Path.{_≡_}
-use mathlib.Core.Bool.{Bool, true}
-use mathlib.Core.List.{List, [], _∷_, _++_}
-use mathlib.Core.Option.{none}
-use Prim.Native.Nat.{ℕ, _^_, _<_, _≤_}
+use Rattle.laws.specs.Basics.{_≡_, Bool, true, List, [], _∷_, _++_, none, ℕ, _^_, _≤_, _<_}
 use Rattle.model.specs.declared.Run.{Run}
 use Rattle.histories.specs.History.{Lists}
-use Rattle.model.specs.Refusals.{startRefusal, recoverRefusal}
-use Rattle.model.specs.Words.{keepsIn}
-use Rattle.whole_runs.specs.Outcomes.{startOutcome}
-use Rattle.whole_runs.specs.Calls.{Call, recover, stateAfter, transcript}
-use Rattle.whole_runs.specs.Survival.{surviving}
+use Rattle.model.specs.{Refusals.startRefusal, Refusals.recoverRefusal, Words.keepsIn}
+use Rattle.whole_runs.specs.{Outcomes.startOutcome, Calls.Call, Calls.recover, Calls.stateAfter, Calls.transcript, Survival.surviving, WholeRuns.reported}
 use Rattle.whole_runs.specs.Best.{Best, InBestLine}
-use Rattle.whole_runs.specs.WholeRuns.{reported}
 
 -- The line that a line or recover call reports is the best line: for every list of calls from an accepted start and every failed set.
 unfoldable pub ReportedIsBest : Type 0

@@ -1,25 +1,14 @@
 -- Document 02, Note 8, "The earliest state to show in a debugger": "Developers pick some kept checkpoints and want the earliest consistent line through all of
 -- them." The line, the refusals and the outcome of the call. What is promised of the line is in Answers and WholeRuns.
 -- Assumes nothing.
-use mathlib.Core.Bool.{Bool, false, _||_, not}
-use mathlib.Core.List.{List, [], _∷_}
-use mathlib.Core.Option.{Option}
-use Prim.Native.Nat.{ℕ, max}
-use lib.Dec.{eqb, ltb, leb}
-use lib.ListN.{length}
-use Rattle.laws.specs.Lists.{select, orElse, lastOf, table}
-use Rattle.laws.specs.Tests.{some-of}
-use Rattle.model.specs.declared.Interval.{Interval}
-use Rattle.model.specs.declared.Checkpoint.{Checkpoint}
-use Rattle.model.specs.declared.Named.{Named}
-use Rattle.model.specs.declared.Run.{Run}
-use Rattle.model.specs.declared.Refusal.{Refusal}
+use Rattle.laws.specs.Basics.{Bool, false, not, _||_, List, [], _∷_, Option, ℕ, max, eqb, ltb, leb, length}
+use Rattle.laws.specs.{Lists.select, Lists.orElse, Lists.lastOf, Lists.table, Tests.some-of}
+use Rattle.model.specs.declared.{Interval.Interval, Checkpoint.Checkpoint, Named.Named, Run.Run, Refusal.Refusal, LineAnswer.LineAnswer}
 use Rattle.model.specs.declared.Refusal.the-variants.{ListTooShort, NoSuchProcess, UnfitNamedList, NotKept, CausallyOrdered}
-use Rattle.model.specs.declared.LineAnswer.{LineAnswer}
-use Rattle.model.specs.declared.LineAnswer.the-variants as line-answer
 use Rattle.model.specs.Words.{entry, comesBefore, noCheckpoint, process, keepsIn}
 use Rattle.model.specs.Refusals.{firstOf, unsound, shortLine}
 use Rattle.whole_runs.specs.Outcomes.{Outcome, judged, written}
+use Rattle.model.specs.declared.LineAnswer.the-variants as line-answer
 
 -- "They hand over a list of named checkpoints, each a process and an index". The named checkpoint among those that its process keeps, and its vector.
 unfoldable pub isNamed : Named → Checkpoint → Bool

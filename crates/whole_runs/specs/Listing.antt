@@ -1,22 +1,11 @@
 -- Document 01, "The trace": what the replay program prints, byte by byte, and Note 11 of document 02: where it stops.
 -- Assumes nothing.
-use mathlib.Core.Bool.{Bool, true, _&&_, _||_}
-use mathlib.Core.List.{List, [], _∷_, _++_}
-use mathlib.Core.Option.{Option, none, some}
-use Prim.Native.Nat.{ℕ, zero, suc, _+_, _/_, _%_}
-use lib.Dec.{eqb, ltb}
-use lib.ListN.{replicate}
-use Rattle.laws.specs.Choice.{pick}
+use Rattle.laws.specs.Basics.{Bool, true, _&&_, _||_, List, [], _∷_, _++_, Option, none, some, ℕ, zero, suc, _+_, _/_, _%_, eqb, ltb, replicate, pick}
 use Rattle.laws.specs.Tests.{same}
-use Rattle.model.specs.declared.Run.{Run}
-use Rattle.model.specs.declared.Event.{Event}
+use Rattle.model.specs.declared.{Run.Run, Event.Event, Refusal.Refusal}
 use Rattle.model.specs.declared.Event.the-variants.{Checkpoint, Send, Deliver, Lose, Recover}
-use Rattle.model.specs.declared.Refusal.{Refusal}
 use Rattle.model.specs.declared.Refusal.the-variants.{NoFirstByte, LeftOverBytes, MalformedRecord}
-use Rattle.model.specs.Words.{ones, mostDeletions, mostProcesses}
-use Rattle.model.specs.Refusals.{startRefusal}
-use Rattle.model.specs.Steps.{startState}
-use Rattle.model.specs.Trace.{decoded}
+use Rattle.model.specs.{Words.ones, Words.mostDeletions, Words.mostProcesses, Refusals.startRefusal, Steps.startState, Trace.decoded}
 use Rattle.whole_runs.specs.Outcomes.{refusing}
 use Rattle.whole_runs.specs.Calls.{Call, checkpoint, send, deliver, lose, recover, Reply, Answered, call}
 

@@ -1,8 +1,7 @@
 -- Which checkpoints are kept, by the places in the lists alone: what the pins of document 01 name, defined without a pin, a vector or a pair handed out.
 -- "A pin of i for f names one kept checkpoint of i, or none. A checkpoint is kept exactly while a pin names it."
 -- Assumes nothing.
-use mathlib.Core.Logic.{_⊎_}
-use Prim.Native.Nat.{ℕ, _-_, _<_}
+use Rattle.laws.specs.Basics.{_⊎_, ℕ, _-_, _<_}
 use Rattle.histories.specs.History.{Lists, checkpoints, beforeCheckpoint, ComesBefore}
 use Rattle.whole_runs.specs.Survival.{Surviving}
 

@@ -1,33 +1,20 @@
 -- The outcome of each call, refused or accepted: the state, the answer, and every lent list as it then stands.
 -- "A refusal returns its number and the state as it came; lent lists and buffers keep every entry. A refused start returns a state of zeros with every pin none."
 -- Assumes nothing.
-use mathlib.Core.List.{List, [], _∷_}
-use mathlib.Core.Option.{Option, none, some}
-use Prim.Native.Nat.{ℕ, _+_}
-use lib.ListN.{length}
-use lib.Seq.{sets}
-use Rattle.laws.specs.Choice.{pick}
+use Rattle.laws.specs.Basics.{List, [], _∷_, Option, none, some, ℕ, _+_, length, sets, pick}
 use Rattle.laws.specs.Lists.{orElse}
-use Rattle.model.specs.declared.Message.{Message}
-use Rattle.model.specs.declared.Run.{Run}
-use Rattle.model.specs.declared.Refusal.{Refusal}
-use Rattle.model.specs.declared.StartAnswer.{StartAnswer}
-use Rattle.model.specs.declared.StartAnswer.the-variants as start-answer
-use Rattle.model.specs.declared.CheckpointAnswer.{CheckpointAnswer}
-use Rattle.model.specs.declared.CheckpointAnswer.the-variants as checkpoint-answer
-use Rattle.model.specs.declared.SendAnswer.{SendAnswer}
-use Rattle.model.specs.declared.SendAnswer.the-variants as send-answer
-use Rattle.model.specs.declared.DeliverAnswer.{DeliverAnswer}
-use Rattle.model.specs.declared.DeliverAnswer.the-variants as deliver-answer
-use Rattle.model.specs.declared.LoseAnswer.{LoseAnswer}
-use Rattle.model.specs.declared.LoseAnswer.the-variants as lose-answer
-use Rattle.model.specs.declared.LineAnswer.{LineAnswer}
-use Rattle.model.specs.declared.LineAnswer.the-variants as line-answer
-use Rattle.model.specs.declared.RecoverAnswer.{RecoverAnswer}
-use Rattle.model.specs.declared.RecoverAnswer.the-variants as recover-answer
+use Rattle.model.specs.declared.{Message.Message, Run.Run, Refusal.Refusal, StartAnswer.StartAnswer, CheckpointAnswer.CheckpointAnswer, SendAnswer.SendAnswer}
+use Rattle.model.specs.declared.{DeliverAnswer.DeliverAnswer, LoseAnswer.LoseAnswer, LineAnswer.LineAnswer, RecoverAnswer.RecoverAnswer}
 use Rattle.model.specs.Words.{noMessage, blank, process, live}
 use Rattle.model.specs.Steps.{Deletion, startState, checkpointState, checkpointDeletions, sendState, found, forces, deliverState, deliverRisen, deliverDeletions, loseState, lineOf, recoverState, recoverDeletions, rolledBackCount}
 use Rattle.model.specs.Refusals.{number, startRefusal, checkpointRefusal, sendRefusal, deliverRefusal, loseRefusal, lineRefusal, recoverRefusal}
+use Rattle.model.specs.declared.StartAnswer.the-variants as start-answer
+use Rattle.model.specs.declared.CheckpointAnswer.the-variants as checkpoint-answer
+use Rattle.model.specs.declared.SendAnswer.the-variants as send-answer
+use Rattle.model.specs.declared.DeliverAnswer.the-variants as deliver-answer
+use Rattle.model.specs.declared.LoseAnswer.the-variants as lose-answer
+use Rattle.model.specs.declared.LineAnswer.the-variants as line-answer
+use Rattle.model.specs.declared.RecoverAnswer.the-variants as recover-answer
 
 -- What a call leaves behind. A list that the call is not lent is empty. `rose` is the set of entries that rose (Note 1): "0 with a refusal", and 0 of a
 -- call that takes no carried vector in.

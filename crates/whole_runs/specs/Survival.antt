@@ -1,15 +1,7 @@
 -- Document 01, "The surviving history": "It is built from the calls and their answers, and from nothing in the state".
 -- Assumes nothing.
-use mathlib.Core.Bool.{Bool, true, false, _&&_, _||_, not}
-use mathlib.Core.List.{List, [], _∷_, _++_}
-use mathlib.Core.Option.{Option, none, some}
-use Prim.Native.Nat.{ℕ, _+_, _*_}
-use lib.Dec.{eqb, ltb, leb}
-use lib.ListN.{getD}
-use Rattle.laws.specs.Choice.{pick}
-use Rattle.laws.specs.Search.{anyBelow}
-use Rattle.laws.specs.Sums.{sumBelow}
-use Rattle.laws.specs.Update.{upd}
+use Rattle.laws.specs.Basics.{Bool, true, false, not, _&&_, _||_, List, [], _∷_, _++_, Option, none, some, ℕ, _+_, _*_, eqb, ltb, leb, getD, pick}
+use Rattle.laws.specs.{Search.anyBelow, Sums.sumBelow, Update.upd}
 use Rattle.model.specs.Words.{initial, basic, forced}
 use Rattle.histories.specs.History.{HistoryEvent, stored, sent, received, Lists, checkpoints, upTo, stillSent}
 use Rattle.whole_runs.specs.Calls.{Call, checkpoint, send, deliver, lose, recover, line, earliest, Reply, Exchange}

@@ -1,27 +1,15 @@
 -- Note 4, "Nobody failed": "An empty failed set now means a sweep". A sweep is a recover call for the failed set 0, and what it does is what Steps says of
 -- every failed set. Here is what that comes to; proofs/Sweep has the theorems.
 -- Assumes nothing.
-use mathlib.Core.Path.{_≡_}
-use mathlib.Core.Bool.{true, false}
-use mathlib.Core.List.{List}
-use mathlib.Core.Option.{none}
-use Prim.Native.Nat.{ℕ, _*_, _≤_}
-use lib.Dec.{eqb}
-use lib.ListN.{length, getD}
-use Rattle.laws.specs.Choice.{pick}
+use Rattle.laws.specs.Basics.{_≡_, true, false, List, none, ℕ, _*_, _≤_, eqb, length, getD, pick}
 use Rattle.laws.specs.Lists.{table}
-use Rattle.model.specs.declared.Pin.the-variants.{Nothing}
-use Rattle.model.specs.declared.Run.{Run}
-use Rattle.model.specs.declared.LineAnswer.{LineAnswer}
-use Rattle.model.specs.declared.LineAnswer.the-variants as line-answer
-use Rattle.model.specs.declared.RecoverAnswer.{RecoverAnswer}
-use Rattle.model.specs.declared.RecoverAnswer.the-variants as recover-answer
-use Rattle.model.specs.Words.{entry, liveIndex, process, own, underWay}
+use Rattle.model.specs.declared.{Pin.the-variants.Nothing, Run.Run, LineAnswer.LineAnswer, RecoverAnswer.RecoverAnswer}
+use Rattle.model.specs.{Words.entry, Words.liveIndex, Words.process, Words.own, Words.underWay, Sound.sound}
 use Rattle.model.specs.Steps.{lineOf, rolledBackCount, pinAfter, recoverState, recoverDeletions}
-use Rattle.model.specs.Sound.{sound}
 use Rattle.model.specs.Refusals.{noMember, lineRefusal, recoverRefusal}
-use Rattle.whole_runs.specs.Outcomes.{written, startOutcome, recoverOutcome, startReport}
-use Rattle.whole_runs.specs.Calls.{Call, call}
+use Rattle.whole_runs.specs.{Outcomes.written, Outcomes.startOutcome, Outcomes.recoverOutcome, Outcomes.startReport, Calls.Call, Calls.call}
+use Rattle.model.specs.declared.LineAnswer.the-variants as line-answer
+use Rattle.model.specs.declared.RecoverAnswer.the-variants as recover-answer
 
 -- "the line has every process live": the index of each live state.
 abbrev pub liveLine : Run → List ℕ

@@ -1,33 +1,15 @@
 -- Demand 3, "Right over whole runs", as one type. Its proof is in proofs/.
 -- Assumes nothing.
-use mathlib.Core.Path.{_≡_}
-use mathlib.Core.Bool.{true, _&&_, not}
-use mathlib.Core.List.{List, [], _∷_, _++_}
-use mathlib.Core.Logic.{_⊎_}
-use mathlib.Core.Option.{Option, none, some}
-use Prim.Native.Nat.{ℕ, _+_, _*_, _^_, _<_, _≤_}
-use lib.Dec.{eqb}
-use lib.ListN.{length, getD}
-use Rattle.laws.specs.Search.{allBelow}
-use Rattle.laws.specs.Sums.{sumBelow}
-use Rattle.laws.specs.Tests.{countBelow, every, some-of}
-use Rattle.model.specs.declared.Checkpoint.{Checkpoint}
-use Rattle.model.specs.declared.Named.{Named}
-use Rattle.model.specs.declared.Run.{Run}
-use Rattle.model.specs.declared.Event.{Event}
+use Rattle.laws.specs.Basics.{_≡_, true, not, _&&_, List, [], _∷_, _++_, Option, none, some, _⊎_, ℕ, _+_, _*_, _^_, _≤_, _<_, eqb, length, getD}
+use Rattle.laws.specs.{Search.allBelow, Sums.sumBelow, Tests.countBelow, Tests.every, Tests.some-of}
+use Rattle.model.specs.declared.{Checkpoint.Checkpoint, Named.Named, Run.Run, Event.Event, StartAnswer.the-variants.Started}
 use Rattle.model.specs.declared.Refusal.the-variants.{ListTooShort, CausallyOrdered}
-use Rattle.model.specs.declared.StartAnswer.the-variants.{Started}
-use Rattle.model.specs.Words.{ones, lastStored, comesBefore, names, process, keepsIn, own, failed}
-use Rattle.model.specs.Steps.{startState, allowed, lineOf}
+use Rattle.model.specs.{Words.ones, Words.lastStored, Words.comesBefore, Words.names, Words.process, Words.keepsIn, Words.own, Words.failed, Sound.sound}
+use Rattle.model.specs.{Steps.startState, Steps.allowed, Steps.lineOf, Refusals.startRefusal, Refusals.lineRefusal, Refusals.recoverRefusal}
 use Rattle.histories.specs.History.{Line, checkpoints}
-use Rattle.model.specs.Sound.{sound}
-use Rattle.model.specs.Refusals.{startRefusal, lineRefusal, recoverRefusal}
-use Rattle.whole_runs.specs.Outcomes.{startOutcome, lineOutcome, recoverOutcome, startReport}
-use Rattle.whole_runs.specs.Earliest.{greatest, earliestRefusal}
-use Rattle.whole_runs.specs.Calls.{Call, stateAfter, transcript}
-use Rattle.whole_runs.specs.Listing.{mostRecords, perform, stateAfterRecords}
-use Rattle.whole_runs.specs.Survival.{Surviving, surviving}
-use Rattle.whole_runs.specs.Needed.{Needed}
+use Rattle.whole_runs.specs.{Outcomes.startOutcome, Outcomes.lineOutcome, Outcomes.recoverOutcome, Outcomes.startReport, Needed.Needed}
+use Rattle.whole_runs.specs.{Earliest.greatest, Earliest.earliestRefusal, Calls.Call, Calls.stateAfter, Calls.transcript}
+use Rattle.whole_runs.specs.{Listing.mostRecords, Listing.perform, Listing.stateAfterRecords, Survival.Surviving, Survival.surviving}
 use Rattle.whole_runs.specs.Answers.{lowest, startReasons, RightLine, AnswersAreRight, RightEarliest, NoneThrough}
 
 -- "The reported line is the n indexes that a line or recover call for the failed set then writes"

@@ -1,17 +1,7 @@
 -- Numbers that ascend along a list, and along the elements of a list that pass a test: by index.
 -- Assumes nothing.
-use mathlib.Core.Path.{_≡_, refl, _∙_, ap}
-use mathlib.Core.Bool.{Bool, true}
-use mathlib.Core.List.{List, [], _∷_, map}
-use Prim.Native.Nat.{ℕ, zero, suc, _≤_, _<_}
-use native.Mathlib.Omega.{arith}
-use lib.Dec.{leb}
-use lib.ListN.{length, getD}
-use borrow.Author.Tests.{leb-true}
-use Rattle.laws.specs.Choice.{pick, by-bool}
-use Rattle.laws.specs.Lists.{select}
-use Rattle.laws.specs.Tests.{every}
-use Rattle.laws.specs.Truth.{and-left, and-right}
+use Rattle.laws.specs.Basics.{_≡_, refl, _∙_, ap, Bool, true, List, [], _∷_, map, ℕ, zero, suc, _≤_, _<_, arith, leb, length, getD, leb-true, pick, by-bool}
+use Rattle.laws.specs.{Lists.select, Tests.every, Truth.and-left, Truth.and-right}
 use Rattle.model.specs.Sound.{ascending}
 
 module _ {A : Type 0} (number : A → ℕ) (d : A) where

@@ -1,12 +1,7 @@
 -- The layout, tried on words that are written out: the run that they stand for is computed.
 -- Assumes nothing.
-use mathlib.Core.Path.{_≡_, refl}
-use mathlib.Core.List.{List, [], _∷_, _++_}
-use Prim.Native.Nat.{ℕ}
-use lib.ListN.{replicate}
-use Rattle.laws.specs.Lists.{select, table, placed}
-use Rattle.laws.specs.Sums.{sumBelow}
-use Rattle.laws.specs.Tests.{some-of}
+use Rattle.laws.specs.Basics.{_≡_, refl, List, [], _∷_, _++_, ℕ, replicate}
+use Rattle.laws.specs.{Lists.select, Lists.table, Lists.placed, Sums.sumBelow, Tests.some-of}
 use Rattle.model.specs.Words.{isPinned, blank, blocksOf, blockCount, process, withProcess, underWay, withMessages, withDisk}
 use Rattle.model.specs.Steps.{settled, gone, billed, withProcesses, startState, started, checkpointZero, opening, checkpointState, checkpointed, advanced, storing, sendState, sentMessage, marked}
 use Rattle.words.specs.Layout.{wide4, pinOf, vectorIn, pinsIn, markIn, checkpointIn, isKeptIn, keptIn, messageIn, isMessage, messagesIn, decoded, endFits, fits, runOf}

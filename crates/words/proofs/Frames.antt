@@ -1,12 +1,8 @@
 -- Changes one after the other, and what they leave of the words that frames speak of.
 -- Assumes nothing.
-use mathlib.Core.Path.{_≡_, refl, _∙_}
-use mathlib.Core.List.{List}
-use Prim.Native.Nat.{ℕ, _+_, _≤_, _<_}
-use native.Mathlib.Omega.{arith}
+use Rattle.laws.specs.Basics.{_≡_, refl, _∙_, List, ℕ, _+_, _≤_, _<_, arith}
 use Rattle.laws.specs.Rows.{by-lt}
-use Rattle.words.specs.Layout.{word, keptCountAt, markAt, blocksAt, partAt}
-use Rattle.words.specs.Frames.{OnlyProcess, OnlyDisk}
+use Rattle.words.specs.{Layout.word, Layout.keptCountAt, Layout.markAt, Layout.blocksAt, Layout.partAt, Frames.OnlyProcess, Frames.OnlyDisk}
 
 pub process-stays : (w : List ℕ) (p : ℕ) → OnlyProcess w w p
 process-stays w p = record { size = refl; front = λ k a b c. refl; lower = λ k a b. refl; upper = λ k a. refl }

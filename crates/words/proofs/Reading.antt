@@ -1,22 +1,11 @@
 -- Reading after puts: what was put, and what was not touched.
 -- Assumes nothing.
-use mathlib.Core.Path.{_≡_, refl, sym, _∙_, ap}
-use mathlib.Core.Bool.{true}
-use mathlib.Core.List.{List, [], _∷_}
-use Prim.Native.Nat.{ℕ, zero, suc, _+_, _-_, _*_, _/_, _%_, _≤_, _<_}
+use Rattle.laws.specs.Basics.{_≡_, refl, sym, _∙_, ap, true, List, [], _∷_, ℕ, zero, suc, _+_, _-_, _*_, _/_, _%_, _≤_, _<_, arith, eqb, length, getD, drop, set, length-set, getD-set-same, getD-set-other, eq-eqb, ne-eqb, eqb-true, by-eq}
 use native.Mathlib.Nat.{add-zero, div-add-mod}
 use native.Mathlib.Numerals.{add-one}
-use native.Mathlib.Omega.{arith}
-use lib.Dec.{eqb}
-use lib.ListN.{length, getD, set, drop, length-set}
-use lib.Seq.{getD-set-same, getD-set-other}
-use borrow.Author.Tests.{eq-eqb, ne-eqb, eqb-true}
-use Rattle.laws.specs.Choice.{by-eq}
 use Rattle.model.specs.Words.{names}
-use Rattle.model.specs.declared.Pin.the-variants.{At}
-use Rattle.model.specs.declared.CheckpointIndex.{CheckpointIndex}
-use Rattle.words.specs.Layout.{word, indexOf, pinOf}
-use Rattle.words.specs.Puts.{Put, putFrom, puts}
+use Rattle.model.specs.declared.{Pin.the-variants.At, CheckpointIndex.CheckpointIndex}
+use Rattle.words.specs.{Layout.word, Layout.indexOf, Layout.pinOf, Puts.Put, Puts.putFrom, Puts.puts}
 
 module _ (w : List ℕ) (at : ℕ) (f : ℕ → ℕ) where
   put-length : (n : ℕ) → length (putFrom w at n f) ≡ length w

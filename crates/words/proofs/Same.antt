@@ -1,10 +1,6 @@
 -- Words that agree on a section are read the same there, and what was put is read back.
 -- Assumes nothing.
-use mathlib.Core.Path.{_≡_, refl, sym, ap}
-use mathlib.Core.List.{List, [], _∷_}
-use Prim.Native.Nat.{ℕ, _+_, _*_, _≤_, _<_}
-use native.Mathlib.Omega.{arith}
-use lib.ListN.{length, getD}
+use Rattle.laws.specs.Basics.{_≡_, refl, sym, ap, List, [], _∷_, ℕ, _+_, _*_, _≤_, _<_, arith, length, getD}
 use Rattle.laws.specs.Tables.{length-table, getD-table, table-same, table-is}
 use Rattle.model.specs.declared.Interval.{Interval}
 use Rattle.model.specs.Words.{entry}

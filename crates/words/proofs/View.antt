@@ -1,21 +1,10 @@
 -- What the run that words stand for holds: its count, each process's part, own entries, the messages under way; and the sizes of its parts.
 -- Assumes nothing.
-use mathlib.Core.Path.{_≡_, sym, _∙_, ap}
-use mathlib.Core.Bool.{true, false}
-use mathlib.Core.List.{List, [], _++_}
-use Prim.Native.Nat.{ℕ, _+_, _-_, _≤_, _<_}
-use native.Mathlib.Omega.{arith}
-use lib.Dec.{eqb, ltb, leb}
-use lib.ListN.{length, getD, take, replicate, getD-replicate, List·getD-append}
-use lib.Seq.{length-take-le, getD-take, getD-append-add, ext-getD}
-use borrow.Author.Tests.{lt-ltb, le-ltb, eqb-true, eq-eqb, ne-eqb, leb-true}
-use Rattle.laws.specs.Choice.{pick, by-bool}
-use Rattle.laws.specs.Lists.{table, placed}
-use Rattle.laws.specs.Prefixes.{placed-length}
-use Rattle.laws.specs.Rows.{by-lt}
-use Rattle.laws.specs.Select.{select-length}
+use Rattle.laws.specs.Basics.{_≡_, sym, _∙_, ap, true, false, List, [], _++_, ℕ, _+_, _-_, _≤_, _<_, arith, eqb, ltb, leb, length, getD, take, replicate, getD-replicate, length-take-le, eq-eqb, ne-eqb, eqb-true, lt-ltb, le-ltb, leb-true, pick, by-bool}
+use lib.ListN.{List·getD-append}
+use lib.Seq.{getD-take, getD-append-add, ext-getD}
+use Rattle.laws.specs.{Lists.table, Lists.placed, Prefixes.placed-length, Rows.by-lt, Select.select-length, Truth.and-out}
 use Rattle.laws.specs.Tables.{length-table, getD-table, table-is, take-placed}
-use Rattle.laws.specs.Truth.{and-out}
 use Rattle.model.specs.declared.Run.{Run}
 use Rattle.model.specs.Words.{mostProcesses, mostUnderWay, zeroVector, noPins, noCheckpoint, noMessage, blank, process, own, underWay}
 use Rattle.words.specs.Layout.{stateSize, word, wide2, wide4, countOf, endOf, keptCountAt, indexAt, partAt, pinsAt, intervalOf, vectorIn, pinsIn, markIn, checkpointIn, isKeptIn, keptIn, messageIn, isMessage, messagesIn, ofProcesses, decoded, endFits, fits, runOf}

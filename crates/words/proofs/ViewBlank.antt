@@ -1,24 +1,12 @@
 -- Words of zeros but for n and for block counts: "a state of zeros with every pin none", with its count. A start goes on from here, process by process.
 -- Assumes nothing.
-use mathlib.Core.Path.{_≡_, refl, sym, _∙_, ap}
-use mathlib.Core.Bool.{true, false}
-use mathlib.Core.List.{List, []}
-use Prim.Native.Nat.{ℕ, _+_, _≤_, _<_}
-use native.Mathlib.Omega.{arith}
-use lib.Dec.{ltb}
-use lib.ListN.{length, replicate, getD-replicate}
-use borrow.Author.Tests.{le-ltb}
-use Rattle.laws.specs.Choice.{pick, pick-same}
-use Rattle.laws.specs.Lists.{select, table}
-use Rattle.laws.specs.Prefixes.{placed-none}
-use Rattle.laws.specs.Tables.{table-same, table-replicate}
-use Rattle.model.specs.declared.Interval.{Interval}
-use Rattle.model.specs.declared.Pin.the-variants.{Nothing}
+use Rattle.laws.specs.Basics.{_≡_, refl, sym, _∙_, ap, true, false, List, [], ℕ, _+_, _≤_, _<_, arith, ltb, length, replicate, getD-replicate, le-ltb, pick}
+use Rattle.laws.specs.{Choice.pick-same, Lists.select, Lists.table, Prefixes.placed-none, Tables.table-same, Tables.table-replicate}
+use Rattle.model.specs.declared.{Interval.Interval, Pin.the-variants.Nothing}
 use Rattle.model.specs.Words.{mostProcesses, mostUnderWay, zeroVector, noPins, noCheckpoint, noMessage, blank}
 use Rattle.words.specs.Layout.{word, countOf, keptCountAt, markAt, blocksAt, partAt, pinsAt, indexAt, causeAt, storedAt, lowAt, highAt, senderAt, receiverAt, carriedAt, pinOf, vectorIn, pinsIn, markIn, checkpointIn, isKeptIn, keptIn, messagesIn, ofProcesses, decoded, endFits, fits, runOf}
 use Rattle.words.specs.Clean.{Clean}
-use Rattle.words.proofs.Same.{vector-is}
-use Rattle.words.proofs.View.{run-fits, fits-by}
+use Rattle.words.proofs.{Same.vector-is, View.run-fits, View.fits-by}
 
 module _ (w : List ℕ) (front : (k : ℕ) → 1 ≤ k → k < 48 → word w k ≡ 0) (rest : (k : ℕ) → 64 ≤ k → word w k ≡ 0) where
   zero-vector : (at : ℕ) → 64 ≤ at → vectorIn w at ≡ zeroVector

@@ -1,22 +1,11 @@
 -- Words that agree outside of one process, outside of the messages, or outside of the two numbers of blocks stand for runs that differ there alone.
 -- Assumes nothing.
-use mathlib.Core.Path.{_≡_, refl, sym, _∙_, ap}
-use mathlib.Core.Bool.{true, false}
-use mathlib.Core.List.{List}
-use Prim.Native.Nat.{ℕ, _+_, _-_, _≤_, _<_}
-use native.Mathlib.Omega.{arith}
-use lib.Dec.{ltb}
-use lib.ListN.{length, set, replicate}
-use borrow.Author.Tests.{lt-ltb}
-use Rattle.laws.specs.Choice.{pick, by-eq}
-use Rattle.laws.specs.Lists.{select}
-use Rattle.laws.specs.Tables.{table-same, table-set}
-use Rattle.laws.specs.Update.{upd, upd-same, upd-other}
+use Rattle.laws.specs.Basics.{_≡_, refl, sym, _∙_, ap, true, false, List, ℕ, _+_, _-_, _≤_, _<_, arith, ltb, length, set, replicate, lt-ltb, pick, by-eq}
+use Rattle.laws.specs.{Lists.select, Tables.table-same, Tables.table-set, Update.upd, Update.upd-same, Update.upd-other}
 use Rattle.model.specs.declared.Run.{Run}
 use Rattle.model.specs.Words.{mostProcesses, zeroVector, noPins, noCheckpoint, withProcess, withMessages, withDisk}
 use Rattle.words.specs.Layout.{word, wide2, wide4, countOf, endOf, keptCountAt, markAt, blocksAt, partAt, pinsAt, lowAt, highAt, senderAt, receiverAt, carriedAt, vectorIn, pinsIn, markIn, keptIn, messageIn, isMessage, messagesIn, ofProcesses, decoded, endFits, fits, runOf}
-use Rattle.words.specs.Parts.{processIn}
-use Rattle.words.specs.Frames.{OnlyProcess, OnlyMessages, OnlyDisk}
+use Rattle.words.specs.{Parts.processIn, Frames.OnlyProcess, Frames.OnlyMessages, Frames.OnlyDisk}
 use Rattle.words.proofs.Same.{vector-same, pins-same, kept-same, message-same}
 use Rattle.words.proofs.Frames.{process-head, process-blocks, process-kept-count, process-mark, process-part, process-message-words}
 use Rattle.words.proofs.View.{run-fits, fits-size, fits-end, fits-by, kept-placed, kept-count}

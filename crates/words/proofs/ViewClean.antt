@@ -1,14 +1,8 @@
 -- What keeps unused places zero: for each of the three changes, what has to be shown of the places that it touches.
 -- Assumes nothing.
-use mathlib.Core.Path.{_≡_, sym, _∙_}
-use mathlib.Core.List.{List}
-use Prim.Native.Nat.{ℕ, _+_, _≤_, _<_}
-use native.Mathlib.Omega.{arith}
-use Rattle.laws.specs.Choice.{by-eq}
+use Rattle.laws.specs.Basics.{_≡_, sym, _∙_, List, ℕ, _+_, _≤_, _<_, arith, by-eq}
 use Rattle.words.specs.Layout.{word, countOf, endOf, keptCountAt, markAt, blocksAt, partAt, indexAt, causeAt, storedAt, lowAt, highAt, senderAt, receiverAt, carriedAt}
-use Rattle.words.specs.Parts.{isUsedIn}
-use Rattle.words.specs.Frames.{OnlyProcess, OnlyMessages, OnlyDisk}
-use Rattle.words.specs.Clean.{CleanKept, CleanMessages, Clean}
+use Rattle.words.specs.{Parts.isUsedIn, Frames.OnlyProcess, Frames.OnlyMessages, Frames.OnlyDisk, Clean.CleanKept, Clean.CleanMessages, Clean.Clean}
 use Rattle.words.proofs.Frames.{process-head, process-blocks, process-kept-count, process-mark, process-part, process-message-words}
 use Rattle.words.proofs.ViewChange.{message-words-same}
 

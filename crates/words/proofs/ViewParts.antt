@@ -1,17 +1,11 @@
 -- A process's part put together from its rows, what each of the three changes leaves as it was, and process after process changed.
 -- Assumes nothing.
-use mathlib.Core.Path.{_≡_, _∙_}
-use mathlib.Core.Bool.{true}
-use mathlib.Core.List.{List}
-use Prim.Native.Nat.{ℕ, _+_, _≤_, _<_}
+use Rattle.laws.specs.Basics.{_≡_, _∙_, true, List, ℕ, _+_, _≤_, _<_, take}
 use native.Mathlib.Numerals.{add-one}
-use lib.ListN.{take}
 use Rattle.model.specs.declared.Run.{Run}
-use Rattle.model.specs.Words.{Process}
-use Rattle.model.specs.Steps.{withProcesses}
+use Rattle.model.specs.{Words.Process, Steps.withProcesses}
 use Rattle.words.specs.Layout.{word, countOf, keptCountAt, partAt, pinsAt, vectorIn, pinsIn, markIn, keptIn, fits, runOf}
-use Rattle.words.specs.Parts.{processIn}
-use Rattle.words.specs.Frames.{OnlyProcess}
+use Rattle.words.specs.{Parts.processIn, Frames.OnlyProcess}
 use Rattle.words.proofs.ViewChange.{with-process}
 
 -- A process by its four parts.

@@ -1,30 +1,13 @@
 -- What the rows of words hold whose run is sound: no entry above the own entry that it is of, zeros at n and above, each pin at a kept checkpoint and each kept
 -- checkpoint pinned.
 -- Assumes nothing.
-use mathlib.Core.Path.{_≡_, ap}
-use mathlib.Core.Bool.{Bool, true}
-use mathlib.Core.List.{List}
-use Prim.Native.Nat.{ℕ, _+_, _≤_, _<_}
-use native.Mathlib.Omega.{arith}
-use lib.Dec.{eqb, leb}
-use lib.ListN.{getD}
-use borrow.Author.Tests.{eqb-true, leb-true}
-use Rattle.laws.specs.Lists.{table}
-use Rattle.laws.specs.Rows.{every-at, every-beyond, some-where}
-use Rattle.laws.specs.Search.{all-out}
-use Rattle.laws.specs.Tables.{length-table, getD-table}
-use Rattle.laws.specs.Tests.{every}
-use Rattle.model.specs.declared.Interval.{Interval}
-use Rattle.model.specs.declared.Pin.{Pin}
-use Rattle.model.specs.declared.Pin.the-variants.{Nothing}
-use Rattle.model.specs.declared.Checkpoint.{Checkpoint}
-use Rattle.model.specs.Words.{entry, names, isPinned, noCheckpoint, process, own}
-use Rattle.model.specs.Sound.{within, zeroFrom, sound}
+use Rattle.laws.specs.Basics.{_≡_, ap, Bool, true, List, ℕ, _+_, _≤_, _<_, arith, eqb, leb, getD, eqb-true, leb-true}
+use Rattle.laws.specs.{Lists.table, Rows.every-at, Rows.every-beyond, Rows.some-where, Search.all-out, Tables.length-table, Tables.getD-table, Tests.every}
+use Rattle.model.specs.declared.{Interval.Interval, Pin.Pin, Pin.the-variants.Nothing, Checkpoint.Checkpoint}
+use Rattle.model.specs.{Words.entry, Words.names, Words.isPinned, Words.noCheckpoint, Words.process, Words.own, Sound.within, Sound.zeroFrom, Sound.sound}
 use Rattle.words.specs.Layout.{word, countOf, keptCountAt, partAt, pinsAt, indexAt, storedAt, pinOf, vectorIn, pinsIn, checkpointIn, runOf}
 use Rattle.words.specs.Parts.{processIn}
-use Rattle.words.proofs.Reading.{pinned-word}
-use Rattle.words.proofs.Same.{vector-length, vector-word, pins-length}
-use Rattle.words.proofs.View.{count-is}
+use Rattle.words.proofs.{Reading.pinned-word, Same.vector-length, Same.vector-word, Same.pins-length, View.count-is}
 use Rattle.words.proofs.ViewSound.{sound-fits, sound-few, sound-known, sound-process-is, sound-own-is, sound-kept-is, sound-part}
 
 pins-word : (w : List ℕ) (at f : ℕ) → f < 16 → getD (pinsIn w at) f Nothing ≡ pinOf (word w (at + f))

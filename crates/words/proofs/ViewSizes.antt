@@ -1,23 +1,11 @@
 -- The sizes of the arrays of the run that words stand for: 16 rows of 16 places, 64 messages, each vector of 16. They hold of all words.
 -- Assumes nothing.
-use mathlib.Core.Path.{_≡_, refl, _∙_, ap}
-use mathlib.Core.Bool.{true}
-use mathlib.Core.List.{List, []}
-use Prim.Native.Nat.{ℕ, _<_}
-use native.Mathlib.Omega.{arith}
-use lib.ListN.{length, getD, replicate, getD-replicate}
-use Rattle.laws.specs.Choice.{pick, by-bool}
-use Rattle.laws.specs.Lists.{table}
-use Rattle.laws.specs.Prefixes.{placed-length}
-use Rattle.laws.specs.Rows.{by-lt}
-use Rattle.laws.specs.Tables.{length-table, getD-table}
-use Rattle.model.specs.declared.Checkpoint.{Checkpoint}
-use Rattle.model.specs.declared.Message.{Message}
-use Rattle.model.specs.declared.Run.{Run}
+use Rattle.laws.specs.Basics.{_≡_, refl, _∙_, ap, true, List, [], ℕ, _<_, arith, length, getD, replicate, getD-replicate, pick, by-bool}
+use Rattle.laws.specs.{Lists.table, Prefixes.placed-length, Rows.by-lt, Tables.length-table, Tables.getD-table}
+use Rattle.model.specs.declared.{Checkpoint.Checkpoint, Message.Message, Run.Run}
 use Rattle.model.specs.Words.{mostProcesses, mostUnderWay, zeroVector, noPins, noCheckpoint, noMessage, blank}
 use Rattle.words.specs.Layout.{countOf, endOf, partAt, pinsAt, storedAt, carriedAt, vectorIn, pinsIn, checkpointIn, isKeptIn, keptIn, messageIn, isMessage, messagesIn, ofProcesses, decoded, fits, runOf}
-use Rattle.words.proofs.Ascending.{selected-where}
-use Rattle.words.proofs.Same.{vector-length, pins-length}
+use Rattle.words.proofs.{Ascending.selected-where, Same.vector-length, Same.pins-length}
 use Rattle.words.proofs.View.{run-fits, run-unfit, part-is, part-past, kept-length, placed-at, placed-past, messages-most}
 
 module _ (w : List ℕ) where

@@ -1,35 +1,17 @@
 -- What words hold whose run is sound: each clause of document 01's "A sound state", place by place.
 -- Assumes nothing.
-use mathlib.Core.Path.{_≡_, sym, _∙_, ap}
-use mathlib.Core.Bool.{true, _&&_}
-use mathlib.Core.List.{List, map}
-use mathlib.Core.Option.{some}
-use Prim.Native.Nat.{ℕ, suc, _+_, _-_, _≤_, _<_}
-use native.Mathlib.Omega.{arith}
-use lib.Dec.{eqb, leb}
-use lib.ListN.{length, getD, take}
-use lib.Seq.{getD-take, length-take-le}
-use borrow.Author.Tests.{eqb-true, eqb-false, leb-true, not-true}
-use Rattle.laws.specs.Choice.{by-bool, by-eq}
-use Rattle.laws.specs.Lists.{select, lastOf, table, placed}
-use Rattle.laws.specs.Prefixes.{placed-length}
-use Rattle.laws.specs.Rows.{by-lt, every-at, every-beyond}
-use Rattle.laws.specs.Select.{lastOf-snoc}
-use Rattle.laws.specs.Tables.{length-table, getD-table}
-use Rattle.laws.specs.Tests.{every}
-use Rattle.laws.specs.Truth.{and-out}
-use Rattle.model.specs.declared.Interval.{Interval}
-use Rattle.model.specs.declared.Pin.the-variants.{Nothing}
-use Rattle.model.specs.declared.Checkpoint.{Checkpoint}
-use Rattle.model.specs.declared.Message.{Message}
+use Rattle.laws.specs.Basics.{_≡_, sym, _∙_, ap, true, _&&_, List, map, some, ℕ, suc, _+_, _-_, _≤_, _<_, arith, eqb, leb, length, getD, take, length-take-le, eqb-true, eqb-false, leb-true, not-true, by-bool, by-eq}
+use lib.Seq.{getD-take}
+use Rattle.laws.specs.{Lists.select, Lists.lastOf, Lists.table, Lists.placed, Prefixes.placed-length, Rows.by-lt, Rows.every-at, Rows.every-beyond, Tests.every}
+use Rattle.laws.specs.{Select.lastOf-snoc, Tables.length-table, Tables.getD-table, Truth.and-out}
+use Rattle.model.specs.declared.{Interval.Interval, Pin.the-variants.Nothing, Checkpoint.Checkpoint, Message.Message}
 use Rattle.model.specs.Words.{mostProcesses, mostUnderWay, mostMessages, mostBlockCount, mostBlocks, entry, Process, noCheckpoint, noMessage, blockCount, blank, process, own, underWay}
 use Rattle.model.specs.Sound.{ascending, messageSound, unusedMessage, causeSound, isBlockCount, recordSound, sound}
 use Rattle.model.specs.laws.Sound.{SoundProcess, SoundState, sound-message, sound-state}
 use Rattle.words.specs.Layout.{word, wide2, wide4, countOf, endOf, keptCountAt, blocksAt, partAt, pinsAt, indexAt, storedAt, intervalOf, pinOf, vectorIn, pinsIn, checkpointIn, keptIn, messageIn, isMessage, messagesIn, fits, runOf}
 use Rattle.words.specs.Parts.{processIn}
 use Rattle.words.proofs.Ascending.{ascending-least, ascending-less, selected-less, every-selected, selected-passes}
-use Rattle.words.proofs.Reading.{pinned-word}
-use Rattle.words.proofs.Same.{vector-word}
+use Rattle.words.proofs.{Reading.pinned-word, Same.vector-word}
 use Rattle.words.proofs.View.{run-unfit, fits-size, fits-end, end-most, kept-length, kept-at, kept-none, kept-table, kept-placed, placed-at, placed-past, count-is, underway-is, last-is, written-is, deleted-is, messages-is, messages-most, under-way-is, kept-count-is, process-is, own-is}
 
 -- What they hold of process p.

@@ -1,9 +1,6 @@
 -- Every place that is not in use is zero: so words that are stored hold nothing of what was deleted. No call relies on it.
 -- Assumes nothing.
-use mathlib.Core.Path.{_≡_}
-use mathlib.Core.Bool.{false}
-use mathlib.Core.List.{List}
-use Prim.Native.Nat.{ℕ, _+_, _≤_, _<_}
+use Rattle.laws.specs.Basics.{_≡_, false, List, ℕ, _+_, _≤_, _<_}
 use Rattle.model.specs.Words.{mostProcesses, mostUnderWay}
 use Rattle.words.specs.Layout.{word, countOf, keptCountAt, markAt, blocksAt, partAt, indexAt, causeAt, storedAt, lowAt, highAt, senderAt, receiverAt, carriedAt}
 use Rattle.words.specs.Parts.{isUsedIn}

@@ -1,9 +1,6 @@
 -- What stays of words when a call changes one thing in them: v is what it leaves of w. Each word that is not named here is as it was.
 -- Assumes nothing.
-use mathlib.Core.Path.{_≡_}
-use mathlib.Core.List.{List}
-use Prim.Native.Nat.{ℕ, _+_, _≤_, _<_}
-use lib.ListN.{length}
+use Rattle.laws.specs.Basics.{_≡_, List, ℕ, _+_, _≤_, _<_, length}
 use Rattle.words.specs.Layout.{word, keptCountAt, markAt, partAt}
 
 -- Only process p has changed: how many checkpoints it keeps, its mark, the 320 words of its part. Its block count stays.

@@ -1,20 +1,10 @@
 -- Which run the words stand for that a caller lends: 6,464 words of 16 bits, each thing at a fixed place. The decoder is total: every list of words is a state.
 -- What stands in a place that is not in use counts for nothing: it is read as zero. A row that is in use is read whole, all its 16 entries.
 -- Assumes nothing.
-use mathlib.Core.Bool.{Bool, false, _&&_, _||_, not}
-use mathlib.Core.List.{List}
-use Prim.Native.Nat.{ℕ, zero, suc, _+_, _-_, _*_}
-use lib.Dec.{eqb, ltb, leb}
-use lib.ListN.{length, getD, replicate}
-use Rattle.laws.specs.Choice.{pick}
+use Rattle.laws.specs.Basics.{Bool, false, not, _&&_, _||_, List, ℕ, zero, suc, _+_, _-_, _*_, eqb, ltb, leb, length, getD, replicate, pick}
 use Rattle.laws.specs.Lists.{select, table, placed}
-use Rattle.model.specs.declared.Interval.{Interval}
-use Rattle.model.specs.declared.CheckpointIndex.{CheckpointIndex}
-use Rattle.model.specs.declared.Pin.{Pin}
-use Rattle.model.specs.declared.Pin.the-variants.{Nothing, At}
-use Rattle.model.specs.declared.Checkpoint.{Checkpoint}
-use Rattle.model.specs.declared.Message.{Message}
-use Rattle.model.specs.declared.Run.{Run}
+use Rattle.model.specs.declared.{Interval.Interval, CheckpointIndex.CheckpointIndex, Pin.Pin, Pin.the-variants.Nothing, Pin.the-variants.At, Message.Message}
+use Rattle.model.specs.declared.{Checkpoint.Checkpoint, Run.Run}
 use Rattle.model.specs.Words.{mostProcesses, mostUnderWay, zeroVector, noPins, noCheckpoint, noMessage, blank}
 
 -- How many words a state is.

@@ -1,10 +1,6 @@
 -- The part of the words that is one process's.
 -- Assumes nothing.
-use mathlib.Core.Bool.{Bool, _&&_}
-use mathlib.Core.List.{List}
-use Prim.Native.Nat.{ℕ}
-use lib.Dec.{ltb}
-use lib.ListN.{take}
+use Rattle.laws.specs.Basics.{Bool, _&&_, List, ℕ, ltb, take}
 use Rattle.model.specs.Words.{Process}
 use Rattle.words.specs.Layout.{word, endOf, keptCountAt, partAt, pinsAt, vectorIn, pinsIn, markIn, keptIn, messageIn, isMessage}
 

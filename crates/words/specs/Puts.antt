@@ -1,8 +1,6 @@
 -- Words put in place. A put fills a section, given by its place and its size; what a call leaves of the words is a list of puts, done one after the other.
 -- Assumes nothing.
-use mathlib.Core.List.{List, [], _∷_}
-use Prim.Native.Nat.{ℕ, zero, suc, _+_, _/_, _%_}
-use lib.ListN.{getD, set}
+use Rattle.laws.specs.Basics.{List, [], _∷_, ℕ, zero, suc, _+_, _/_, _%_, getD, set}
 use Rattle.model.specs.declared.Interval.{Interval}
 use Rattle.model.specs.Words.{mostProcesses, entry}
 

@@ -1,17 +1,11 @@
 // The messages under way, in 64 places of the words. A place is in use before the end of those in use, and where its number is not 0; no function looks at another
 // place. A message that is received or lost leaves its place unused and no other moves, until a send finds the last place taken: then the messages close up.
+use crate::places;
 use model::MESSAGES;
 use model::Message;
-use crate::places;
-ghost use mathlib.Core.Path.{_≡_};
-ghost use Prim.Native.Nat.{_+_, _-_, _≤_, _<_};
-ghost use mathlib.Core.Bool.{_&&_};
-ghost use lib.Dec.{eqb, ltb};
-ghost use lib.ListN.{length};
-ghost use Rattle.laws.specs.Choice.{pick};
+ghost use Rattle.laws.specs.Basics.{_≡_, _&&_, _+_, _-_, _≤_, _<_, eqb, ltb, length, pick};
 ghost use Rattle.model.specs.Words.{mostUnderWay, mostProcesses};
-ghost use Rattle.words.specs.Layout.{word, endOf, messageIn, isMessage, stateSize};
-ghost use Rattle.words.specs.Puts.{puts};
+ghost use Rattle.words.specs.{Layout.word, Layout.endOf, Layout.messageIn, Layout.isMessage, Layout.stateSize, Puts.puts};
 ghost use Rattle.words.specs.messages.Places.{placeOf, foundAt, endBelow, messagePuts, cleared, takenOut, movedTo, closing, clearedFrom, closedUp, withRoom, putLast};
 
 // The place of a message that is under way.

@@ -1,8 +1,7 @@
 // Where each thing stands, as specs/Layout has it: the number of its first word. The functions say so, and a wrong number here would fail them.
 use model::MESSAGES;
 use model::PROCESSES;
-ghost use mathlib.Core.Path.{_≡_};
-ghost use Prim.Native.Nat.{_<_};
+ghost use Rattle.laws.specs.Basics.{_≡_, _<_};
 ghost use Rattle.model.specs.Words.{mostProcesses, mostUnderWay};
 ghost use Rattle.words.specs.Layout.{keptCountAt, markAt, blocksAt, partAt, pinsAt, indexAt, causeAt, storedAt, lowAt, highAt, senderAt, receiverAt, carriedAt};
 

@@ -1,28 +1,14 @@
 -- Where the words stand for a sound state and the indexes are those of the line for a failed set, the messages that are lost are those of Steps.
 -- Assumes nothing.
-use mathlib.Core.Path.{_≡_, sym, _∙_, ap}
-use mathlib.Core.Bool.{Bool, true, false, not}
-use mathlib.Core.List.{List}
-use Prim.Native.Nat.{ℕ, _<_}
-use native.Mathlib.Omega.{arith}
-use lib.Dec.{ltb}
-use lib.ListN.{length, getD}
-use Rattle.laws.specs.Lists.{select}
-use Rattle.laws.specs.Prefixes.{select-same-on}
-use Rattle.model.specs.declared.CheckpointIndex.{CheckpointIndex}
-use Rattle.model.specs.declared.Message.{Message}
-use Rattle.model.specs.declared.Run.{Run}
-use Rattle.model.specs.Words.{entry, underWay}
-use Rattle.model.specs.Sound.{messageSound, sound}
-use Rattle.model.specs.Steps.{member, lostBy, stillUnderWay}
-use Rattle.model.specs.Refusals.{noMember}
+use Rattle.laws.specs.Basics.{_≡_, sym, _∙_, ap, Bool, true, false, not, List, ℕ, _<_, arith, ltb, length, getD}
+use Rattle.laws.specs.{Lists.select, Prefixes.select-same-on}
+use Rattle.model.specs.declared.{CheckpointIndex.CheckpointIndex, Message.Message, Run.Run}
+use Rattle.model.specs.{Words.entry, Words.underWay, Sound.messageSound, Sound.sound, Steps.member, Steps.lostBy, Steps.stillUnderWay, Refusals.noMember}
 use Rattle.model.specs.laws.Sound.{sound-state, sound-message}
 use Rattle.words.specs.Layout.{countOf, endOf, messageIn, messagesIn, runOf}
-use Rattle.words.proofs.View.{count-is}
-use Rattle.words.proofs.ViewSound.{SoundWords, sound-words}
-use Rattle.words_line.specs.Line.{limitsIn, pastsIn, indexesIn}
+use Rattle.words.proofs.{View.count-is, ViewSound.SoundWords, ViewSound.sound-words}
+use Rattle.words_line.specs.{Line.limitsIn, Line.pastsIn, Line.indexesIn, Sifted.lostTo, Sifted.SendersPresent}
 use Rattle.words_line.proofs.LineRule.{indexes-at}
-use Rattle.words_line.specs.Sifted.{lostTo, SendersPresent}
 
 -- The indexes of the members of the line for the failed set F.
 abbrev pub lineIndexes : List ℕ → ℕ → List CheckpointIndex

@@ -1,30 +1,14 @@
 -- What is left of the messages under way where the lost ones leave their places.
 -- Assumes nothing.
-use mathlib.Core.Path.{_≡_, refl, sym, _∙_, ap}
-use mathlib.Core.Bool.{Bool, true, false, not, _&&_, _||_}
-use mathlib.Core.List.{List, [], _∷_}
-use Prim.Native.Nat.{ℕ, zero, suc, _+_, _-_, _≤_, _<_}
-use native.Mathlib.Omega.{arith}
-use lib.Dec.{eqb, leb}
-use lib.ListN.{length}
-use borrow.Author.Tests.{le-leb}
-use Rattle.laws.specs.Choice.{pick, by-bool, by-eq}
-use Rattle.laws.specs.Lists.{select, table}
-use Rattle.laws.specs.Rows.{by-lt}
-use Rattle.laws.specs.Select.{select-select}
-use Rattle.laws.specs.Tables.{table-same}
+use Rattle.laws.specs.Basics.{_≡_, refl, sym, _∙_, ap, Bool, true, false, not, _&&_, _||_, List, [], _∷_, ℕ, zero, suc, _+_, _-_, _≤_, _<_, arith, eqb, leb, length, le-leb, pick, by-bool, by-eq}
+use Rattle.laws.specs.{Lists.select, Lists.table, Rows.by-lt, Select.select-select, Tables.table-same}
 use Rattle.laws.specs.Truth.{never-both, and-out, and-both, or-in-right}
-use Rattle.model.specs.declared.CheckpointIndex.{CheckpointIndex}
-use Rattle.model.specs.declared.Message.{Message}
-use Rattle.words.specs.Layout.{stateSize, word, endOf, messageIn, isMessage, messagesIn, endFits}
-use Rattle.words.specs.Parts.{isUsedIn}
-use Rattle.words.specs.Clean.{CleanMessages}
-use Rattle.words.specs.Puts.{Put, puts, one}
-use Rattle.words.proofs.Reading.{puts-length, untouched, touched}
-use Rattle.words.specs.messages.Places.{cleared, endBelow}
+use Rattle.model.specs.declared.{CheckpointIndex.CheckpointIndex, Message.Message}
+use Rattle.words.specs.{Layout.stateSize, Layout.word, Layout.endOf, Layout.messageIn, Layout.isMessage, Layout.messagesIn, Layout.endFits, Parts.isUsedIn}
+use Rattle.words.specs.{Clean.CleanMessages, Puts.Put, Puts.puts, Puts.one, messages.Places.cleared, messages.Places.endBelow}
+use Rattle.words.proofs.{Reading.puts-length, Reading.untouched, Reading.touched, messages.Closed.cleared-rest}
 use Rattle.words.proofs.messages.Selected.{select-tables, walked-back, end-under, end-used}
 use Rattle.words.proofs.messages.Placed.{message-stays, cleared-number, cleared-elsewhere, cleared-length}
-use Rattle.words.proofs.messages.Closed.{cleared-rest}
 use Rattle.words.proofs.messages.Zeros.{Zero, zero-at, zeros-in, zero-stays, zero-cleared, zero-elsewhere, unused-out, unused-past, unused-none, none-after}
 use Rattle.words_line.specs.Sifted.{lostTo, remains, siftedPlace, siftedBelow, Sifted}
 

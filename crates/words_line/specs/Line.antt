@@ -1,18 +1,9 @@
 -- The line rule on the words: which states of a process are within the limits that a failed set puts on the entries, and where the latest of them stands.
 -- proofs/LineRule has that they say what Steps says of the run.
 -- Assumes nothing.
-use mathlib.Core.Bool.{Bool, not}
-use mathlib.Core.List.{List}
-use mathlib.Core.Option.{Option, none, some}
-use Prim.Native.Nat.{ℕ, zero, suc, _+_, _-_, _≤_, _<_}
-use lib.Dec.{eqb, ltb, leb}
-use lib.ListN.{length, getD, replicate}
-use Rattle.laws.specs.Choice.{pick}
-use Rattle.laws.specs.Loops.{setBelow}
-use Rattle.laws.specs.Search.{allBelow}
-use Rattle.model.specs.declared.Interval.{Interval}
-use Rattle.model.specs.declared.CheckpointIndex.{CheckpointIndex}
-use Rattle.model.specs.declared.Checkpoint.{Checkpoint}
+use Rattle.laws.specs.Basics.{Bool, not, List, Option, none, some, ℕ, zero, suc, _+_, _-_, _≤_, _<_, eqb, ltb, leb, length, getD, replicate, pick}
+use Rattle.laws.specs.{Loops.setBelow, Search.allBelow}
+use Rattle.model.specs.declared.{Interval.Interval, CheckpointIndex.CheckpointIndex, Checkpoint.Checkpoint}
 use Rattle.model.specs.Words.{mostProcesses, entry, liveIndex, live, zeroVector, failed}
 use Rattle.words.specs.Layout.{word, keptCountAt, partAt, indexAt, storedAt, intervalOf, indexOf, vectorIn, checkpointIn}
 use Rattle.words.specs.Parts.{processIn}

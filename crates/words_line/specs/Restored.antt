@@ -1,10 +1,6 @@
 -- The pins of one process after a recovery, as rows of words.
 -- Assumes nothing.
-use mathlib.Core.List.{List}
-use Prim.Native.Nat.{ℕ, zero, suc}
-use lib.Dec.{eqb}
-use lib.ListN.{getD, replicate}
-use Rattle.laws.specs.Choice.{pick}
+use Rattle.laws.specs.Basics.{List, ℕ, zero, suc, eqb, getD, replicate, pick}
 use Rattle.laws.specs.Lists.{table}
 use Rattle.model.specs.declared.Interval.{Interval}
 use Rattle.model.specs.Words.{mostProcesses, entry, below}

@@ -1,20 +1,11 @@
 -- The messages that are lost where the line has given indexes, and words without them. proofs/Lost has that they are those that Steps says are lost.
 -- Assumes nothing.
-use mathlib.Core.Path.{_≡_}
-use mathlib.Core.Bool.{Bool, true, not, _&&_}
-use mathlib.Core.List.{List}
-use Prim.Native.Nat.{ℕ, zero, suc, _<_}
-use lib.Dec.{ltb}
-use lib.ListN.{length, getD}
-use Rattle.laws.specs.Choice.{pick}
+use Rattle.laws.specs.Basics.{_≡_, Bool, true, not, _&&_, List, ℕ, zero, suc, _<_, ltb, length, getD, pick}
 use Rattle.laws.specs.Lists.{select}
-use Rattle.model.specs.declared.CheckpointIndex.{CheckpointIndex}
-use Rattle.model.specs.declared.Message.{Message}
+use Rattle.model.specs.declared.{CheckpointIndex.CheckpointIndex, Message.Message}
 use Rattle.model.specs.Words.{entry, mostProcesses}
-use Rattle.words.specs.Layout.{word, wide2, senderAt, messageIn, isMessage, messagesIn, endFits}
-use Rattle.words.specs.Frames.{OnlyMessages}
-use Rattle.words.specs.Clean.{CleanMessages}
-use Rattle.words.specs.messages.Places.{cleared}
+use Rattle.words.specs.{Layout.word, Layout.wide2, Layout.senderAt, Layout.messageIn, Layout.isMessage, Layout.messagesIn, Layout.endFits, Frames.OnlyMessages}
+use Rattle.words.specs.{Clean.CleanMessages, messages.Places.cleared}
 
 -- Note 2: "a recovery loses a message exactly if its sender's entry in the carried vector is above the sender's index in the line"
 unfoldable pub lostTo : List CheckpointIndex → Message → Bool

@@ -1,15 +1,8 @@
 -- The earliest consistent line through named checkpoints (document 02, Note 8), which are pairs of numbers in a lent slice.
 -- proofs/Reaching has that they say what Earliest says of the run.
 -- Assumes nothing.
-use mathlib.Core.Bool.{Bool, false, _||_, not}
-use mathlib.Core.List.{List}
-use Prim.Native.Nat.{ℕ, zero, suc, _+_, _*_, _/_, _%_, _-_, _≤_, _<_, max}
-use lib.Dec.{eqb, ltb}
-use lib.ListN.{length, getD, replicate}
-use Rattle.laws.specs.Choice.{pick}
-use Rattle.laws.specs.Lists.{table}
-use Rattle.laws.specs.Loops.{setBelow}
-use Rattle.laws.specs.Search.{allBelow, anyBelow}
+use Rattle.laws.specs.Basics.{Bool, false, not, _||_, List, ℕ, zero, suc, _+_, _-_, _*_, _/_, _%_, _≤_, _<_, max, eqb, ltb, length, getD, replicate, pick}
+use Rattle.laws.specs.{Lists.table, Loops.setBelow, Search.allBelow, Search.anyBelow}
 use Rattle.model.specs.declared.Named.{Named}
 use Rattle.model.specs.Words.{mostProcesses}
 use Rattle.words.specs.Layout.{word, keptCountAt, indexAt, storedAt, stateSize}

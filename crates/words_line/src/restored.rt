@@ -2,14 +2,8 @@
 use model::Interval;
 use model::PROCESSES;
 use words::places;
-ghost use mathlib.Core.Path.{_≡_};
-ghost use mathlib.Core.List.{[], _∷_};
-ghost use Prim.Native.Nat.{_+_, _≤_, _<_};
-ghost use lib.Dec.{eqb};
-ghost use lib.ListN.{length};
-ghost use Rattle.laws.specs.Choice.{pick};
-ghost use Rattle.model.specs.Words.{below, mostProcesses, mostInterval};
-ghost use Rattle.model.specs.Steps.{advanced};
+ghost use Rattle.laws.specs.Basics.{_≡_, [], _∷_, _+_, _≤_, _<_, eqb, length, pick};
+ghost use Rattle.model.specs.{Words.below, Words.mostProcesses, Words.mostInterval, Steps.advanced};
 ghost use Rattle.words.specs.Layout.{word, markAt, partAt, storedAt, vectorIn, stateSize};
 ghost use Rattle.words.specs.Puts.{puts, one, vectorPut};
 ghost use Rattle.words_line.specs.Restored.{knownRow, foundRow, foundIn};

@@ -2,11 +2,7 @@
 use model::CheckpointIndex;
 use model::PROCESSES;
 use words::places;
-ghost use mathlib.Core.Path.{_≡_};
-ghost use mathlib.Core.Bool.{true};
-ghost use Prim.Native.Nat.{_≤_, _<_};
-ghost use lib.ListN.{length};
-ghost use Rattle.laws.specs.Choice.{pick};
+ghost use Rattle.laws.specs.Basics.{_≡_, true, _≤_, _<_, length, pick};
 ghost use Rattle.laws.specs.Lists.{select, table};
 ghost use Rattle.model.specs.Words.{mostProcesses, mostUnderWay};
 ghost use Rattle.words.specs.Layout.{word, endOf, senderAt, messageIn, isMessage, stateSize};

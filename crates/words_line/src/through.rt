@@ -2,14 +2,8 @@
 // process, index, process, index, and so on. Numbers of which one is left over are no pairs, and name nothing.
 use model::PROCESSES;
 use words::places;
-ghost use mathlib.Core.Path.{_≡_};
-ghost use mathlib.Core.Bool.{_||_};
-ghost use Prim.Native.Nat.{_+_, _*_, _-_, _≤_, _<_};
-ghost use lib.Dec.{eqb, ltb, leb};
-ghost use lib.ListN.{length, getD};
-ghost use lib.Seq.{sets};
-ghost use Rattle.laws.specs.Lists.{table};
-ghost use Rattle.laws.specs.Search.{anyBelow};
+ghost use Rattle.laws.specs.Basics.{_≡_, _||_, _+_, _-_, _*_, _≤_, _<_, eqb, ltb, leb, length, getD, sets};
+ghost use Rattle.laws.specs.{Lists.table, Search.anyBelow};
 ghost use Rattle.model.specs.Words.{mostProcesses};
 ghost use Rattle.words.specs.Layout.{word, keptCountAt, stateSize};
 ghost use Rattle.words_line.specs.Line.{KeptUsed};

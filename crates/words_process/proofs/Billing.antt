@@ -1,13 +1,7 @@
 -- The blocks written and deleted after a bill.
 -- Assumes nothing.
-use mathlib.Core.Path.{_≡_}
-use mathlib.Core.List.{List}
-use Prim.Native.Nat.{ℕ}
-use native.Mathlib.Omega.{arith}
-use lib.ListN.{length}
-use Rattle.words.specs.Frames.{OnlyDisk}
-use Rattle.words.specs.Layout.{wide4}
-use Rattle.words.specs.Puts.{puts, puts4}
+use Rattle.laws.specs.Basics.{_≡_, List, ℕ, arith, length}
+use Rattle.words.specs.{Frames.OnlyDisk, Layout.wide4, Puts.puts, Puts.puts4}
 use Rattle.words.proofs.Reading.{puts-length, untouched, touched, wide4-back}
 
 module _ (w : List ℕ) (size : length w ≡ 6464) (x : ℕ) where

@@ -1,30 +1,14 @@
 -- What collecting leaves of the places of kept checkpoints: those that a pin names close up, in their order, and the places after them are unused.
 -- Assumes nothing.
-use mathlib.Core.Path.{_≡_, refl, sym, _∙_, ap}
-use mathlib.Core.Bool.{Bool, true, false, not}
-use mathlib.Core.List.{List, [], _∷_, _++_, append-nil}
-use Prim.Native.Nat.{ℕ, zero, _+_, _*_, _-_, _≤_, _<_}
+use Rattle.laws.specs.Basics.{_≡_, refl, sym, _∙_, ap, Bool, true, false, not, List, [], _∷_, _++_, append-nil, ℕ, zero, _+_, _-_, _*_, _≤_, _<_, arith, length, set, length-append, sets, by-eq}
 use native.Mathlib.Numerals.{add-one}
-use native.Mathlib.Omega.{arith}
-use lib.ListN.{length, set, length-append}
-use lib.Seq.{sets}
-use Rattle.laws.specs.Choice.{by-eq}
-use Rattle.laws.specs.Elements.{every-table}
-use Rattle.laws.specs.Lists.{select, table}
-use Rattle.laws.specs.Rows.{by-lt}
+use Rattle.laws.specs.{Elements.every-table, Lists.select, Lists.table, Rows.by-lt, Tables.table-same, Tests.some-of, Written.sets-two}
 use Rattle.laws.specs.Select.{select-append, select-one, all-chosen, none-chosen}
-use Rattle.laws.specs.Tables.{table-same}
-use Rattle.laws.specs.Tests.{some-of}
-use Rattle.laws.specs.Written.{sets-two}
-use Rattle.model.specs.declared.Checkpoint.{Checkpoint}
-use Rattle.model.specs.declared.Pin.{Pin}
-use Rattle.model.specs.Words.{names, isPinned}
-use Rattle.model.specs.Steps.{listed}
+use Rattle.model.specs.declared.{Checkpoint.Checkpoint, Pin.Pin}
+use Rattle.model.specs.{Words.names, Words.isPinned, Steps.listed}
 use Rattle.whole_runs.specs.Outcomes.{pairs}
-use Rattle.words.specs.Layout.{word, blocksAt, indexAt, causeAt, storedAt, indexOf, checkpointIn}
-use Rattle.words.specs.Puts.{puts}
-use Rattle.words.proofs.Reading.{puts-length, untouched, touched}
-use Rattle.words.proofs.Same.{row-word, checkpoint-moved}
+use Rattle.words.specs.{Layout.word, Layout.blocksAt, Layout.indexAt, Layout.causeAt, Layout.storedAt, Layout.indexOf, Layout.checkpointIn, Puts.puts}
+use Rattle.words.proofs.{Reading.puts-length, Reading.untouched, Reading.touched, Same.row-word, Same.checkpoint-moved}
 use Rattle.words_process.specs.Kept.{clearedPuts, movedPuts, movedUp, Used, AllPinned, OnlyKept, SamePlace, ZeroPlace, Cleared, Split, Collected}
 
 pub kept-stays : (w : List ℕ) (p : ℕ) → OnlyKept w p w

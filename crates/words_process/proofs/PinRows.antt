@@ -1,34 +1,14 @@
 -- Rows of pins as words: which checkpoints they name, and the pins after a checkpoint and a receipt.
 -- Assumes nothing.
-use mathlib.Core.Path.{_≡_, refl, sym, _∙_, ap}
-use mathlib.Core.Bool.{Bool, true, false, _||_}
-use mathlib.Core.List.{List}
-use Prim.Native.Nat.{ℕ, zero, suc, _+_, _-_, _≤_, _<_}
-use native.Mathlib.Omega.{arith}
-use lib.Dec.{eqb}
-use lib.ListN.{length, getD, set}
+use Rattle.laws.specs.Basics.{_≡_, refl, sym, _∙_, ap, Bool, true, false, _||_, List, ℕ, zero, suc, _+_, _-_, _≤_, _<_, arith, eqb, length, getD, set, getD-set-same, getD-set-other, eq-eqb, ne-eqb, eqb-true, pick, by-bool, by-eq}
 use lib.Pow.{pow-pos}
-use lib.Seq.{getD-set-same, getD-set-other}
-use borrow.Author.Tests.{eq-eqb, ne-eqb, eqb-true}
-use Rattle.laws.specs.Bits.{bitsOf, bit-past, bits-at}
-use Rattle.laws.specs.Choice.{pick, by-bool, by-eq}
-use Rattle.laws.specs.Elements.{same-test}
-use Rattle.laws.specs.Search.{anyBelow}
-use Rattle.laws.specs.Select.{some-table}
-use Rattle.laws.specs.Tables.{length-table, getD-table, table-same, table-set}
-use Rattle.laws.specs.Tests.{some-of}
-use Rattle.laws.specs.Update.{upd, upd-same, upd-other}
-use Rattle.model.specs.declared.Interval.{Interval}
-use Rattle.model.specs.declared.CheckpointIndex.{CheckpointIndex}
-use Rattle.model.specs.declared.Pin.{Pin}
-use Rattle.model.specs.declared.Pin.the-variants.{Nothing, At}
-use Rattle.model.specs.Words.{entry, below, names, inSet}
-use Rattle.model.specs.Steps.{takenPin, takenPins, risen}
-use Rattle.words_process.specs.receipts.Receipt.{pinsFirst}
+use Rattle.laws.specs.{Bits.bitsOf, Bits.bit-past, Bits.bits-at, Elements.same-test, Search.anyBelow, Select.some-table, Tests.some-of}
+use Rattle.laws.specs.{Tables.length-table, Tables.getD-table, Tables.table-same, Tables.table-set, Update.upd, Update.upd-same, Update.upd-other}
+use Rattle.model.specs.declared.{Interval.Interval, CheckpointIndex.CheckpointIndex, Pin.Pin, Pin.the-variants.Nothing, Pin.the-variants.At}
+use Rattle.model.specs.{Words.entry, Words.below, Words.names, Words.inSet, Steps.takenPin, Steps.takenPins, Steps.risen}
+use Rattle.words_process.specs.{receipts.Receipt.pinsFirst, Pins.pinRow, Pins.movedRow, Pins.risenOrOwn}
 use Rattle.words.specs.Layout.{word, indexOf, pinOf, rowIn, pinsIn}
-use Rattle.words.proofs.Reading.{pin-back}
-use Rattle.words.proofs.Same.{row-word}
-use Rattle.words_process.specs.Pins.{pinRow, movedRow, risenOrOwn}
+use Rattle.words.proofs.{Reading.pin-back, Same.row-word}
 
 -- A pin names a checkpoint exactly if its word is the checkpoint's.
 pub names-word : (x y : ℕ) → 1 ≤ y → names (pinOf x) (indexOf y) ≡ eqb x y

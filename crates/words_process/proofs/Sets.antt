@@ -1,17 +1,10 @@
 -- Sets as numbers: a bit tested, and one more bit that comes to a set.
 -- Assumes nothing.
-use mathlib.Core.Path.{_≡_, refl, sym, _∙_, ap}
-use mathlib.Core.Bool.{Bool, true, false, _||_}
-use Prim.Native.Nat.{ℕ, zero, suc, _+_, _*_, _/_, _%_, _^_, _<_}
+use Rattle.laws.specs.Basics.{_≡_, refl, sym, _∙_, ap, Bool, true, false, _||_, ℕ, zero, suc, _+_, _*_, _/_, _%_, _^_, _<_, arith, eqb, eq-eqb, ne-eqb, eqb-true, by-eq}
 use native.Mathlib.Nat.{one-mul, zero-mul, mod-lt}
-use native.Mathlib.Omega.{arith}
 use lib.Bits.{bitAnd, bitOr, and-block, and-zero-r, and-mask, or-shr, or-mod, or-shifted-r}
-use lib.Dec.{eqb}
 use lib.Pow.{pow-pos, split}
-use borrow.Author.Tests.{eq-eqb, ne-eqb, eqb-true}
-use Rattle.laws.specs.Bits.{bit, bit-one, bit-alone}
-use Rattle.laws.specs.Choice.{by-eq}
-use Rattle.laws.specs.Elements.{same-test}
+use Rattle.laws.specs.{Bits.bit, Bits.bit-one, Bits.bit-alone, Elements.same-test}
 
 -- What is left of a set where one bit alone is looked at.
 and-bit : (S f : ℕ) → bitAnd S (2 ^ f) ≡ (S / 2 ^ f % 2) * 2 ^ f

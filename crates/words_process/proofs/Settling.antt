@@ -1,37 +1,16 @@
 -- A process whose pins are put: what they name stays, and then the new checkpoint is stored, if one is. What that leaves of the words.
 -- Assumes nothing.
-use mathlib.Core.Path.{_≡_, refl, sym, _∙_, ap}
-use mathlib.Core.Bool.{Bool, true, false, not}
-use mathlib.Core.List.{List, [], _∷_, _++_}
-use Prim.Native.Nat.{ℕ, zero, _+_, _*_, _-_, _≤_, _<_}
+use Rattle.laws.specs.Basics.{_≡_, refl, sym, _∙_, ap, Bool, true, false, not, List, [], _∷_, _++_, ℕ, zero, _+_, _-_, _*_, _≤_, _<_, arith, eqb, length, getD, set, pick, by-eq}
 use native.Mathlib.Numerals.{add-one}
-use native.Mathlib.Omega.{arith}
-use lib.Dec.{eqb}
-use lib.ListN.{length, getD, set}
-use Rattle.laws.specs.Choice.{pick, by-eq}
-use Rattle.laws.specs.Lists.{select, table}
-use Rattle.laws.specs.Rows.{by-lt}
-use Rattle.laws.specs.Tables.{table-same}
-use Rattle.model.specs.declared.Interval.{Interval}
-use Rattle.model.specs.declared.Checkpoint.{Checkpoint}
-use Rattle.model.specs.declared.CheckpointIndex.{CheckpointIndex}
-use Rattle.model.specs.declared.Disk.{Disk}
-use Rattle.model.specs.declared.Pin.{Pin}
-use Rattle.model.specs.Words.{isPinned}
-use Rattle.model.specs.Steps.{billed}
-use Rattle.words_process.specs.receipts.Receipt.{keptThen}
-use Rattle.words.specs.Clean.{CleanKept}
-use Rattle.words.specs.Frames.{OnlyProcess, OnlyDisk}
+use Rattle.laws.specs.{Lists.select, Lists.table, Rows.by-lt, Tables.table-same}
+use Rattle.model.specs.declared.{Interval.Interval, Checkpoint.Checkpoint, CheckpointIndex.CheckpointIndex, Disk.Disk, Pin.Pin}
+use Rattle.model.specs.{Words.isPinned, Steps.billed}
+use Rattle.words_process.specs.{receipts.Receipt.keptThen, Kept.storedPuts, Kept.Used, Kept.AllPinned, Kept.SamePlace, Kept.ZeroPlace, Kept.Collected}
+use Rattle.words.specs.{Clean.CleanKept, Frames.OnlyProcess, Frames.OnlyDisk, Parts.processIn, Puts.Put, Puts.puts, Puts.one, Puts.rowPut}
 use Rattle.words.specs.Layout.{word, wide4, keptCountAt, markAt, blocksAt, partAt, pinsAt, indexAt, causeAt, storedAt, indexOf, pinOf, vectorIn, pinsIn, markIn, checkpointIn}
-use Rattle.words.specs.Parts.{processIn}
-use Rattle.words.specs.Puts.{Put, puts, one, rowPut}
-use Rattle.words.proofs.Reading.{puts-length, untouched, touched, set-is-put, index-back}
+use Rattle.words.proofs.{Reading.puts-length, Reading.untouched, Reading.touched, Reading.set-is-put, Reading.index-back, View.kept-table}
 use Rattle.words.proofs.Same.{vector-same, vector-is, checkpoint-moved}
-use Rattle.words.proofs.View.{kept-table}
-use Rattle.words_process.specs.Kept.{storedPuts, Used, AllPinned, SamePlace, ZeroPlace, Collected}
-use Rattle.words_process.specs.Moves.{diskIn, Moves}
-use Rattle.words_process.specs.Pins.{pinRow}
-use Rattle.words_process.specs.Steps.{storedIn, placesOf, settledPart}
+use Rattle.words_process.specs.{Moves.diskIn, Moves.Moves, Pins.pinRow, Steps.storedIn, Steps.placesOf, Steps.settledPart}
 
 -- The pins alone are put.
 module _ (w : List ℕ) (size : length w ≡ 6464) (i : ℕ) (room : i < 16) (r : List ℕ) where

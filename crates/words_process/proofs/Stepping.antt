@@ -1,24 +1,12 @@
 -- A checkpoint and a receipt of a process of a sound state: the pins move first, then what no pin names is deleted, then the new checkpoint is stored. The definitions
 -- store first and delete then; both leave the same.
 -- Assumes nothing.
-use mathlib.Core.Path.{_≡_, refl, sym, _∙_, ap}
-use mathlib.Core.Bool.{Bool, true, false, not}
-use mathlib.Core.List.{List, [], _∷_, _++_}
-use Prim.Native.Nat.{ℕ, suc, _+_, _*_, _-_, _≤_, _<_}
+use Rattle.laws.specs.Basics.{_≡_, refl, sym, _∙_, ap, Bool, true, false, not, List, [], _∷_, _++_, ℕ, suc, _+_, _-_, _*_, _≤_, _<_, arith, length, getD, set, length-set, sets, getD-set-other, eqb-true, pick}
 use native.Mathlib.Nat.{mul-le-mul-left}
-use native.Mathlib.Omega.{arith}
-use lib.ListN.{length, getD, set, length-set}
-use lib.Seq.{sets, getD-set-other, ext-getD}
-use borrow.Author.Tests.{eqb-true}
-use Rattle.laws.specs.Choice.{pick}
-use Rattle.laws.specs.Lists.{select, table, lastOf, orElse}
-use Rattle.laws.specs.Rows.{by-lt, every-at, some-at, some-where}
+use lib.Seq.{ext-getD}
+use Rattle.laws.specs.{Lists.select, Lists.table, Lists.lastOf, Lists.orElse, Rows.by-lt, Rows.every-at, Rows.some-at, Rows.some-where}
 use Rattle.laws.specs.Tables.{length-table, getD-table, table-same}
-use Rattle.model.specs.declared.Interval.{Interval}
-use Rattle.model.specs.declared.Checkpoint.{Checkpoint}
-use Rattle.model.specs.declared.CheckpointIndex.{CheckpointIndex}
-use Rattle.model.specs.declared.Disk.{Disk}
-use Rattle.model.specs.declared.Pin.{Pin}
+use Rattle.model.specs.declared.{Interval.Interval, Checkpoint.Checkpoint, CheckpointIndex.CheckpointIndex, Disk.Disk, Pin.Pin}
 use Rattle.model.specs.declared.Pin.the-variants.{Nothing, At}
 use Rattle.model.specs.Words.{basic, forced, entry, liveIndex, names, isPinned, Process, blocksOf, blockCount, noCheckpoint, process, own}
 use Rattle.model.specs.Sound.{ascending, sound}
@@ -28,19 +16,12 @@ use Rattle.words_process.proofs.receipts.Billing.{blocks-of-some}
 use Rattle.words_process.proofs.receipts.Receipts.{receipt-room, receipt-leaves, receipt-gone}
 use Rattle.words_process.proofs.receipts.Settling.{indexes, moved-own, stays-after, deleted-before, room-after}
 use Rattle.whole_runs.specs.Outcomes.{pairs}
-use Rattle.words.specs.Clean.{CleanKept}
-use Rattle.words.specs.Frames.{OnlyProcess}
+use Rattle.words.specs.{Clean.CleanKept, Frames.OnlyProcess, Parts.processIn, Puts.Put, Puts.puts, Puts.vectorPut}
 use Rattle.words.specs.Layout.{word, wide4, countOf, keptCountAt, markAt, blocksAt, partAt, pinsAt, indexAt, causeAt, storedAt, intervalOf, pinOf, rowIn, vectorIn, pinsIn, markIn, checkpointIn, runOf}
-use Rattle.words.specs.Parts.{processIn}
-use Rattle.words.specs.Puts.{Put, puts, vectorPut}
-use Rattle.words.proofs.Frames.{process-then}
-use Rattle.words.proofs.Reading.{puts-length, untouched, touched, pin-back}
+use Rattle.words.proofs.{Frames.process-then, Reading.puts-length, Reading.untouched, Reading.touched, Reading.pin-back, View.count-is}
 use Rattle.words.proofs.Same.{vector-word, vector-back, pins-length, checkpoint-moved}
-use Rattle.words.proofs.View.{count-is}
 use Rattle.words.proofs.ViewSound.{SoundPart, SoundWords, sound-words, sound-part, sound-known, sound-process-is, sound-own-is}
-use Rattle.words_process.specs.Kept.{Used, AllPinned}
-use Rattle.words_process.specs.Moves.{diskIn, Moves}
-use Rattle.words_process.specs.Pins.{pinRow, movedRow, risenOrOwn}
+use Rattle.words_process.specs.{Kept.Used, Kept.AllPinned, Moves.diskIn, Moves.Moves, Pins.pinRow, Pins.movedRow, Pins.risenOrOwn}
 use Rattle.words_process.specs.Steps.{storedIn, placesOf, unpinnedIn, settledPart, received}
 use Rattle.words_process.proofs.PinRows.{names-word, row-length, pins-row, own-moved, receipt-pins}
 

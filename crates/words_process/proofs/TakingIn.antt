@@ -1,23 +1,14 @@
 -- Taking a carried vector in, entry by entry, where the vector stands in the words.
 -- Assumes nothing.
-use mathlib.Core.Path.{_≡_, refl, sym, _∙_, ap}
-use mathlib.Core.Bool.{Bool}
-use mathlib.Core.List.{List, [], _∷_}
-use Prim.Native.Nat.{ℕ, zero, suc, _+_, _^_, _<_}
+use Rattle.laws.specs.Basics.{_≡_, refl, sym, _∙_, ap, Bool, List, [], _∷_, ℕ, zero, suc, _+_, _^_, _<_, arith, pick, by-bool}
 use native.Mathlib.Nat.{pow-suc}
 use native.Mathlib.Numerals.{add-one}
-use native.Mathlib.Omega.{arith}
 use lib.Bits.{bitOr, or-zero-r}
-use Rattle.laws.specs.Bits.{bitsOf, bits-zero, bits-more}
-use Rattle.laws.specs.Choice.{pick, by-bool}
-use Rattle.laws.specs.Tables.{getD-table}
+use Rattle.laws.specs.{Bits.bitsOf, Bits.bits-zero, Bits.bits-more, Tables.getD-table}
 use Rattle.model.specs.declared.Interval.{Interval}
-use Rattle.model.specs.Words.{entry, below}
-use Rattle.model.specs.Steps.{takenEntry, takenVector, risen}
-use Rattle.words.specs.Layout.{word, intervalOf, vectorIn}
-use Rattle.words.specs.Puts.{putFrom, puts, one, vectorPut}
-use Rattle.words.proofs.Reading.{untouched, put-step}
-use Rattle.words.proofs.Same.{vector-word}
+use Rattle.model.specs.{Words.entry, Words.below, Steps.takenEntry, Steps.takenVector, Steps.risen}
+use Rattle.words.specs.{Layout.word, Layout.intervalOf, Layout.vectorIn, Puts.putFrom, Puts.puts, Puts.one, Puts.vectorPut}
+use Rattle.words.proofs.{Reading.untouched, Reading.put-step, Same.vector-word}
 use Rattle.words_process.specs.TakingIn.{takenWord, risenBit}
 use Rattle.words_process.proofs.Sets.{or-higher}
 

@@ -1,14 +1,8 @@
 -- The checkpoints that one process keeps, in their 16 places of the words: one stored, one moved, places made unused, and what collecting leaves.
 -- Assumes nothing.
-use mathlib.Core.Path.{_≡_}
-use mathlib.Core.Bool.{true}
-use mathlib.Core.List.{List, [], _∷_}
-use Prim.Native.Nat.{ℕ, _+_, _*_, _≤_, _<_}
-use lib.ListN.{length}
+use Rattle.laws.specs.Basics.{_≡_, true, List, [], _∷_, ℕ, _+_, _*_, _≤_, _<_, length}
 use Rattle.laws.specs.Lists.{select, table}
-use Rattle.model.specs.declared.Interval.{Interval}
-use Rattle.model.specs.declared.CheckpointIndex.{CheckpointIndex}
-use Rattle.model.specs.declared.Pin.{Pin}
+use Rattle.model.specs.declared.{Interval.Interval, CheckpointIndex.CheckpointIndex, Pin.Pin}
 use Rattle.model.specs.Words.{isPinned, mostProcesses}
 use Rattle.words.specs.Layout.{word, indexAt, causeAt, storedAt, rowIn, checkpointIn}
 use Rattle.words.specs.Puts.{Put, puts, one, rowPut, vectorPut, zeroPut}

@@ -1,14 +1,9 @@
 -- What a checkpoint or a receipt leaves of the words: another part for its process, and other blocks written and deleted.
 -- Assumes nothing.
-use mathlib.Core.Path.{_≡_}
-use mathlib.Core.List.{List}
-use Prim.Native.Nat.{ℕ, _≤_}
+use Rattle.laws.specs.Basics.{_≡_, List, ℕ, _≤_}
 use Rattle.model.specs.declared.Disk.{Disk}
 use Rattle.model.specs.Words.{Process, mostProcesses}
-use Rattle.words.specs.Clean.{CleanKept}
-use Rattle.words.specs.Frames.{OnlyProcess, OnlyDisk}
-use Rattle.words.specs.Layout.{word, wide4, keptCountAt}
-use Rattle.words.specs.Parts.{processIn}
+use Rattle.words.specs.{Clean.CleanKept, Frames.OnlyProcess, Frames.OnlyDisk, Layout.word, Layout.wide4, Layout.keptCountAt, Parts.processIn}
 
 -- The blocks written and deleted of words.
 abbrev pub diskIn : List ℕ → Disk

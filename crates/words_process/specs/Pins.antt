@@ -1,11 +1,6 @@
 -- The pins of one process as a row of words.
 -- Assumes nothing.
-use mathlib.Core.Bool.{Bool, _||_}
-use mathlib.Core.List.{List}
-use Prim.Native.Nat.{ℕ}
-use lib.Dec.{eqb}
-use lib.ListN.{getD}
-use Rattle.laws.specs.Choice.{pick}
+use Rattle.laws.specs.Basics.{Bool, _||_, List, ℕ, eqb, getD, pick}
 use Rattle.laws.specs.Lists.{table}
 use Rattle.model.specs.declared.Pin.{Pin}
 use Rattle.model.specs.Words.{mostProcesses, inSet}

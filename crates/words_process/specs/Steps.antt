@@ -1,17 +1,10 @@
 -- A checkpoint and a receipt on the part of their process, in the order in which the functions compute it: the pins move first, then what no pin names is deleted,
 -- then the new checkpoint is stored.
 -- Assumes nothing.
-use mathlib.Core.Bool.{Bool, false, not}
-use mathlib.Core.List.{List}
-use Prim.Native.Nat.{ℕ}
-use Rattle.laws.specs.Choice.{pick}
+use Rattle.laws.specs.Basics.{Bool, false, not, List, ℕ, pick}
 use Rattle.laws.specs.Lists.{select, table}
-use Rattle.model.specs.declared.Interval.{Interval}
-use Rattle.model.specs.declared.CheckpointIndex.{CheckpointIndex}
-use Rattle.model.specs.declared.Pin.{Pin}
-use Rattle.model.specs.declared.Checkpoint.{Checkpoint}
-use Rattle.model.specs.Words.{forced, isPinned, Process}
-use Rattle.model.specs.Steps.{checkpointed, takenIn}
+use Rattle.model.specs.declared.{Interval.Interval, CheckpointIndex.CheckpointIndex, Pin.Pin, Checkpoint.Checkpoint}
+use Rattle.model.specs.{Words.forced, Words.isPinned, Words.Process, Steps.checkpointed, Steps.takenIn}
 use Rattle.words_process.specs.receipts.Receipt.{keptThen}
 use Rattle.words.specs.Layout.{word, keptCountAt, blocksAt, partAt, vectorIn, markIn, checkpointIn}
 

@@ -1,8 +1,6 @@
 -- The step for one entry of taking a carried vector in, where the vector stands in the words.
 -- Assumes nothing.
-use mathlib.Core.List.{List}
-use Prim.Native.Nat.{ℕ, _+_, _^_}
-use Rattle.laws.specs.Choice.{pick}
+use Rattle.laws.specs.Basics.{List, ℕ, _+_, _^_, pick}
 use Rattle.model.specs.declared.Interval.{Interval}
 use Rattle.model.specs.Words.{entry, below}
 use Rattle.words.specs.Layout.{word, intervalOf}

@@ -1,12 +1,8 @@
 // The blocks written and deleted, in four words each.
 use words::places;
-ghost use mathlib.Core.Path.{_≡_};
-ghost use Prim.Native.Nat.{_+_, _*_, _≤_};
-ghost use lib.ListN.{length};
-ghost use Rattle.laws.specs.Choice.{pick};
+ghost use Rattle.laws.specs.Basics.{_≡_, _+_, _*_, _≤_, length, pick};
 ghost use Rattle.model.specs.Words.{mostBlocks, keptPlaces};
-ghost use Rattle.words.specs.Frames.{OnlyDisk};
-ghost use Rattle.words.specs.Layout.{wide4, stateSize};
+ghost use Rattle.words.specs.{Frames.OnlyDisk, Layout.wide4, Layout.stateSize};
 
 // A checkpoint of `blocks` blocks is stored if `stores`.
 fn bill_stored(w: &mut [u16], stores: bool, blocks: u16)

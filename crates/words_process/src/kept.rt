@@ -3,17 +3,11 @@ use model::CheckpointIndex;
 use model::Interval;
 use model::PROCESSES;
 use words::places;
-ghost use mathlib.Core.Path.{_≡_};
-ghost use mathlib.Core.Bool.{not};
-ghost use Prim.Native.Nat.{_+_, _*_, _≤_, _<_};
-ghost use lib.ListN.{length, set};
-ghost use lib.Seq.{sets};
+ghost use Rattle.laws.specs.Basics.{_≡_, not, _+_, _*_, _≤_, _<_, length, set, sets};
 ghost use Rattle.laws.specs.Lists.{select, table};
-ghost use Rattle.model.specs.Words.{isPinned, mostProcesses, mostInterval, keptPlaces, mostDeletions};
-ghost use Rattle.model.specs.Steps.{listed};
+ghost use Rattle.model.specs.{Words.isPinned, Words.mostProcesses, Words.mostInterval, Words.keptPlaces, Words.mostDeletions, Steps.listed};
 ghost use Rattle.whole_runs.specs.Outcomes.{pairs};
-ghost use Rattle.words.specs.Layout.{checkpointIn, stateSize};
-ghost use Rattle.words.specs.Puts.{puts};
+ghost use Rattle.words.specs.{Layout.checkpointIn, Layout.stateSize, Puts.puts};
 ghost use Rattle.words_process.specs.Kept.{storedPuts, movedUp, clearedPuts, Used, AllPinned, Cleared, Split, Collected};
 ghost use Rattle.words_process.specs.Pins.{pinRow};
 
@@ -80,7 +74,13 @@ fn write_pair(deleted: &mut [u16], gone: usize, p: usize, index: CheckpointIndex
 }
 
 // The first of the places from `from` up to `kept_count` whose checkpoint no pin names; `kept_count` if a pin names each.
-fn first_unpinned(w: &[u16], p: usize, from: usize, kept_count: usize, pins: [u16; PROCESSES]) -> usize
+fn first_unpinned(
+    w: &[u16],
+    p: usize,
+    from: usize,
+    kept_count: usize,
+    pins: [u16; PROCESSES],
+) -> usize
     requires { ⌜ (length (now w) ≡ stateSize) × (p < mostProcesses) × (from ≤ «kept_count») × («kept_count» ≤ mostProcesses) × Used (now w) p «kept_count» × AllPinned (now w) p (pinRow pins) from ⌝ }
     ensures { λ r. ⌜ (from ≤ r) × (r ≤ «kept_count») × AllPinned (now (w .entry)) p (pinRow pins) r ⌝ }
 {

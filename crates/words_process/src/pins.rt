@@ -1,8 +1,6 @@
 // The pins of one process, as a row of words: 0 names nothing, any other word is one above the index of the checkpoint that it names.
 use model::PROCESSES;
-ghost use mathlib.Core.Path.{_≡_};
-ghost use Prim.Native.Nat.{_^_, _≤_, _<_};
-ghost use Rattle.laws.specs.Choice.{pick};
+ghost use Rattle.laws.specs.Basics.{_≡_, _^_, _≤_, _<_, pick};
 ghost use Rattle.laws.specs.Tests.{some-of};
 ghost use Rattle.model.specs.Words.{names, inSet, mostProcesses};
 ghost use Rattle.words.specs.Layout.{indexOf};

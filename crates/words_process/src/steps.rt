@@ -3,25 +3,15 @@ use model::CheckpointIndex;
 use model::Interval;
 use model::PROCESSES;
 use words::places;
-ghost use mathlib.Core.Path.{_≡_};
-ghost use mathlib.Core.Bool.{true, not};
-ghost use mathlib.Core.List.{[], _∷_, _++_};
-ghost use Prim.Native.Nat.{_+_, _*_, _≤_, _<_};
-ghost use lib.ListN.{length, getD};
-ghost use lib.Seq.{sets};
-ghost use Rattle.laws.specs.Choice.{pick};
+ghost use Rattle.laws.specs.Basics.{_≡_, true, not, [], _∷_, _++_, _+_, _*_, _≤_, _<_, length, getD, sets, pick};
 ghost use Rattle.laws.specs.Lists.{select, table};
 ghost use Rattle.model.specs.Words.{basic, forced, entry, isPinned, blocksOf, mostProcesses, mostInterval, mostBlocks};
 ghost use Rattle.model.specs.Sound.{sound};
 ghost use Rattle.model.specs.Steps.{listed, settled, gone, deletions, billed, advanced, checkpointed, takenVector, risen};
-ghost use Rattle.words_process.specs.receipts.Receipt.{vectorFirst};
+ghost use Rattle.words_process.specs.{receipts.Receipt.vectorFirst, Kept.storedPuts, Kept.Used, Kept.AllPinned, Moves.diskIn, Moves.Moves, Pins.pinRow};
 ghost use Rattle.whole_runs.specs.Outcomes.{pairs};
 ghost use Rattle.words.specs.Layout.{word, countOf, keptCountAt, markAt, blocksAt, partAt, pinsAt, intervalOf, vectorIn, checkpointIn, runOf, stateSize};
-ghost use Rattle.words.specs.Parts.{processIn};
-ghost use Rattle.words.specs.Puts.{puts, one, vectorPut};
-ghost use Rattle.words_process.specs.Kept.{storedPuts, Used, AllPinned};
-ghost use Rattle.words_process.specs.Moves.{diskIn, Moves};
-ghost use Rattle.words_process.specs.Pins.{pinRow};
+ghost use Rattle.words.specs.{Parts.processIn, Puts.puts, Puts.one, Puts.vectorPut};
 ghost use Rattle.words_process.specs.Steps.{storedIn, settledPart, unpinnedIn, received};
 
 // Why a checkpoint is stored. (0 is the initial one's.)
@@ -128,7 +118,17 @@ pub fn checkpoint(w: &mut [u16], i: usize, deleted: &mut [u16]) -> usize
     let index = words::rows::vector::live_index(vector[i]);
     let pins = crate::pins::taken_pins(0, old, i, words::pin_word(index));
     words::put_vector(w, places::PARTS + places::PART * i, advanced(vector, i));
-    settle(w, i, pins, kept_count - 1, true, index, BASIC, vector, deleted)
+    settle(
+        w,
+        i,
+        pins,
+        kept_count - 1,
+        true,
+        index,
+        BASIC,
+        vector,
+        deleted,
+    )
 }
 
 // What a receipt answers: the set of the entries that rose, and how many checkpoints were deleted.

@@ -1,15 +1,9 @@
 // Taking a carried vector in (document 02, Notes 1 and 3): a step for each entry, ascending.
 use model::Interval;
 use model::PROCESSES;
-ghost use mathlib.Core.Path.{_≡_};
-ghost use mathlib.Core.List.{[], _∷_};
-ghost use Prim.Native.Nat.{_+_, _^_, _≤_, _<_};
-ghost use lib.ListN.{length};
-ghost use Rattle.laws.specs.Choice.{pick};
-ghost use Rattle.model.specs.Words.{below, mostProcesses};
-ghost use Rattle.model.specs.Steps.{takenVector, risen};
-ghost use Rattle.words.specs.Layout.{vectorIn};
-ghost use Rattle.words.specs.Puts.{puts, one, vectorPut};
+ghost use Rattle.laws.specs.Basics.{_≡_, [], _∷_, _+_, _^_, _≤_, _<_, length, pick};
+ghost use Rattle.model.specs.{Words.below, Words.mostProcesses, Steps.takenVector, Steps.risen};
+ghost use Rattle.words.specs.{Layout.vectorIn, Puts.puts, Puts.one, Puts.vectorPut};
 ghost use Rattle.words_process.specs.TakingIn.{takenWord, risenBit};
 
 // The greater of an own entry and the carried one.

@@ -1,28 +1,14 @@
 -- The clauses of document 01 about one process, over the checkpoints and pins that the words hold, as tests of the words.
 -- Assumes nothing.
-use mathlib.Core.Path.{_≡_, refl, sym, _∙_, ap}
-use mathlib.Core.Bool.{Bool, _&&_, _||_, not}
-use mathlib.Core.List.{List, [], _∷_, _++_, map}
-use Prim.Native.Nat.{ℕ, zero, suc, _+_, _-_, _*_, _≤_, _<_}
-use native.Mathlib.Omega.{arith}
-use lib.Dec.{eqb, ltb, leb}
-use borrow.Author.Tests.{ltb-true, lt-ltb, leb-true, le-leb, eqb-true, eq-eqb, ne-eqb}
-use Rattle.laws.specs.Choice.{pick, by-bool}
-use Rattle.laws.specs.Elements.{same-test}
-use Rattle.laws.specs.Lists.{orElse, lastOf, table}
-use Rattle.laws.specs.Ranges.{all-same, any-same}
-use Rattle.laws.specs.Rows.{all-both, and-swap, and-true}
-use Rattle.laws.specs.Search.{allBelow, anyBelow, all-in, all-out}
+use Rattle.laws.specs.Basics.{_≡_, refl, sym, _∙_, ap, Bool, not, _&&_, _||_, List, [], _∷_, _++_, map, ℕ, zero, suc, _+_, _-_, _*_, _≤_, _<_, arith, eqb, ltb, leb, eq-eqb, ne-eqb, eqb-true, lt-ltb, ltb-true, le-leb, leb-true, pick, by-bool}
+use Rattle.laws.specs.{Elements.same-test, Lists.orElse, Lists.lastOf, Lists.table, Ranges.all-same, Ranges.any-same, Tests.every}
+use Rattle.laws.specs.{Rows.all-both, Rows.and-swap, Rows.and-true, Search.allBelow, Search.anyBelow, Search.all-in, Search.all-out}
 use Rattle.laws.specs.Select.{map-append, lastOf-snoc, some-table}
-use Rattle.laws.specs.Tests.{every}
-use Rattle.model.specs.declared.Interval.{Interval}
-use Rattle.model.specs.declared.Pin.the-variants.{At}
-use Rattle.model.specs.declared.Checkpoint.{Checkpoint}
+use Rattle.model.specs.declared.{Interval.Interval, Pin.the-variants.At, Checkpoint.Checkpoint}
 use Rattle.model.specs.Words.{mostProcesses, entry, names, isPinned, noCheckpoint, blocksOf}
 use Rattle.model.specs.Sound.{ascending, pinSound, isNothing, nothingFrom, causeSound}
 use Rattle.words.specs.Layout.{word, countOf, blocksAt, pinsAt, causeAt, storedAt, indexOf, pinOf, vectorIn, pinsIn, checkpointIn}
-use Rattle.words.proofs.Reading.{names-word}
-use Rattle.words.proofs.Same.{vector-word}
+use Rattle.words.proofs.{Reading.names-word, Same.vector-word}
 use Rattle.words_sound.specs.Test.{ownIn, most, pinIn, unusedPins, indexIn, indexBefore, pinFits}
 use Rattle.words_sound.proofs.Laws.{every-table-is, every-after, nextOf, next-snoc, ascending-snoc}
 

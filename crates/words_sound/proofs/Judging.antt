@@ -1,38 +1,20 @@
 -- What the functions find, part by part, as the tests of specs/Test.
 -- Assumes nothing.
-use mathlib.Core.Path.{_≡_, refl, sym, _∙_, ap}
-use mathlib.Core.Bool.{Bool, true, false, _&&_, _||_, not}
-use mathlib.Core.List.{List, _∷_}
-use Prim.Native.Nat.{ℕ, suc, _+_, _-_, _*_, _≤_, _<_}
+use Rattle.laws.specs.Basics.{_≡_, refl, sym, _∙_, ap, Bool, true, false, not, _&&_, _||_, List, _∷_, ℕ, suc, _+_, _-_, _*_, _≤_, _<_, arith, eqb, ltb, leb, length, getD, replicate, length-replicate, getD-replicate, eq-eqb, ne-eqb, eqb-true, lt-ltb, le-ltb, le-leb, lt-leb, leb-true, not-true, not-false, pick, by-bool}
 use native.Mathlib.Nat.{mul-le-mul}
 use native.Mathlib.Numerals.{add-one}
-use native.Mathlib.Omega.{arith}
 use lib.Bits.{bitOr}
-use lib.Dec.{eqb, ltb, leb}
-use lib.ListN.{length, getD, replicate, length-replicate, getD-replicate}
-use borrow.Author.Tests.{lt-ltb, le-ltb, leb-true, le-leb, lt-leb, eqb-true, eq-eqb, ne-eqb, not-true, not-false}
-use Rattle.laws.specs.Choice.{pick, by-bool}
 use Rattle.laws.specs.Conjunctions.{test, _and_, holds, asks, conjunction, part-fails}
-use Rattle.laws.specs.Elements.{same-test}
-use Rattle.laws.specs.Lists.{table}
-use Rattle.laws.specs.Loops.{setBelow, below-length, below-at, below-above}
-use Rattle.laws.specs.Ranges.{all-same, any-same}
-use Rattle.laws.specs.Rows.{and-group, and-swap, and-true, all-both, all-stop, by-lt}
-use Rattle.laws.specs.Search.{allBelow, anyBelow, all-in, all-out}
-use Rattle.laws.specs.Sums.{sumBelow}
-use Rattle.laws.specs.Tables.{getD-table, table-same, table-is}
-use Rattle.laws.specs.Tests.{every, allOf, countBelow}
-use Rattle.laws.specs.Truth.{and-left, and-right, or-none}
-use Rattle.model.specs.declared.Interval.{Interval}
-use Rattle.model.specs.declared.CheckpointIndex.{CheckpointIndex}
-use Rattle.model.specs.Words.{mostProcesses, entry}
-use Rattle.model.specs.Sound.{sound, causeSound}
+use Rattle.laws.specs.{Elements.same-test, Lists.table, Loops.setBelow, Loops.below-length, Loops.below-at, Loops.below-above, Ranges.all-same, Ranges.any-same}
+use Rattle.laws.specs.{Rows.and-group, Rows.and-swap, Rows.and-true, Rows.all-both, Rows.all-stop, Rows.by-lt, Sums.sumBelow}
+use Rattle.laws.specs.{Search.allBelow, Search.anyBelow, Search.all-in, Search.all-out, Tables.getD-table, Tables.table-same, Tables.table-is}
+use Rattle.laws.specs.{Tests.every, Tests.allOf, Tests.countBelow, Truth.and-left, Truth.and-right, Truth.or-none}
+use Rattle.model.specs.declared.{Interval.Interval, CheckpointIndex.CheckpointIndex}
+use Rattle.model.specs.{Words.mostProcesses, Words.entry, Sound.sound, Sound.causeSound}
 use Rattle.words.specs.Layout.{stateSize, word, wide2, wide4, countOf, endOf, keptCountAt, blocksAt, partAt, pinsAt, causeAt, storedAt, senderAt, receiverAt, carriedAt, lowAt, highAt, intervalOf, indexOf, rowIn, vectorIn, runOf}
 use Rattle.words.proofs.Same.{vector-word, row-word}
-use Rattle.words_sound.proofs.rows.Ors.{or-zero, less-zero}
+use Rattle.words_sound.proofs.{rows.Ors.or-zero, rows.Ors.less-zero, Parts.least, Whole.test-is-sound}
 use Rattle.words_sound.specs.Test.{ownIn, most, rowWithin, pinIn, unusedPins, indexIn, indexBefore, keptTests, keptFits, pinFits, countsFit, partTests, partFits, blocksIn, diskFits, numberIn, numberBefore, messageTests, messageFits, carriedFits, messagesTests, soundTests, soundIn, limitsIn}
-use Rattle.words_sound.proofs.Parts.{least}
-use Rattle.words_sound.proofs.Whole.{test-is-sound}
 
 -- Three tests, the first of which fails; and two that hold before a third.
 pub first-fails : (a b c : Bool) → false ≡ a → false ≡ (a && b && c)

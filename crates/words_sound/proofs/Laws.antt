@@ -1,24 +1,11 @@
 -- Tests of a list that is laid out by index, as tests of the indexes: of all its entries, of those from a place on, of the chosen ones; and numbers that ascend,
 -- one more at a time.
 -- Assumes nothing.
-use mathlib.Core.Path.{_≡_, refl, sym, _∙_}
-use mathlib.Core.Bool.{Bool, false, _&&_, _||_, not}
-use mathlib.Core.List.{List, [], _∷_, _++_}
-use Prim.Native.Nat.{ℕ, zero, suc, _+_, _≤_, _<_}
-use native.Mathlib.Omega.{arith}
-use lib.Dec.{ltb, leb}
-use lib.ListN.{length, take, drop, length-append}
-use lib.Seq.{getD-take, length-take-le, ext-getD}
-use borrow.Author.Tests.{ltb-true, lt-ltb, le-ltb}
-use Rattle.laws.specs.Choice.{pick, by-bool}
-use Rattle.laws.specs.Elements.{same-test, every-from}
-use Rattle.laws.specs.Lists.{select, table}
-use Rattle.laws.specs.Rows.{and-group, and-swap, and-true, every-beyond, by-lt}
-use Rattle.laws.specs.Search.{allBelow, all-in, all-out}
-use Rattle.laws.specs.Select.{select-append}
-use Rattle.laws.specs.Tables.{length-table, getD-table}
-use Rattle.laws.specs.Tests.{every, countBelow}
-use Rattle.laws.specs.Truth.{and-left, and-right, and-both, or-left, or-in-right, or-right}
+use Rattle.laws.specs.Basics.{_≡_, refl, sym, _∙_, Bool, false, not, _&&_, _||_, List, [], _∷_, _++_, ℕ, zero, suc, _+_, _≤_, _<_, arith, ltb, leb, length, take, drop, length-append, length-take-le, lt-ltb, le-ltb, ltb-true, pick, by-bool}
+use lib.Seq.{getD-take, ext-getD}
+use Rattle.laws.specs.{Elements.same-test, Elements.every-from, Lists.select, Lists.table, Search.allBelow, Search.all-in, Search.all-out, Select.select-append}
+use Rattle.laws.specs.{Rows.and-group, Rows.and-swap, Rows.and-true, Rows.every-beyond, Rows.by-lt, Tables.length-table, Tables.getD-table}
+use Rattle.laws.specs.{Tests.every, Tests.countBelow, Truth.and-left, Truth.and-right, Truth.and-both, Truth.or-left, Truth.or-in-right, Truth.or-right}
 use Rattle.model.specs.Sound.{ascending}
 
 pub cons-same : {A : Type 0} (a b : A) (l m : List A) → a ≡ b → l ≡ m → a ∷ l ≡ b ∷ m

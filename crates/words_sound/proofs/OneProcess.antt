@@ -1,27 +1,11 @@
 -- All that document 01 asks of one process is what is tested of its words.
 -- Assumes nothing.
-use mathlib.Core.Path.{_≡_, refl, sym, _∙_, ap}
-use mathlib.Core.Bool.{Bool, true, false, _&&_, not}
-use mathlib.Core.List.{List, [], _∷_, map}
-use Prim.Native.Nat.{ℕ, _+_, _-_, _≤_, _<_}
-use native.Mathlib.Omega.{arith}
-use lib.Dec.{eqb, ltb, leb}
-use lib.ListN.{getD, drop}
-use borrow.Author.Tests.{le-ltb, leb-true, eqb-true, eqb-false, not-true, not-false}
-use Rattle.laws.specs.Choice.{pick, by-bool}
+use Rattle.laws.specs.Basics.{_≡_, refl, sym, _∙_, ap, Bool, true, false, not, _&&_, List, [], _∷_, map, ℕ, _+_, _-_, _≤_, _<_, arith, eqb, ltb, leb, getD, drop, eqb-true, eqb-false, le-ltb, leb-true, not-true, not-false, pick, by-bool}
 use Rattle.laws.specs.Conjunctions.{Conjunction, none, test, _and_, each, holds, asks, same-tests, part-fails}
-use Rattle.laws.specs.Lists.{orElse, lastOf, table}
-use Rattle.laws.specs.Ranges.{all-same}
-use Rattle.laws.specs.Rows.{every-both, all-both, all-stop, and-true}
-use Rattle.laws.specs.Search.{allBelow, anyBelow, all-out, all-fails}
-use Rattle.laws.specs.Tables.{getD-table}
-use Rattle.laws.specs.Tests.{every, allOf}
+use Rattle.laws.specs.{Lists.orElse, Lists.lastOf, Lists.table, Ranges.all-same, Rows.every-both, Rows.all-both, Rows.all-stop, Rows.and-true}
+use Rattle.laws.specs.{Search.allBelow, Search.anyBelow, Search.all-out, Search.all-fails, Tables.getD-table, Tests.every, Tests.allOf}
 use Rattle.laws.specs.Truth.{and-left, and-right, and-no-right}
-use Rattle.model.specs.declared.Interval.{Interval}
-use Rattle.model.specs.declared.Pin.{Pin}
-use Rattle.model.specs.declared.Pin.the-variants.{Nothing}
-use Rattle.model.specs.declared.Checkpoint.{Checkpoint}
-use Rattle.model.specs.declared.Run.{Run}
+use Rattle.model.specs.declared.{Interval.Interval, Pin.Pin, Pin.the-variants.Nothing, Checkpoint.Checkpoint, Run.Run}
 use Rattle.model.specs.Words.{Process, mostProcesses, entry, lastStored, names, isPinned, noCheckpoint, blockCount, process, own}
 use Rattle.model.specs.Sound.{within, ascending, keptSound, pinSound, pinsSound, zeroFrom, nothingFrom, unusedCheckpoint, rowUnused, causeSound, isBlockCount, recordSound}
 use Rattle.words.specs.Layout.{word, countOf, keptCountAt, blocksAt, partAt, pinsAt, causeAt, storedAt, pinOf, vectorIn, pinsIn, checkpointIn, isKeptIn, decoded}

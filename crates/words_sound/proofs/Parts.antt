@@ -1,22 +1,9 @@
 -- The run that the words stand for, part by part: what its definitions read is at a place of the words.
 -- Assumes nothing.
-use mathlib.Core.Path.{_≡_, refl, sym, _∙_, ap}
-use mathlib.Core.Bool.{Bool, true, _&&_, _||_, not}
-use mathlib.Core.List.{List, []}
-use Prim.Native.Nat.{ℕ, zero, _+_, _-_, _≤_, _<_}
-use native.Mathlib.Omega.{arith}
-use lib.Dec.{eqb, ltb, leb}
-use lib.ListN.{getD, take, drop, replicate}
-use borrow.Author.Tests.{lt-ltb, le-ltb, leb-true, le-leb, eqb-true, eq-eqb}
-use Rattle.laws.specs.Choice.{pick, by-bool}
-use Rattle.laws.specs.Elements.{same-test, every-from}
-use Rattle.laws.specs.Lists.{table}
-use Rattle.laws.specs.Ranges.{all-same}
-use Rattle.laws.specs.Search.{allBelow, all-out}
+use Rattle.laws.specs.Basics.{_≡_, refl, sym, _∙_, ap, Bool, true, not, _&&_, _||_, List, [], ℕ, zero, _+_, _-_, _≤_, _<_, arith, eqb, ltb, leb, getD, take, drop, replicate, eq-eqb, eqb-true, lt-ltb, le-ltb, le-leb, leb-true, pick, by-bool}
+use Rattle.laws.specs.{Elements.same-test, Elements.every-from, Lists.table, Ranges.all-same, Search.allBelow, Search.all-out, Tests.every}
 use Rattle.laws.specs.Tables.{length-table, getD-table, table-same}
-use Rattle.laws.specs.Tests.{every}
-use Rattle.model.specs.declared.Interval.{Interval}
-use Rattle.model.specs.declared.Checkpoint.{Checkpoint}
+use Rattle.model.specs.declared.{Interval.Interval, Checkpoint.Checkpoint}
 use Rattle.model.specs.Words.{mostProcesses, entry, zeroVector, noPins, noCheckpoint, process, own}
 use Rattle.model.specs.Sound.{within, zeroFrom, unusedCheckpoint}
 use Rattle.words.specs.Layout.{word, countOf, keptCountAt, partAt, pinsAt, vectorIn, pinsIn, checkpointIn, isKeptIn, keptIn, ofProcesses, decoded}

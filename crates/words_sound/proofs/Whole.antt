@@ -1,34 +1,20 @@
 -- The theorem: the test of the words is `sound` of the run that they stand for.
 -- Assumes nothing.
-use mathlib.Core.Path.{_≡_, refl, sym, _∙_, ap}
-use mathlib.Core.Bool.{Bool, true, false, _&&_, _||_, not}
-use mathlib.Core.List.{List, [], _∷_, map}
-use Prim.Native.Nat.{ℕ, _+_, _-_, _*_, _≤_, _<_}
-use native.Mathlib.Omega.{arith}
-use lib.Dec.{eqb, ltb, leb}
-use lib.ListN.{length, drop, replicate}
-use borrow.Author.Tests.{ltb-true, leb-true, le-leb, ne-eqb}
-use Rattle.laws.specs.Choice.{by-bool}
+use Rattle.laws.specs.Basics.{_≡_, refl, sym, _∙_, ap, Bool, true, false, not, _&&_, _||_, List, [], _∷_, map, ℕ, _+_, _-_, _*_, _≤_, _<_, arith, eqb, ltb, leb, length, drop, replicate, ne-eqb, ltb-true, le-leb, leb-true, by-bool}
 use Rattle.laws.specs.Conjunctions.{none, test, _and_, each, holds, asks, same-tests, part-fails}
-use Rattle.laws.specs.Elements.{every-replicate}
-use Rattle.laws.specs.Ranges.{all-same}
-use Rattle.laws.specs.Rows.{all-both, all-stop, and-true, every-at}
-use Rattle.laws.specs.Search.{allBelow, all-in, all-out, all-fails}
-use Rattle.laws.specs.Sums.{sum-same}
-use Rattle.laws.specs.Tests.{every, allOf, countBelow}
+use Rattle.laws.specs.{Elements.every-replicate, Ranges.all-same, Rows.all-both, Rows.all-stop, Rows.and-true, Rows.every-at, Sums.sum-same}
+use Rattle.laws.specs.{Search.allBelow, Search.all-in, Search.all-out, Search.all-fails, Tests.every, Tests.allOf, Tests.countBelow}
 use Rattle.laws.specs.Truth.{and-left, and-right, and-both, and-no-right}
-use Rattle.model.specs.declared.Checkpoint.{Checkpoint}
-use Rattle.model.specs.declared.Run.{Run}
+use Rattle.model.specs.declared.{Checkpoint.Checkpoint, Run.Run}
 use Rattle.model.specs.Words.{mostProcesses, mostUnderWay, mostMessages, mostBlocks, blocksOf, zeroVector, noPins, noCheckpoint, blank, process, own, underWay}
 use Rattle.model.specs.Sound.{sound, countSound, ownSound, within, vectorsSound, ascending, keptSound, pinsSound, messageSound, messagesSound, zeroFrom, unusedCheckpoint, unusedMessage, nothingFrom, isNothing, rowUnused, unusedSound, recordSound, keptBlocks, diskSound}
 use Rattle.words.specs.Layout.{stateSize, word, wide2, wide4, countOf, endOf, keptCountAt, blocksAt, partAt, pinsAt, vectorIn, pinsIn, keptIn, markIn, messageIn, isMessage, decoded, endFits, fits, runOf}
 use Rattle.words_sound.specs.Test.{ownIn, numberIn, numberBefore, indexIn, indexBefore, keptTests, keptFits, countsFit, partTests, partFits, blocksIn, diskFits, messageFits, carriedFits, messagesTests, soundTests, soundIn}
-use Rattle.words_sound.proofs.Laws.{both-false, cons-same}
+use Rattle.words_sound.proofs.{Laws.both-false, Laws.cons-same, Messages.under}
 use Rattle.words_sound.proofs.Parts as parts
 use Rattle.words_sound.proofs.Clauses as clauses
 use Rattle.words_sound.proofs.OneProcess as one
 use Rattle.words_sound.proofs.Messages as under-way
-use Rattle.words_sound.proofs.Messages.{under}
 
 -- The state of zeros is not sound.
 blank-off : sound (blank 0) ≡ false

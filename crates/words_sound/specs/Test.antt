@@ -1,20 +1,10 @@
 -- Document 01, "A sound state", as it is tested on the words themselves. Only places in use are looked at: a row that is in use whole, all its 16 words.
 -- proofs/Whole has the theorem that the test is `sound` of the run that the words stand for.
 -- Assumes nothing.
-use mathlib.Core.Bool.{Bool, _&&_, _||_, not}
-use mathlib.Core.List.{List, [], _∷_}
-use mathlib.Core.Path.{_≡_}
-use Prim.Native.Nat.{ℕ, zero, suc, _+_, _-_, _*_, _≤_}
-use lib.Dec.{eqb, ltb, leb}
-use lib.ListN.{length}
-use Rattle.laws.specs.Choice.{pick}
-use Rattle.laws.specs.Lists.{table}
-use Rattle.laws.specs.Search.{allBelow, anyBelow}
-use Rattle.laws.specs.Sums.{sumBelow}
-use Rattle.laws.specs.Tests.{allOf, countBelow}
+use Rattle.laws.specs.Basics.{_≡_, Bool, not, _&&_, _||_, List, [], _∷_, ℕ, zero, suc, _+_, _-_, _*_, _≤_, eqb, ltb, leb, length, pick}
+use Rattle.laws.specs.{Lists.table, Search.allBelow, Search.anyBelow, Sums.sumBelow, Tests.allOf, Tests.countBelow}
 use Rattle.model.specs.declared.Interval.{Interval}
-use Rattle.model.specs.Words.{mostProcesses, mostUnderWay, mostMessages, mostBlocks}
-use Rattle.model.specs.Sound.{causeSound}
+use Rattle.model.specs.{Words.mostProcesses, Words.mostUnderWay, Words.mostMessages, Words.mostBlocks, Sound.causeSound}
 use Rattle.words.specs.Layout.{stateSize, word, wide2, wide4, countOf, endOf, keptCountAt, blocksAt, partAt, pinsAt, indexAt, causeAt, storedAt, lowAt, highAt, senderAt, receiverAt, carriedAt, intervalOf}
 
 -- The own entry of process p.

@@ -5,14 +5,9 @@ use model::MOST_BLOCKS;
 use model::PROCESSES;
 use words::WORDS;
 use words::places;
-ghost use mathlib.Core.Path.{_≡_};
-ghost use mathlib.Core.Bool.{_&&_};
-ghost use Prim.Native.Nat.{_+_, _*_, _≤_, _<_};
-ghost use lib.Dec.{eqb, leb};
-ghost use lib.ListN.{length};
+ghost use Rattle.laws.specs.Basics.{_≡_, _&&_, _+_, _*_, _≤_, _<_, eqb, leb, length};
 ghost use Rattle.laws.specs.Search.{allBelow};
-ghost use Rattle.model.specs.Sound.{sound};
-ghost use Rattle.model.specs.Words.{mostProcesses, mostBlocks};
+ghost use Rattle.model.specs.{Sound.sound, Words.mostProcesses, Words.mostBlocks};
 ghost use Rattle.words.specs.Layout.{word, wide4, countOf, keptCountAt, blocksAt, runOf, stateSize};
 ghost use Rattle.words_sound.specs.Test.{limitsIn, Judged, countsFit, partFits, diskFits};
 

@@ -2,15 +2,9 @@
 // processor then tests several words at a time.
 use model::Interval;
 use model::PROCESSES;
-ghost use mathlib.Core.Path.{_≡_};
-ghost use Prim.Native.Nat.{_-_};
-ghost use mathlib.Core.Bool.{_&&_};
+ghost use Rattle.laws.specs.Basics.{_≡_, _&&_, _-_, eqb, leb, getD, pick};
 ghost use lib.Bits.{bitOr};
-ghost use lib.Dec.{eqb, leb};
-ghost use lib.ListN.{getD};
-ghost use Rattle.laws.specs.Choice.{pick};
-ghost use Rattle.laws.specs.Lists.{table};
-ghost use Rattle.laws.specs.Search.{allBelow, anyBelow};
+ghost use Rattle.laws.specs.{Lists.table, Search.allBelow, Search.anyBelow};
 ghost use Rattle.model.specs.Words.{entry, mostProcesses};
 
 // A word with all its bits set.

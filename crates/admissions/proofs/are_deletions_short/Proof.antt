@@ -1,9 +1,6 @@
 -- `admissions::are_deletions_short` meets its contract. Assumes nothing.
-use mathlib.Core.Path.{refl}
-use native.Mathlib.Omega.{arith}
-use borrow.Author.Needs.{needs}
-use Rattle.admissions.proofs.Room.{twice-square}
-use Rattle.admissions.proofs.are_deletions_short.Statement.{statement}
+use Rattle.laws.specs.Basics.{refl, arith, needs}
+use Rattle.admissions.proofs.{Room.twice-square, are_deletions_short.Statement.statement}
 use Rattle.admissions.proofs.are_deletions_short.Tie as tie
 
 pub are-deletions-short-spec : {M : Type 1} → statement M

@@ -1,6 +1,6 @@
 -- `admissions::is_last_interval` meets its contract: it is the test.
 -- Assumes nothing.
-use mathlib.Core.Path.{refl}
+use Rattle.laws.specs.Basics.{refl}
 use Rattle.admissions.proofs.is_last_interval.Statement.{statement}
 use Rattle.admissions.proofs.is_last_interval.Tie as tie
 

@@ -1,5 +1,5 @@
 -- `admissions::is_line_short` meets its contract. Assumes nothing.
-use mathlib.Core.Path.{refl}
+use Rattle.laws.specs.Basics.{refl}
 use Rattle.admissions.proofs.is_line_short.Statement.{statement}
 use Rattle.admissions.proofs.is_line_short.Tie as tie
 

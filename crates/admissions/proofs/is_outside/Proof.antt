@@ -1,12 +1,8 @@
 -- `admissions::is_outside` meets its contract. The loop's invariant: what is left of the failed set is its bits from k on.
 -- Assumes nothing.
-use Prim.Native.Nat.{_≤_, _-_, _/_, _^_}
-use mathlib.Core.Path.{_≡_}
-use native.Mathlib.Omega.{arith}
-use borrow.Author.Needs.{needs}
+use Rattle.laws.specs.Basics.{_≡_, _-_, _/_, _^_, _≤_, arith, needs}
 use Rattle.laws.specs.Bits.{bits-all, bits-next}
-use Rattle.admissions.proofs.Outside.{bits-left}
-use Rattle.admissions.proofs.is_outside.Statement.{statement}
+use Rattle.admissions.proofs.{Outside.bits-left, is_outside.Statement.statement}
 use Rattle.admissions.proofs.is_outside.Tie as tie
 
 abbrev Inv-loop : tie.InvT-loop

@@ -1,11 +1,6 @@
 -- `admissions::is_past_bound` meets its contract: a block count is far below the bound.
 -- Assumes nothing.
-use mathlib.Core.Path.{_≡_}
-use Prim.Native.Nat.{ℕ, _+_, _-_, _<_}
-use native.Mathlib.Omega.{arith}
-use borrow.Author.Needs.{needs}
-use borrow.Author.Tests.{ltb-true, lt-ltb}
-use lib.Dec.{ltb}
+use Rattle.laws.specs.Basics.{_≡_, ℕ, _+_, _-_, _<_, arith, ltb, needs, lt-ltb, ltb-true}
 use Rattle.laws.specs.Elements.{same-test}
 use Rattle.model.specs.Words.{mostBlocks}
 use Rattle.admissions.specs.Admissions.{pastMost}

@@ -1,5 +1,5 @@
 -- `admissions::is_too_short` meets its contract. Assumes nothing.
-use borrow.Author.Needs.{needs}
+use Rattle.laws.specs.Basics.{needs}
 use Rattle.admissions.proofs.is_too_short.Statement.{statement}
 use Rattle.admissions.proofs.is_too_short.Tie as tie
 

@@ -1,7 +1,6 @@
 -- `admissions::recovery_admission` meets its contract, refusal by refusal.
 -- Assumes nothing.
-use mathlib.Core.Path.{sym, _∙_}
-use borrow.Author.Needs.{needs}
+use Rattle.laws.specs.Basics.{sym, _∙_, needs}
 use Rattle.admissions.specs.Admissions.{recoveryAdmission}
 use Rattle.admissions.proofs.recovery_admission.Statement.{statement}
 use Rattle.admissions.proofs.recovery_admission.Tie as tie

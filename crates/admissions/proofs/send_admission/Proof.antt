@@ -1,6 +1,6 @@
 -- `admissions::send_admission` meets its contract: one test after the other.
 -- Assumes nothing.
-use borrow.Author.Tests.{le-leb, lt-leb, eq-eqb, ne-eqb}
+use Rattle.laws.specs.Basics.{eq-eqb, ne-eqb, le-leb, lt-leb}
 use Rattle.admissions.specs.Admissions.{sendAdmission}
 use Rattle.admissions.proofs.send_admission.Statement.{statement}
 use Rattle.admissions.proofs.send_admission.Tie as tie

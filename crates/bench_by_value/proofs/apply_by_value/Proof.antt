@@ -1,10 +1,5 @@
 -- `bench_by_value::apply_by_value` meets its contract. Assumes nothing.
-use mathlib.Core.Path.{_∙_, ap}
-use Prim.Native.Nat.{_-_, _*_}
-use native.Mathlib.Omega.{arith}
-use lib.ListN.{length}
-use borrow.Author.Needs.{needs}
-use Rattle.laws.specs.Choice.{pick}
+use Rattle.laws.specs.Basics.{_∙_, ap, _-_, _*_, arith, length, needs, pick}
 use Rattle.trace.specs.Answers.{eventIn}
 use Rattle.bench_by_value.proofs.Counting.{at-most-one, SoFar, Takes, none-taken, next-taken, one-taken, all-taken}
 use Rattle.bench_by_value.proofs.apply_by_value.Statement.{statement}

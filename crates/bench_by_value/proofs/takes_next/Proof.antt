@@ -1,6 +1,5 @@
 -- `bench_by_value::takes_next` meets its contract. Assumes nothing.
-use borrow.Author.Needs.{needs}
-use borrow.Author.Tests.{le-ltb, lt-ltb}
+use Rattle.laws.specs.Basics.{needs, lt-ltb, le-ltb}
 use Rattle.whole_runs.specs.Listing.{mostRecords}
 use Rattle.bench_by_value.proofs.takes_next.Statement.{statement}
 use Rattle.bench_by_value.proofs.takes_next.Tie as tie

@@ -1,13 +1,9 @@
 -- `bench_by_value::timing_by_value` meets its contract. Assumes nothing.
-use mathlib.Core.Path.{_∙_, ap}
-use borrow.Author.Needs.{needs}
-use Rattle.model.specs.Words.{ones}
-use Rattle.model.specs.Steps.{startState}
-use Rattle.model.specs.Refusals.{startRefusal}
+use Rattle.laws.specs.Basics.{_∙_, ap, needs}
+use Rattle.model.specs.{Words.ones, Steps.startState, Refusals.startRefusal}
 use Rattle.whole_runs.specs.Outcomes.{startOutcome}
 use Rattle.bench_by_value.specs.Timed.{Timed}
-use Rattle.bench_by_value.proofs.Begun.{begun, not-begun, none-timed, all-timed}
-use Rattle.bench_by_value.proofs.timing_by_value.Statement.{statement}
+use Rattle.bench_by_value.proofs.{Begun.begun, Begun.not-begun, Begun.none-timed, Begun.all-timed, timing_by_value.Statement.statement}
 use Rattle.bench_by_value.proofs.timing_by_value.Tie as tie
 
 returns : tie.Need-returns

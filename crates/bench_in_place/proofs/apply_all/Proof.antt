@@ -1,14 +1,7 @@
 -- `bench_in_place::apply_all` meets its contract. Assumes nothing.
-use mathlib.Core.Path.{_≡_, sym, _∙_, ap}
-use Prim.Native.Nat.{_-_, _*_}
-use native.Mathlib.Omega.{arith}
-use lib.Dec.{eqb}
-use lib.ListN.{length}
-use borrow.Author.Needs.{needs}
-use Rattle.laws.specs.Choice.{pick}
+use Rattle.laws.specs.Basics.{_≡_, sym, _∙_, ap, _-_, _*_, arith, eqb, length, needs, pick}
 use Rattle.model.specs.Sound.{sound}
-use Rattle.whole_runs.specs.Outcomes.{Report}
-use Rattle.whole_runs.specs.WholeRuns.{Reachable}
+use Rattle.whole_runs.specs.{Outcomes.Report, WholeRuns.Reachable}
 use Rattle.whole_runs.proofs.WholeRuns.{reachable-sound}
 use Rattle.trace.specs.Answers.{eventIn}
 use Rattle.listing.specs.Summarised.{reportIn}

@@ -1,16 +1,11 @@
 -- `bench_in_place::timing_untested` meets its contract. Assumes nothing.
-use mathlib.Core.Path.{_≡_, _∙_, ap}
-use mathlib.Core.Option.{none}
-use lib.ListN.{length}
-use borrow.Author.Needs.{needs}
-use Rattle.model.specs.Words.{ones}
-use Rattle.model.specs.Steps.{startState}
+use Rattle.laws.specs.Basics.{_≡_, _∙_, ap, none, length, needs}
+use Rattle.model.specs.{Words.ones, Steps.startState}
 use Rattle.in_place.specs.Starting.{startRefusalIn, startOutcomeIn}
 use Rattle.in_place.proofs.Leaving.{same-words}
 use Rattle.bench_by_value.specs.Timed.{Timed}
 use Rattle.bench_by_value.proofs.Begun.{begun, not-begun, none-timed, all-timed}
-use Rattle.bench_in_place.proofs.Begun.{started-reachable, never-both}
-use Rattle.bench_in_place.proofs.timing_untested.Statement.{statement}
+use Rattle.bench_in_place.proofs.{Begun.started-reachable, Begun.never-both, timing_untested.Statement.statement}
 use Rattle.bench_in_place.proofs.timing_untested.Tie as tie
 
 -- the start is accepted

@@ -1,10 +1,8 @@
 -- `console::drive` meets its contract: the loop goes through states of the machine, and ends where it stops. Assumes nothing.
-use mathlib.Core.Path.{_≡_, refl, sym, _∙_}
-use lib.ListN.{length}
+use Rattle.laws.specs.Basics.{_≡_, refl, sym, _∙_, length, needs}
 use Rattle.machine_console.specs.Lent.{stateOf}
 use Rattle.machine_console.proofs.Stepping.{room-kept}
 use Rattle.machine_console.proofs.Driving.{left, Driven, driven-first, driven-next, driven-less, driven-ends}
-use borrow.Author.Needs.{needs}
 use Rattle.console.proofs.drive.Statement.{statement}
 use Rattle.console.proofs.drive.Tie as tie
 

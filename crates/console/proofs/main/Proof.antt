@@ -1,7 +1,6 @@
 -- `console::main` meets its contract: its buffers are large enough. Assumes nothing.
-use Rattle.console.proofs.Rooms.{has-room}
-use borrow.Author.Needs.{needs}
-use Rattle.console.proofs.main.Statement.{statement}
+use Rattle.laws.specs.Basics.{needs}
+use Rattle.console.proofs.{Rooms.has-room, main.Statement.statement}
 use Rattle.console.proofs.main.Tie as tie
 
 drive-requires : tie.Need-drive-requires

@@ -1,15 +1,8 @@
 -- `in_place_recover::count_rolled_back` meets its contract. The loop's invariant: those of the processes passed so far that go back are counted.
 -- Assumes nothing.
-use Prim.Native.Nat.{ℕ, _+_, _-_, _≤_}
-use mathlib.Core.Bool.{Bool, true, false}
-use mathlib.Core.Path.{_≡_, refl}
+use Rattle.laws.specs.Basics.{_≡_, refl, Bool, true, false, ℕ, _+_, _-_, _≤_, arith, getD, needs, pick}
 use native.Mathlib.Numerals.{add-one}
-use native.Mathlib.Omega.{arith}
-use lib.ListN.{getD}
-use borrow.Author.Needs.{needs}
-use Rattle.laws.specs.Choice.{pick}
-use Rattle.laws.specs.Counting.{count-le}
-use Rattle.laws.specs.Tests.{countBelow}
+use Rattle.laws.specs.{Counting.count-le, Tests.countBelow}
 use Rattle.in_place_recover.specs.Restored.{goesBack}
 use Rattle.in_place_recover.proofs.count_rolled_back.Statement.{statement}
 use Rattle.in_place_recover.proofs.count_rolled_back.Tie as tie

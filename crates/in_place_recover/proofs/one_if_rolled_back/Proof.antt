@@ -1,9 +1,5 @@
 -- `in_place_recover::one_if_rolled_back` meets its contract. Assumes nothing.
-use mathlib.Core.Bool.{Bool}
-use mathlib.Core.Path.{sym, ap}
-use borrow.Author.Tests.{le-leb, lt-leb}
-use borrow.Author.Needs.{needs}
-use Rattle.laws.specs.Choice.{pick}
+use Rattle.laws.specs.Basics.{sym, ap, Bool, needs, le-leb, lt-leb, pick}
 use Rattle.in_place_recover.proofs.one_if_rolled_back.Statement.{statement}
 use Rattle.in_place_recover.proofs.one_if_rolled_back.Tie as tie
 

@@ -1,12 +1,9 @@
 -- `in_place_recover::recover` meets its contract: words that stand for no sound state are refused with 2, on others the step does it. Demand 3 and Notes 4 and 6 are
 -- theorems of `whole_runs`.
 -- Assumes nothing.
-use mathlib.Core.Path.{refl}
-use borrow.Author.Needs.{needs}
+use Rattle.laws.specs.Basics.{refl, needs}
 use Rattle.words.specs.Layout.{runOf}
-use Rattle.whole_runs.proofs.Clean.{clean-promise}
-use Rattle.whole_runs.proofs.Sweep.{sweep-promise}
-use Rattle.whole_runs.proofs.Unsound.{is-sound, is-unsound, recover-unsound}
+use Rattle.whole_runs.proofs.{Clean.clean-promise, Sweep.sweep-promise, Unsound.is-sound, Unsound.is-unsound, Unsound.recover-unsound}
 use Rattle.whole_runs.proofs.WholeRuns.{line-promise, recover-promise}
 use Rattle.in_place.proofs.Leaving.{same-words}
 use Rattle.in_place_recover.proofs.recover.Statement.{statement}

@@ -1,18 +1,10 @@
 -- `in_place_recover::recover_on` meets its contract: the lengths of the lists, the verdict on the failed set, then the recovery. Assumes nothing.
-use mathlib.Core.Path.{_≡_, refl, sym, _∙_}
-use mathlib.Core.Bool.{false, _||_}
-use Prim.Native.Nat.{_*_}
-use native.Mathlib.Omega.{arith}
-use lib.Dec.{ltb}
-use lib.ListN.{length}
-use borrow.Author.Needs.{needs}
-use borrow.Author.Tests.{ltb-false}
+use Rattle.laws.specs.Basics.{_≡_, refl, sym, _∙_, false, _||_, _*_, arith, ltb, length, needs, ltb-false}
 use Rattle.laws.specs.Truth.{or-none}
 use Rattle.admissions.specs.declared.Admission.the-variants.{Accepted}
 use Rattle.words.specs.Layout.{countOf}
 use Rattle.words.proofs.ViewSound.{sound-words}
-use Rattle.in_place_recover.proofs.Recovering.{lists-short, set-refused}
-use Rattle.in_place_recover.proofs.recover_on.Statement.{statement}
+use Rattle.in_place_recover.proofs.{Recovering.lists-short, Recovering.set-refused, recover_on.Statement.statement}
 use Rattle.in_place_recover.proofs.recover_on.Tie as tie
 
 abbrev start : tie.Else1 → tie.Start

@@ -1,12 +1,5 @@
 -- `in_place_recover::recover_within` meets its contract: the members, by which each process is restored, then the messages. Assumes nothing.
-use mathlib.Core.Path.{_≡_, refl, sym, ap, _∙_}
-use mathlib.Core.Bool.{false, _||_}
-use Prim.Native.Nat.{ℕ, _*_, _≤_, _<_}
-use native.Mathlib.Omega.{arith}
-use lib.Dec.{ltb}
-use lib.ListN.{length}
-use borrow.Author.Needs.{needs}
-use borrow.Author.Tests.{not-true, not-false, le-ltb}
+use Rattle.laws.specs.Basics.{_≡_, refl, sym, _∙_, ap, false, _||_, ℕ, _*_, _≤_, _<_, arith, ltb, length, needs, le-ltb, not-true, not-false}
 use Rattle.model.specs.Refusals.{noMember}
 use Rattle.admissions.specs.declared.Admission.the-variants.{Accepted}
 use Rattle.admissions.specs.Admissions.{recoveryAdmission}

@@ -1,16 +1,10 @@
 -- `in_place_recover::restore_all` meets its contract. The loop's invariant: the processes passed so far are as they are after the recovery, the others as they were, and
 -- the lent list has the pairs of what is deleted.
 -- Assumes nothing.
-use Prim.Native.Nat.{_+_, _-_, _≤_, _<_}
-use mathlib.Core.Path.{_≡_, refl, sym, _∙_}
-use native.Mathlib.Omega.{arith}
-use lib.ListN.{length}
-use lib.Seq.{sets}
-use borrow.Author.Needs.{needs}
+use Rattle.laws.specs.Basics.{_≡_, refl, sym, _∙_, _+_, _-_, _≤_, _<_, arith, length, sets, needs}
 use Rattle.whole_runs.specs.Outcomes.{pairs}
 use Rattle.words.specs.Layout.{countOf}
-use Rattle.words.proofs.View.{fits-size}
-use Rattle.words.proofs.ViewSound.{sound-words}
+use Rattle.words.proofs.{View.fits-size, ViewSound.sound-words}
 use Rattle.in_place_recover.specs.Recovering.{lossesThen, Restored}
 use Rattle.in_place_recover.proofs.Restoring.{losses-few, none-restored, none-listed, none-counted, still-size, still-disk, still-restorable, still-room, one-more, more-listed, more-counted}
 use Rattle.in_place_recover.proofs.restore_all.Statement.{statement}

@@ -2,9 +2,7 @@
 use model::Interval;
 use model::PROCESSES;
 use words::places;
-ghost use mathlib.Core.Path.{_≡_};
-ghost use Prim.Native.Nat.{_≤_, _<_};
-ghost use lib.ListN.{length};
+ghost use Rattle.laws.specs.Basics.{_≡_, _≤_, _<_, length};
 ghost use Rattle.words.specs.Layout.{stateSize};
 ghost use Rattle.model.specs.Words.{mostProcesses};
 ghost use Rattle.in_place_recover.specs.Restored.{restoredOwn, ownsAfter, Returns, AllReturn};

@@ -2,18 +2,11 @@
 use model::Interval;
 use model::PROCESSES;
 use words::places;
-ghost use mathlib.Core.Path.{_≡_};
-ghost use Prim.Native.Nat.{_+_, _*_, _≤_, _<_};
-ghost use lib.ListN.{length};
-ghost use lib.Seq.{sets};
-ghost use Rattle.model.specs.Steps.{listed, billed};
-ghost use Rattle.model.specs.Words.{mostProcesses, mostBlocks, keptPlaces};
+ghost use Rattle.laws.specs.Basics.{_≡_, _+_, _*_, _≤_, _<_, length, sets};
+ghost use Rattle.model.specs.{Steps.listed, Steps.billed, Words.mostProcesses, Words.mostBlocks, Words.keptPlaces};
 ghost use Rattle.whole_runs.specs.Outcomes.{pairs};
 ghost use Rattle.words.specs.Layout.{word, keptCountAt, blocksAt, stateSize};
-ghost use Rattle.words_process.specs.Kept.{Used};
-ghost use Rattle.words_process.specs.Moves.{diskIn, Moves};
-ghost use Rattle.words_process.specs.Pins.{pinRow};
-ghost use Rattle.words_process.specs.Steps.{unpinnedIn};
+ghost use Rattle.words_process.specs.{Kept.Used, Moves.diskIn, Moves.Moves, Pins.pinRow, Steps.unpinnedIn};
 ghost use Rattle.in_place_recover.specs.Restored.{restoredPart, restoredGone, Restorable, pinnedPart};
 
 // Process p has these pins: what none of them names is deleted, and its pairs go after those of the `before` that were deleted before. The result says how many are

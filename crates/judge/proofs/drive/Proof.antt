@@ -1,12 +1,8 @@
 -- `judge::drive` meets its contract: the loop goes through states of the machine, and ends where it stops.
 -- Assumes nothing.
-use mathlib.Core.Path.{_≡_, refl, sym, _∙_}
-use borrow.Author.Needs.{needs}
-use native.Mathlib.Omega.{arith}
-use lib.ListN.{length}
+use Rattle.laws.specs.Basics.{_≡_, refl, sym, _∙_, arith, length, needs}
 use Rattle.machine_judge.specs.Words.{stateOf}
-use Rattle.machine_judge.proofs.Ending.{left}
-use Rattle.machine_judge.proofs.Driving.{Driven, driven-first, driven-next, driven-less, driven-ends}
+use Rattle.machine_judge.proofs.{Ending.left, Driving.Driven, Driving.driven-first, Driving.driven-next, Driving.driven-less, Driving.driven-ends}
 use Rattle.judge.proofs.drive.Statement.{statement}
 use Rattle.judge.proofs.drive.Tie as tie
 

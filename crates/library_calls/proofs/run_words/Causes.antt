@@ -1,17 +1,9 @@
 -- The causes of a state are numbers of 8 bits, and stay so where a call changes the state: so the words that it leaves are readable.
 -- Assumes nothing.
-use mathlib.Core.Path.{_≡_, _∙_}
-use mathlib.Core.List.{List, [], _∷_}
-use Prim.Native.Nat.{ℕ, zero, suc, _≤_, _<_}
-use native.Mathlib.Omega.{arith}
-use lib.ListN.{length, getD, take, length-set}
-use lib.Seq.{getD-take, getD-set-same, getD-set-other}
-use Rattle.laws.specs.Choice.{by-eq}
-use Rattle.laws.specs.Lists.{placed}
-use Rattle.laws.specs.Rows.{by-lt}
-use Rattle.model.specs.declared.Message.{Message}
-use Rattle.model.specs.declared.Disk.{Disk}
-use Rattle.model.specs.declared.Run.{Run}
+use Rattle.laws.specs.Basics.{_≡_, _∙_, List, [], _∷_, ℕ, zero, suc, _≤_, _<_, arith, length, getD, take, length-set, getD-set-same, getD-set-other, by-eq}
+use lib.Seq.{getD-take}
+use Rattle.laws.specs.{Lists.placed, Rows.by-lt}
+use Rattle.model.specs.declared.{Message.Message, Disk.Disk, Run.Run}
 use Rattle.model.specs.Words.{mostProcesses, noCheckpoint, Process, process, withProcess, withMessages, withDisk}
 use Rattle.words.proofs.View.{placed-at, placed-past}
 

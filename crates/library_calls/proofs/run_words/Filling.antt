@@ -1,26 +1,13 @@
 -- What `fill` returns and leaves, put together from its parts.
 -- Assumes nothing.
-use mathlib.Core.Path.{_≡_, sym, _∙_, ap}
-use mathlib.Core.Bool.{Bool, true, false, _&&_, false≢true}
-use mathlib.Core.List.{List}
-use Prim.Native.Nat.{ℕ, _≤_, _<_}
-use lib.ListN.{length}
-use borrow.Author.Tests.{le-leb, lt-leb}
-use Rattle.laws.specs.Choice.{by-bool}
+use Rattle.laws.specs.Basics.{_≡_, sym, _∙_, ap, Bool, true, false, _&&_, false≢true, List, ℕ, _≤_, _<_, length, le-leb, lt-leb, by-bool}
 use Rattle.laws.specs.Loops.{iter}
-use Rattle.model.specs.declared.Interval.{Interval}
-use Rattle.model.specs.declared.Pin.{Pin}
-use Rattle.model.specs.declared.Checkpoint.{Checkpoint}
-use Rattle.model.specs.declared.Run.{Run}
+use Rattle.model.specs.declared.{Interval.Interval, Pin.Pin, Checkpoint.Checkpoint, Run.Run}
 use Rattle.model.specs.Sound.{sound}
-use Rattle.words.specs.Layout.{runOf}
-use Rattle.words.specs.Puts.{puts}
+use Rattle.words.specs.{Layout.runOf, Puts.puts}
 use Rattle.library_calls.specs.run_words.Fits.{keptFits, rowsFit, messagesFit, fitsWords}
 use Rattle.library_calls.specs.run_words.Filled.{keptFilled, rowsFilled, messagesFilled, numberPuts, filled}
-use Rattle.library_calls.proofs.run_words.Sizes.{Sized}
-use Rattle.library_calls.proofs.run_words.Holding.{all-holds}
-use Rattle.library_calls.proofs.run_words.ReadBack.{read-back}
-use Rattle.library_calls.proofs.run_words.SoundFits.{sound-fits}
+use Rattle.library_calls.proofs.{run_words.Sizes.Sized, run_words.Holding.all-holds, run_words.ReadBack.read-back, run_words.SoundFits.sound-fits}
 
 -- A state that does not fit is left to nobody.
 pub refused : (s : Run) (v : List ℕ) → false ≡ fitsWords s → (false ≡ fitsWords s) × (_≡_ {A = Bool} false true → runOf v ≡ s)

@@ -1,21 +1,8 @@
 -- What words hold that a state fills, thing by thing, where the state fits them.
 -- Assumes nothing.
-use mathlib.Core.Path.{_≡_, _∙_, ap}
-use mathlib.Core.Bool.{Bool, true, false, _&&_}
-use mathlib.Core.List.{List, [], _∷_}
-use Prim.Native.Nat.{ℕ, _+_, _*_, _/_, _%_, _≤_, _<_}
-use native.Mathlib.Omega.{arith}
-use lib.Dec.{ltb, leb}
-use lib.ListN.{length, getD}
-use borrow.Author.Tests.{lt-ltb, le-leb}
-use Rattle.laws.specs.Choice.{by-bool}
+use Rattle.laws.specs.Basics.{_≡_, _∙_, ap, Bool, true, false, _&&_, List, [], _∷_, ℕ, _+_, _*_, _/_, _%_, _≤_, _<_, arith, ltb, leb, length, getD, lt-ltb, le-leb, by-bool}
 use Rattle.laws.specs.Loops.{iter}
-use Rattle.model.specs.declared.Interval.{Interval}
-use Rattle.model.specs.declared.Pin.{Pin}
-use Rattle.model.specs.declared.Pin.the-variants.{Nothing}
-use Rattle.model.specs.declared.Checkpoint.{Checkpoint}
-use Rattle.model.specs.declared.Message.{Message}
-use Rattle.model.specs.declared.Run.{Run}
+use Rattle.model.specs.declared.{Interval.Interval, Pin.Pin, Pin.the-variants.Nothing, Checkpoint.Checkpoint, Message.Message, Run.Run}
 use Rattle.model.specs.Words.{entry, pastEnd}
 use Rattle.words.specs.Layout.{word, wide2, wide4, keptCountAt, markAt, blocksAt, partAt, pinsAt, indexAt, causeAt, storedAt, lowAt, highAt, senderAt, receiverAt, carriedAt}
 use Rattle.words.specs.Puts.{Put, puts}

@@ -1,11 +1,6 @@
 -- Words that numbered steps leave, where no step changes how many they are: a word that no step touches, and one that a step sets and none after it touches.
 -- Assumes nothing.
-use mathlib.Core.Path.{_≡_, refl, _∙_}
-use mathlib.Core.List.{List}
-use Prim.Native.Nat.{ℕ, zero, suc, _<_}
-use native.Mathlib.Omega.{arith}
-use lib.ListN.{length}
-use Rattle.laws.specs.Choice.{by-eq}
+use Rattle.laws.specs.Basics.{_≡_, refl, _∙_, List, ℕ, zero, suc, _<_, arith, length, by-eq}
 use Rattle.laws.specs.Loops.{iter}
 use Rattle.words.specs.Layout.{word}
 

@@ -1,34 +1,15 @@
 -- A state that fits its words is read back from words that hold it.
 -- Assumes nothing.
-use mathlib.Core.Path.{_≡_, refl, sym, _∙_, ap}
-use mathlib.Core.Bool.{Bool, true, false, _&&_, not}
-use mathlib.Core.List.{List, [], _∷_}
-use Prim.Native.Nat.{ℕ, zero, suc, _+_, _-_, _*_, _/_, _%_, _≤_, _<_}
-use native.Mathlib.Omega.{arith}
-use lib.Dec.{eqb, ltb, leb}
-use lib.ListN.{length, getD, replicate}
+use Rattle.laws.specs.Basics.{_≡_, refl, sym, _∙_, ap, Bool, true, false, not, _&&_, List, [], _∷_, ℕ, zero, suc, _+_, _-_, _*_, _/_, _%_, _≤_, _<_, arith, eqb, ltb, leb, length, getD, replicate, ne-eqb, eqb-true, lt-ltb, le-ltb, le-leb, leb-true, not-true, pick, by-eq}
 use lib.Seq.{ext-getD}
-use borrow.Author.Tests.{lt-ltb, le-ltb, le-leb, leb-true, eqb-true, ne-eqb, not-true}
-use Rattle.laws.specs.Choice.{pick, by-eq}
-use Rattle.laws.specs.Elements.{every-table}
-use Rattle.laws.specs.Lists.{table, placed, select}
-use Rattle.laws.specs.Prefixes.{placed-length}
-use Rattle.laws.specs.Rows.{by-lt, every-at}
-use Rattle.laws.specs.Search.{allBelow, all-out}
-use Rattle.laws.specs.Select.{all-chosen}
-use Rattle.laws.specs.Tables.{length-table, getD-table, table-is, table-replicate}
+use Rattle.laws.specs.{Elements.every-table, Lists.table, Lists.placed, Lists.select, Prefixes.placed-length, Rows.by-lt, Rows.every-at, Select.all-chosen}
+use Rattle.laws.specs.{Search.allBelow, Search.all-out, Tables.length-table, Tables.getD-table, Tables.table-is, Tables.table-replicate}
 use Rattle.laws.specs.Truth.{and-out, or-in-right}
-use Rattle.model.specs.declared.Interval.{Interval}
-use Rattle.model.specs.declared.Pin.{Pin}
-use Rattle.model.specs.declared.Pin.the-variants.{Nothing, At}
-use Rattle.model.specs.declared.Checkpoint.{Checkpoint}
-use Rattle.model.specs.declared.Message.{Message}
-use Rattle.model.specs.declared.Run.{Run}
+use Rattle.model.specs.declared.{Interval.Interval, Pin.Pin, Pin.the-variants.Nothing, Pin.the-variants.At, Checkpoint.Checkpoint, Message.Message, Run.Run}
 use Rattle.model.specs.Words.{mostProcesses, mostUnderWay, entry, zeroVector, noPins, noCheckpoint, noMessage, pastEnd}
 use Rattle.model.specs.Sound.{zeroFrom, isNothing, nothingFrom, unusedCheckpoint, unusedMessage}
 use Rattle.words.specs.Layout.{word, countOf, keptCountAt, partAt, pinsAt, indexAt, storedAt, highAt, carriedAt, indexOf, pinOf, vectorIn, pinsIn, markIn, checkpointIn, isKeptIn, keptIn, messageIn, isMessage, messagesIn, ofProcesses, decoded, endFits, runOf}
-use Rattle.words.proofs.Reading.{index-back, pin-back, wide2-back}
-use Rattle.words.proofs.Same.{vector-is}
+use Rattle.words.proofs.{Reading.index-back, Reading.pin-back, Reading.wide2-back, Same.vector-is}
 use Rattle.words.proofs.View.{run-fits, fits-by, placed-at, placed-past}
 use Rattle.library_calls.specs.run_words.Fits.{pastMessages, indexFits, pinFits, messageFits, checkpointFits, placeFits, rowFits, oneFits, keptFits, rowsFit, messagesFit, fitsWords}
 use Rattle.library_calls.specs.run_words.Filled.{pinWord, markWord}

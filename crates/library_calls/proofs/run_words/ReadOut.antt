@@ -1,21 +1,8 @@
 -- What `read` returns, put together from its parts; and when words are readable.
 -- Assumes nothing.
-use mathlib.Core.Path.{_≡_, sym, _∙_, ap}
-use mathlib.Core.Bool.{Bool, true, false}
-use mathlib.Core.List.{List, []}
-use Prim.Native.Nat.{ℕ, _≤_, _<_}
-use native.Mathlib.Omega.{arith}
-use lib.ListN.{getD, replicate}
-use Rattle.laws.specs.Choice.{pick, by-bool}
-use Rattle.laws.specs.Lists.{placed}
-use Rattle.laws.specs.Tables.{getD-table}
-use Rattle.model.specs.declared.Checkpoint.{Checkpoint}
-use Rattle.model.specs.declared.Message.{Message}
-use Rattle.model.specs.declared.Disk.{Disk}
-use Rattle.model.specs.declared.Vectors.{Vectors}
-use Rattle.model.specs.declared.Pins.{Pins}
-use Rattle.model.specs.declared.Kept.{Kept}
-use Rattle.model.specs.declared.Run.{Run}
+use Rattle.laws.specs.Basics.{_≡_, sym, _∙_, ap, Bool, true, false, List, [], ℕ, _≤_, _<_, arith, getD, replicate, pick, by-bool}
+use Rattle.laws.specs.{Lists.placed, Tables.getD-table}
+use Rattle.model.specs.declared.{Checkpoint.Checkpoint, Message.Message, Disk.Disk, Vectors.Vectors, Pins.Pins, Kept.Kept, Run.Run}
 use Rattle.model.specs.Words.{mostProcesses, mostUnderWay, zeroVector, noPins, noCheckpoint, noMessage, blank}
 use Rattle.words.specs.Layout.{word, wide2, wide4, countOf, keptCountAt, partAt, pinsAt, causeAt, vectorIn, pinsIn, markIn, checkpointIn, isKeptIn, keptIn, messagesIn, ofProcesses, decoded, fits, runOf}
 use Rattle.words.proofs.View.{run-fits, run-unfit, count-is, row-is}

@@ -1,10 +1,7 @@
 -- A state that a function holds has the sizes that its type fixes. What the function knows of the state's memory says it.
 -- Assumes nothing.
-use mathlib.Core.Path.{_≡_, _∙_, sym}
-use mathlib.Core.List.{List, [], _∷_, map}
-use Prim.Native.Nat.{ℕ, zero, suc, _<_}
-use native.Mathlib.Omega.{arith}
-use lib.ListN.{length, getD, length-map}
+use Rattle.laws.specs.Basics.{_≡_, sym, _∙_, List, [], _∷_, map, ℕ, zero, suc, _<_, arith, length, getD}
+use lib.ListN.{length-map}
 use mir.Val.{Val}
 use base.Fml.{Fml}
 use denote.Shadow.{shadow}
@@ -12,15 +9,11 @@ use denote.Array.{each}
 use denote.Laws.{Is}
 use denote.Struct.Declared.{row}
 use denote.Struct.Laws.{owed}
-use Rattle.model.specs.declared.Pin.{Pin}
-use Rattle.model.specs.declared.Interval.{Interval}
-use Rattle.model.specs.declared.Checkpoint.{Checkpoint}
-use Rattle.model.specs.declared.Message.{Message}
-use Rattle.model.specs.declared.Run.{Run}
+use Rattle.model.specs.declared.{Pin.Pin, Interval.Interval, Checkpoint.Checkpoint, Message.Message, Run.Run}
 use Rattle.model.specs.Words.{noCheckpoint, pastEnd, entry}
+use Rattle.library_calls.specs.run_words.Fits.{pastMessages}
 use Rattle.model.proofs.Run as run
 use Rattle.model.proofs.Run.Laws as run-laws
-use Rattle.library_calls.specs.run_words.Fits.{pastMessages}
 
 pub record Sized (s : Run) : Type 0 where
   pub vectors : length (s .vectors .0) ≡ 16

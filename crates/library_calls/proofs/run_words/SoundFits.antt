@@ -1,35 +1,17 @@
 -- A sound state fits its words.
 -- Assumes nothing.
-use mathlib.Core.Path.{_≡_, refl, sym, _∙_, ap}
-use mathlib.Core.Bool.{true, false, _&&_, not}
-use mathlib.Core.List.{List, []}
-use mathlib.Core.Option.{Option, some}
-use Prim.Native.Nat.{ℕ, suc, _-_, _/_, _%_, _≤_, _<_}
-use native.Mathlib.Omega.{arith}
-use lib.Dec.{eqb}
-use lib.ListN.{length, getD, take}
-use lib.Seq.{length-take-le, getD-take}
-use borrow.Author.Tests.{lt-ltb, le-ltb, le-leb, eqb-true, ne-eqb}
-use Rattle.laws.specs.Choice.{by-eq}
-use Rattle.laws.specs.Lists.{orElse, lastOf}
-use Rattle.laws.specs.Rows.{by-lt, every-at, every-beyond, some-where, last-take}
-use Rattle.laws.specs.Search.{all-in}
-use Rattle.laws.specs.Tests.{every}
+use Rattle.laws.specs.Basics.{_≡_, refl, sym, _∙_, ap, true, false, not, _&&_, List, [], Option, some, ℕ, suc, _-_, _/_, _%_, _≤_, _<_, arith, eqb, length, getD, take, length-take-le, ne-eqb, eqb-true, lt-ltb, le-ltb, le-leb, by-eq}
+use lib.Seq.{getD-take}
+use Rattle.laws.specs.{Lists.orElse, Lists.lastOf, Rows.by-lt, Rows.every-at, Rows.every-beyond, Rows.some-where, Rows.last-take, Search.all-in, Tests.every}
 use Rattle.laws.specs.Truth.{and-out, and-both}
-use Rattle.model.specs.declared.Pin.{Pin}
-use Rattle.model.specs.declared.Pin.the-variants.{Nothing, At}
-use Rattle.model.specs.declared.Checkpoint.{Checkpoint}
-use Rattle.model.specs.declared.CheckpointIndex.{CheckpointIndex}
+use Rattle.model.specs.declared.{Pin.Pin, Pin.the-variants.Nothing, Pin.the-variants.At, Checkpoint.Checkpoint, CheckpointIndex.CheckpointIndex, Run.Run}
 use Rattle.model.specs.declared.Message.{Message}
-use Rattle.model.specs.declared.Run.{Run}
 use Rattle.model.specs.Words.{names, noCheckpoint, pastEnd, blockCount, process, own, underWay}
 use Rattle.model.specs.Sound.{causeSound, isBlockCount, recordSound, pinSound, messageSound, zeroFrom, nothingFrom, unusedCheckpoint, unusedMessage, sound}
 use Rattle.model.specs.laws.Sound.{SoundProcess, SoundState, sound-state, sound-message}
 use Rattle.words.proofs.Ascending.{ascending-least, ascending-less}
 use Rattle.library_calls.specs.run_words.Fits.{pastMessages, indexFits, pinFits, messageFits, checkpointFits, placeFits, rowFits, oneFits, keptFits, rowsFit, messagesFit, fitsWords}
-use Rattle.library_calls.proofs.run_words.Sizes.{Sized}
-use Rattle.library_calls.proofs.run_words.Holding.{stored, message}
-use Rattle.library_calls.proofs.run_words.ReadBack.{same-entry}
+use Rattle.library_calls.proofs.{run_words.Sizes.Sized, run_words.Holding.stored, run_words.Holding.message, run_words.ReadBack.same-entry}
 
 index-fits : (a : CheckpointIndex) → a .0 < 65535 → indexFits a ≡ true
 unfolding indexFits

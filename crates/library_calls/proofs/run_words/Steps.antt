@@ -1,22 +1,9 @@
 -- One step of the filling, in its cases: what a function returns and leaves of the words is what the definitions say.
 -- Assumes nothing.
-use mathlib.Core.Path.{_≡_, refl, _∙_, ap}
-use mathlib.Core.Bool.{Bool, true, false, not, _&&_}
-use mathlib.Core.List.{List, [], _∷_}
-use Prim.Native.Nat.{ℕ, _+_, _/_, _%_, _≤_, _<_}
-use native.Mathlib.Omega.{arith}
-use lib.Dec.{eqb}
-use lib.ListN.{getD, set}
-use borrow.Author.Tests.{lt-ltb, le-ltb, le-leb, lt-leb}
+use Rattle.laws.specs.Basics.{_≡_, refl, _∙_, ap, Bool, true, false, not, _&&_, List, [], _∷_, ℕ, _+_, _/_, _%_, _≤_, _<_, arith, eqb, getD, set, lt-ltb, le-ltb, le-leb, lt-leb}
 use Rattle.laws.specs.Search.{allBelow}
-use Rattle.model.specs.declared.Interval.{Interval}
-use Rattle.model.specs.declared.Pin.{Pin}
-use Rattle.model.specs.declared.Pin.the-variants.{Nothing}
-use Rattle.model.specs.declared.Checkpoint.{Checkpoint}
-use Rattle.model.specs.declared.Message.{Message}
-use Rattle.model.specs.Words.{pastEnd}
-use Rattle.model.specs.Sound.{zeroFrom, nothingFrom, unusedCheckpoint, unusedMessage}
-use Rattle.model.specs.declared.Disk.{Disk}
+use Rattle.model.specs.declared.{Interval.Interval, Pin.Pin, Pin.the-variants.Nothing, Checkpoint.Checkpoint, Message.Message, Disk.Disk}
+use Rattle.model.specs.{Words.pastEnd, Sound.zeroFrom, Sound.nothingFrom, Sound.unusedCheckpoint, Sound.unusedMessage}
 use Rattle.words.specs.Layout.{keptCountAt, markAt, blocksAt, partAt, pinsAt, indexAt, causeAt, storedAt}
 use Rattle.words.specs.Puts.{puts, vectorPut, puts2, puts4}
 use Rattle.words.proofs.Reading.{set-is-put}

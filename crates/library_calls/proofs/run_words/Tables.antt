@@ -1,27 +1,13 @@
 -- The tables of the state that words stand for, as loops fill them.
 -- Assumes nothing.
-use mathlib.Core.Path.{_≡_, refl, sym, _∙_, ap}
-use mathlib.Core.Bool.{Bool, true, false, _&&_, not, false≢true}
-use mathlib.Core.List.{List, [], _∷_, _++_, append-nil}
-use Prim.Native.Nat.{ℕ, _+_, _*_, _/_, _%_, _≤_, _<_}
+use Rattle.laws.specs.Basics.{_≡_, refl, sym, _∙_, ap, Bool, true, false, not, _&&_, false≢true, List, [], _∷_, _++_, append-nil, ℕ, _+_, _*_, _/_, _%_, _≤_, _<_, arith, eqb, ltb, length, getD, set, replicate, length-append, length-replicate, getD-replicate, ne-eqb, lt-ltb, le-ltb, pick, by-eq}
 use native.Mathlib.Numerals.{add-one}
-use native.Mathlib.Omega.{arith}
-use lib.Dec.{eqb, ltb}
-use lib.ListN.{length, getD, set, replicate, length-replicate, getD-replicate, length-append}
 use lib.Seq.{set-getD}
-use borrow.Author.Tests.{lt-ltb, le-ltb, ne-eqb}
-use Rattle.laws.specs.Choice.{pick, by-eq}
-use Rattle.laws.specs.Lists.{select, table, placed}
-use Rattle.laws.specs.Loops.{setBelow, below-length, below-above, below-at}
-use Rattle.laws.specs.Prefixes.{placed-more}
-use Rattle.laws.specs.Rows.{by-lt}
-use Rattle.laws.specs.Select.{select-append, select-one, select-length}
+use Rattle.laws.specs.{Lists.select, Lists.table, Lists.placed, Loops.setBelow, Loops.below-length, Loops.below-above, Loops.below-at, Prefixes.placed-more}
+use Rattle.laws.specs.{Rows.by-lt, Select.select-append, Select.select-one, Select.select-length, Update.upd, Update.upd-same, Update.upd-other, Truth.and-out}
 use Rattle.laws.specs.Tables.{length-table, getD-table, table-is, table-same, table-set, table-replicate}
-use Rattle.laws.specs.Update.{upd, upd-same, upd-other}
-use Rattle.model.specs.declared.Checkpoint.{Checkpoint}
-use Rattle.model.specs.declared.Message.{Message}
+use Rattle.model.specs.declared.{Checkpoint.Checkpoint, Message.Message}
 use Rattle.model.specs.Words.{mostProcesses, noCheckpoint, noMessage}
-use Rattle.laws.specs.Truth.{and-out}
 use Rattle.words.specs.Layout.{word, keptCountAt, indexAt, countOf, checkpointIn, isKeptIn, keptIn, messageIn, isMessage, ofProcesses}
 
 -- A row for each process.

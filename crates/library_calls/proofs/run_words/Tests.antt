@@ -1,23 +1,9 @@
 -- Tests of a row, by its entries.
 -- Assumes nothing.
-use mathlib.Core.Path.{_≡_}
-use mathlib.Core.Bool.{true, not, false≢true}
-use mathlib.Core.List.{List}
-use Prim.Native.Nat.{_<_}
-use native.Mathlib.Omega.{arith}
-use lib.Dec.{eqb, ltb}
-use lib.ListN.{length}
-use borrow.Author.Tests.{eq-eqb, ltb-true}
-use Rattle.laws.specs.Truth.{and-out}
-use Rattle.model.specs.declared.Message.{Message}
-use Rattle.laws.specs.Elements.{same-test}
-use Rattle.laws.specs.Choice.{by-eq}
-use Rattle.laws.specs.Rows.{every-at, every-by}
-use Rattle.laws.specs.Search.{allBelow, all-in, all-out}
-use Rattle.model.specs.declared.Interval.{Interval}
-use Rattle.model.specs.declared.CheckpointIndex.{CheckpointIndex}
-use Rattle.model.specs.Words.{entry}
-use Rattle.model.specs.Sound.{zeroFrom}
+use Rattle.laws.specs.Basics.{_≡_, true, not, false≢true, List, _<_, arith, eqb, ltb, length, eq-eqb, ltb-true, by-eq}
+use Rattle.laws.specs.{Truth.and-out, Elements.same-test, Rows.every-at, Rows.every-by, Search.allBelow, Search.all-in, Search.all-out}
+use Rattle.model.specs.declared.{Message.Message, Interval.Interval, CheckpointIndex.CheckpointIndex}
+use Rattle.model.specs.{Words.entry, Sound.zeroFrom}
 use Rattle.library_calls.specs.run_words.Fits.{indexFits, messageFits}
 
 -- The entries of a vector are all zero.

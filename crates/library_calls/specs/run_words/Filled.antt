@@ -1,18 +1,8 @@
 -- The words of a state that fits, thing by thing: what is put where, in the order in which it is put.
 -- Assumes nothing.
-use mathlib.Core.Bool.{Bool, false, _&&_}
-use mathlib.Core.List.{List, [], _∷_, _++_}
-use Prim.Native.Nat.{ℕ, _+_, _/_, _%_}
-use lib.Dec.{ltb, leb}
-use lib.ListN.{getD}
-use Rattle.laws.specs.Choice.{pick}
+use Rattle.laws.specs.Basics.{Bool, false, _&&_, List, [], _∷_, _++_, ℕ, _+_, _/_, _%_, ltb, leb, getD, pick}
 use Rattle.laws.specs.Loops.{iter}
-use Rattle.model.specs.declared.Interval.{Interval}
-use Rattle.model.specs.declared.Pin.{Pin}
-use Rattle.model.specs.declared.Pin.the-variants.{Nothing, At}
-use Rattle.model.specs.declared.Checkpoint.{Checkpoint}
-use Rattle.model.specs.declared.Message.{Message}
-use Rattle.model.specs.declared.Disk.{Disk}
+use Rattle.model.specs.declared.{Interval.Interval, Pin.Pin, Pin.the-variants.Nothing, Pin.the-variants.At, Checkpoint.Checkpoint, Message.Message, Disk.Disk}
 use Rattle.model.specs.declared.Run.{Run}
 use Rattle.model.specs.Words.{mostProcesses, pastEnd, mostUnderWay, keptPlaces}
 use Rattle.words.specs.Layout.{keptCountAt, markAt, blocksAt, partAt, pinsAt, indexAt, causeAt, storedAt, lowAt, highAt, senderAt, receiverAt, carriedAt}

@@ -1,19 +1,9 @@
 -- "A state fits its words if, read back, it is the same `Run`; one that does not is not sound (numbers that are too wide, unequal block counts, anything in unused places)".
 -- Assumes nothing.
-use mathlib.Core.Bool.{Bool, true, false, _&&_, not}
-use mathlib.Core.List.{List, []}
-use Prim.Native.Nat.{ℕ, _/_, _%_}
-use lib.Dec.{eqb, ltb, leb}
-use lib.ListN.{getD}
-use Rattle.laws.specs.Choice.{pick}
+use Rattle.laws.specs.Basics.{Bool, true, false, not, _&&_, List, [], ℕ, _/_, _%_, eqb, ltb, leb, getD, pick}
 use Rattle.laws.specs.Search.{allBelow}
-use Rattle.model.specs.declared.Interval.{Interval}
-use Rattle.model.specs.declared.CheckpointIndex.{CheckpointIndex}
-use Rattle.model.specs.declared.Pin.{Pin}
-use Rattle.model.specs.declared.Pin.the-variants.{Nothing, At}
-use Rattle.model.specs.declared.Checkpoint.{Checkpoint}
-use Rattle.model.specs.declared.Message.{Message}
-use Rattle.model.specs.declared.Run.{Run}
+use Rattle.model.specs.declared.{Interval.Interval, CheckpointIndex.CheckpointIndex, Pin.Pin, Pin.the-variants.Nothing, Pin.the-variants.At, Message.Message}
+use Rattle.model.specs.declared.{Checkpoint.Checkpoint, Run.Run}
 use Rattle.model.specs.Words.{mostProcesses, mostUnderWay, pastEnd, mostInterval, keptPlaces}
 use Rattle.model.specs.Sound.{zeroFrom, nothingFrom, unusedCheckpoint, unusedMessage}
 

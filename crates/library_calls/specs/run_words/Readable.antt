@@ -1,9 +1,6 @@
 -- Words that stand for a state of the declared type: what a call in place leaves of words that stand for a sound one.
 -- Assumes nothing.
-use mathlib.Core.Path.{_≡_}
-use mathlib.Core.Bool.{true}
-use mathlib.Core.List.{List}
-use Prim.Native.Nat.{ℕ, _≤_, _<_}
+use Rattle.laws.specs.Basics.{_≡_, true, List, ℕ, _≤_, _<_}
 use Rattle.model.specs.declared.Run.{Run}
 use Rattle.model.specs.Words.{mostProcesses}
 use Rattle.words.specs.Layout.{word, countOf, causeAt, isKeptIn, fits}

@@ -11,19 +11,12 @@ use model::PROCESSES;
 use model::Pin;
 use model::Run;
 use words::places;
-ghost use mathlib.Core.Path.{_≡_};
-ghost use mathlib.Core.Bool.{true};
-ghost use mathlib.Core.List.{[], _∷_};
-ghost use Prim.Native.Nat.{_+_, _≤_, _<_};
-ghost use lib.ListN.{length, getD};
-ghost use Rattle.laws.specs.Choice.{pick};
-ghost use Rattle.laws.specs.Loops.{iter};
-ghost use Rattle.laws.specs.Search.{allBelow};
+ghost use Rattle.laws.specs.Basics.{_≡_, true, [], _∷_, _+_, _≤_, _<_, length, getD, pick};
+ghost use Rattle.laws.specs.{Loops.iter, Search.allBelow};
 ghost use Rattle.model.specs.declared.Pin.the-variants.{Nothing};
 ghost use Rattle.model.specs.Sound.{zeroFrom, isNothing, nothingFrom, unusedCheckpoint, unusedMessage};
 ghost use Rattle.model.specs.Words.{mostProcesses, mostUnderWay, keptPlaces};
-ghost use Rattle.words.specs.Layout.{runOf, stateSize};
-ghost use Rattle.words.specs.Puts.{puts};
+ghost use Rattle.words.specs.{Layout.runOf, Layout.stateSize, Puts.puts};
 ghost use Rattle.library_calls.specs.run_words.Fits.{indexFits, pinFits, messageFits, placeFits, keptFits, rowFits, rowsFit, oneFits, messagesFit, fitsWords};
 ghost use Rattle.library_calls.specs.run_words.Filled.{pinWord, pinsPut, markWord, checkpointPuts, placeFilled, keptFilled, processPuts, rowFilled, rowsFilled, messagePuts, oneFilled, messagesFilled, numberPuts};
 
@@ -139,7 +132,14 @@ fn put_checkpoint(w: &mut [u16], p: usize, k: usize, c: Checkpoint)
     );
 }
 
-fn put_place(w: &mut [u16], p: usize, k: usize, c: Checkpoint, kept_count: usize, blocks: u16) -> bool
+fn put_place(
+    w: &mut [u16],
+    p: usize,
+    k: usize,
+    c: Checkpoint,
+    kept_count: usize,
+    blocks: u16,
+) -> bool
     requires { ⌜ (length (now w) ≡ stateSize) × (p < mostProcesses) × (k < mostProcesses) ⌝ }
     ensures { λ r. ⌜ (r ≡ placeFits k «kept_count» blocks c) × (now (w .exit) ≡ placeFilled p k «kept_count» c (now (w .entry))) ⌝ }
 {

@@ -1,20 +1,11 @@
 -- `library_halves::merge` meets its contract. After the first `match` both halves are such that no rule refuses them before any record (`fine`).
 -- Assumes nothing.
-use mathlib.Core.Path.{_≡_, refl, sym, _∙_}
-use mathlib.Core.List.{List}
-use mathlib.Core.Option.{none}
-use Prim.Native.Nat.{ℕ}
-use native.Mathlib.Omega.{arith}
-use lib.ListN.{getD, length-set}
+use Rattle.laws.specs.Basics.{_≡_, refl, sym, _∙_, List, none, ℕ, arith, getD, length-set, needs}
 use denote.Ref.{now}
-use borrow.Author.Needs.{needs}
-use Rattle.theory_merges.specs.Halves.{OrdersAgree}
-use Rattle.theory_merges.specs.Merge.{mergeRefusal, MergePromise}
-use Rattle.theory_merges.proofs.Orders.{orders-agree}
-use Rattle.theory_merges.proofs.Replaying.{Fine, fine, merge-promise}
-use Rattle.library_halves.proofs.Rules.{after-first-is, count-is}
+use Rattle.theory_merges.specs.{Halves.OrdersAgree, Merge.mergeRefusal, Merge.MergePromise}
+use Rattle.theory_merges.proofs.{Orders.orders-agree, Replaying.Fine, Replaying.fine, Replaying.merge-promise}
+use Rattle.library_halves.proofs.{Rules.after-first-is, Rules.count-is, merge.Statement.statement}
 use Rattle.library_halves.proofs.Whole.{refused-early, refused-late, merged, accepted, refused}
-use Rattle.library_halves.proofs.merge.Statement.{statement}
 use Rattle.library_halves.proofs.merge.Tie as tie
 
 -- What is lent.

@@ -1,13 +1,6 @@
 -- What the least crossing says of all messages.
 -- Assumes nothing.
-use mathlib.Core.Path.{_≡_, refl, sym, _∙_, ap}
-use mathlib.Core.Bool.{true, false, false≢true}
-use mathlib.Core.List.{List}
-use Prim.Native.Nat.{ℕ, zero, suc, _≤_, _<_}
-use native.Mathlib.Omega.{arith}
-use lib.Dec.{ltb}
-use borrow.Author.Tests.{ltb-true, ltb-false, lt-ltb, le-ltb}
-use Rattle.laws.specs.Choice.{by-bool, by-eq}
+use Rattle.laws.specs.Basics.{_≡_, refl, sym, _∙_, ap, true, false, false≢true, List, ℕ, zero, suc, _≤_, _<_, arith, ltb, lt-ltb, le-ltb, ltb-true, ltb-false, by-bool, by-eq}
 use Rattle.laws.specs.Loops.{iter}
 use Rattle.library_judge.specs.declared.decision.crossing.Least.{Least}
 use Rattle.library_judge.specs.decision.Crossings.{crossesAt, knownAt, crossingOf, lesserOf, leastCrossing, noLeast}

@@ -1,24 +1,14 @@
 -- What the functions over the tables ask for, from tables that hold a trail, and the verdict from what they answer.
 -- Assumes nothing.
-use mathlib.Core.Path.{_≡_, refl, sym, _∙_}
-use mathlib.Core.Bool.{Bool, true, false, not, false≢true}
-use mathlib.Core.List.{List}
-use Prim.Native.Nat.{ℕ, _-_, _≤_, _<_}
-use native.Mathlib.Omega.{arith}
-use lib.ListN.{length, getD, set, replicate, length-set, length-replicate, getD-replicate}
-use lib.Seq.{getD-set-same, getD-set-other}
+use Rattle.laws.specs.Basics.{_≡_, refl, sym, _∙_, Bool, true, false, not, false≢true, List, ℕ, _-_, _≤_, _<_, arith, length, getD, set, replicate, length-set, length-replicate, getD-replicate, getD-set-same, getD-set-other}
 use Rattle.histories.specs.History.{checkpoints}
 use Rattle.theory_patterns.specs.Paths.{FirstBreaking}
-use Rattle.theory_patterns.specs.Paths as paths
-use Rattle.theory_patterns.proofs.Trail.{Trail, Right}
-use Rattle.theory_patterns.proofs.Facts.{vectors, sources}
-use Rattle.library_judge.specs.declared.decision.crossing.Near.{Near}
-use Rattle.library_judge.specs.declared.decision.far.Far.{Far}
-use Rattle.library_judge.specs.decision.Crossings.{Sized, NearEnd}
-use Rattle.library_judge.specs.decision.Reach.{Linked, Closure, FirstRow}
-use Rattle.library_judge.specs.decision.Far.{Reaching, FarEnd}
-use Rattle.library_judge.specs.decision.Represents.{Represents}
+use Rattle.theory_patterns.proofs.{Trail.Trail, Trail.Right, Facts.vectors, Facts.sources}
+use Rattle.library_judge.specs.declared.{decision.crossing.Near.Near, decision.far.Far.Far}
+use Rattle.library_judge.specs.{decision.Crossings.Sized, decision.Crossings.NearEnd, decision.Far.Reaching, decision.Far.FarEnd}
+use Rattle.library_judge.specs.{decision.Reach.Linked, decision.Reach.Closure, decision.Reach.FirstRow, decision.Represents.Represents}
 use Rattle.library_judge.proofs.decision.Verdict.{says-trackable, says-breaks, reach-rows}
+use Rattle.theory_patterns.specs.Paths as paths
 
 -- What is reached at the start.
 abbrev pub startOf : ℕ → ℕ → List ℕ

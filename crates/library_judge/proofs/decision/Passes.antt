@@ -1,17 +1,7 @@
 -- What a pass over the messages does to what is reached: entries only fall, each is the end of a way from the start, and a pass that changes nothing has
 -- found what is closed.
 -- Assumes nothing.
-use mathlib.Core.Path.{_≡_, refl, sym, _∙_, ap}
-use mathlib.Core.Bool.{Bool, true, false, false≢true}
-use mathlib.Core.Logic.{_⊎_, inl, inr}
-use mathlib.Core.List.{List, [], _∷_}
-use Prim.Native.Nat.{ℕ, zero, suc, _+_, _-_, _≤_, _<_}
-use native.Mathlib.Omega.{arith}
-use lib.Dec.{eqb, ltb, leb}
-use lib.ListN.{length, getD, set, length-set}
-use lib.Seq.{getD-set-same, getD-set-other}
-use borrow.Author.Tests.{eqb-true, eqb-false, ltb-true, ltb-false, leb-true, leb-false}
-use Rattle.laws.specs.Choice.{by-bool, by-eq}
+use Rattle.laws.specs.Basics.{_≡_, refl, sym, _∙_, ap, Bool, true, false, false≢true, List, [], _∷_, _⊎_, inl, inr, ℕ, zero, suc, _+_, _-_, _≤_, _<_, arith, eqb, ltb, leb, length, getD, set, length-set, getD-set-same, getD-set-other, eqb-true, eqb-false, ltb-true, ltb-false, leb-true, leb-false, by-bool, by-eq}
 use Rattle.laws.specs.Loops.{either}
 use Rattle.library_judge.specs.declared.decision.reach.Pass.{Pass}
 use Rattle.library_judge.specs.decision.Reach.{Linked, senderOf, receiverOf, loweredBy, relaxedBy, passed, ReachedRow, begins, leads}

@@ -1,32 +1,17 @@
 -- The tables give the verdict: what the near end, the closure and the far end say of the tables is what the mathematics of `patterns` asks for.
 -- Assumes nothing.
-use mathlib.Core.Path.{_≡_, refl, sym, _∙_, ap}
-use mathlib.Core.Bool.{true, false, not, _&&_, false≢true}
-use mathlib.Core.Logic.{_⊎_, inl, inr}
-use mathlib.Core.List.{List}
-use Prim.Native.Nat.{ℕ, zero, suc, _-_, _≤_, _<_}
-use native.Mathlib.Omega.{arith}
-use lib.Dec.{eqb, ltb}
-use lib.ListN.{getD}
-use borrow.Author.Tests.{eqb-false, ltb-true, ltb-false, lt-ltb, le-ltb, ne-eqb}
-use Rattle.laws.specs.Choice.{pick, by-bool, by-eq}
+use Rattle.laws.specs.Basics.{_≡_, refl, sym, _∙_, ap, true, false, not, _&&_, false≢true, List, _⊎_, inl, inr, ℕ, zero, suc, _-_, _≤_, _<_, arith, eqb, ltb, getD, ne-eqb, eqb-false, lt-ltb, le-ltb, ltb-true, ltb-false, pick, by-bool, by-eq}
 use Rattle.laws.specs.Loops.{either}
 use Rattle.histories.specs.History.{sent, received, Lists, checkpoints}
-use Rattle.theory_patterns.proofs.Placing.{stands-le}
+use Rattle.theory_patterns.proofs.{Placing.stands-le, Core.Vectors, Core.Crossing, Core.higher, Core.crossing-path, Core.reached}
 use Rattle.theory_patterns.specs.Paths.{StandsIn, Path, one, onward, Before, FirstBreaking}
-use Rattle.theory_patterns.specs.Paths as paths
-use Rattle.theory_patterns.proofs.Core.{Vectors, Crossing, higher, crossing-path, reached}
-use Rattle.theory_patterns.proofs.Causal.{Sources, by-entry, entry-by}
-use Rattle.theory_patterns.proofs.First.{trackable, first-breaking}
-use Rattle.library_judge.specs.declared.decision.crossing.Least.{Least}
-use Rattle.library_judge.specs.declared.decision.crossing.Near.{Near}
-use Rattle.library_judge.specs.declared.decision.far.Far.{Far}
-use Rattle.library_judge.specs.decision.Rows.{entryAt}
+use Rattle.theory_patterns.proofs.{Causal.Sources, Causal.by-entry, Causal.entry-by, First.trackable, First.first-breaking}
+use Rattle.library_judge.specs.declared.{decision.crossing.Least.Least, decision.crossing.Near.Near, decision.far.Far.Far}
+use Rattle.library_judge.specs.{decision.Rows.entryAt, decision.Far.FarEnd, decision.Represents.intervalOf, decision.Represents.Represents}
 use Rattle.library_judge.specs.decision.Crossings.{crossesAt, knownAt, leastCrossing, NearEnd}
 use Rattle.library_judge.specs.decision.Reach.{senderOf, ReachedRow, begins, leads, Closure, FirstRow}
-use Rattle.library_judge.specs.decision.Far.{FarEnd}
-use Rattle.library_judge.specs.decision.Represents.{intervalOf, Represents}
 use Rattle.library_judge.proofs.decision.Leasts.{least-of}
+use Rattle.theory_patterns.specs.Paths as paths
 
 -- A test of two parts.
 both : (t a b : ℕ) → (not (eqb t 0) && ltb a b) ≡ true → (t ≡ 0 → ⊥) × (a < b)

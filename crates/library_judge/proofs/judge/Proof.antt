@@ -1,6 +1,6 @@
 -- `library_judge::judge` meets its contract.
 -- Assumes nothing.
-use borrow.Author.Needs.{needs}
+use Rattle.laws.specs.Basics.{needs}
 use Rattle.library_judge.proofs.judge.Statement.{statement}
 use Rattle.library_judge.proofs.judge.Tie as tie
 

@@ -1,15 +1,9 @@
 -- `library_judge::judge_with_tables` meets its contract: the refusals in their order, and the verdict on the tables.
 -- Assumes nothing.
-use borrow.Author.Needs.{needs}
-use mathlib.Core.Path.{_∙_}
-use mathlib.Core.Logic.{inl, inr}
-use Prim.Native.Nat.{_≤_}
-use native.Mathlib.Omega.{arith}
-use lib.ListN.{length}
+use Rattle.laws.specs.Basics.{_∙_, inl, inr, _≤_, arith, length, needs}
 use Rattle.library_judge.specs.Kept.{tables}
-use Rattle.library_judge.proofs.Together.{short-enough}
+use Rattle.library_judge.proofs.{Together.short-enough, judge_with_tables.Statement.statement}
 use Rattle.library_judge.proofs.Together.{first-byte, all-refused-by, all-taken, no-byte, bad-count, too-many, right-refused, right-taken}
-use Rattle.library_judge.proofs.judge_with_tables.Statement.{statement}
 use Rattle.library_judge.proofs.judge_with_tables.Tie as tie
 
 returns : tie.Need-returns

@@ -1,15 +1,8 @@
 -- Which received messages cross, on the tables: `from` has the row of each message's send, `to` the row of its receipt and 1, or 0.
 -- Assumes nothing.
-use mathlib.Core.Path.{_≡_, sym, _∙_, ap}
-use mathlib.Core.Bool.{Bool, true, false, not, _&&_}
-use mathlib.Core.List.{List}
-use Prim.Native.Nat.{ℕ, _+_, _-_, _≤_, _<_}
-use lib.Dec.{eqb, ltb}
-use lib.ListN.{length, getD}
-use Rattle.laws.specs.Choice.{pick}
+use Rattle.laws.specs.Basics.{_≡_, sym, _∙_, ap, Bool, true, false, not, _&&_, List, ℕ, _+_, _-_, _≤_, _<_, eqb, ltb, length, getD, pick}
 use Rattle.laws.specs.Loops.{iter, iter-none, iter-more}
-use Rattle.library_judge.specs.declared.decision.crossing.Least.{Least}
-use Rattle.library_judge.specs.declared.decision.crossing.Near.{Near}
+use Rattle.library_judge.specs.declared.{decision.crossing.Least.Least, decision.crossing.Near.Near}
 use Rattle.library_judge.specs.decision.Rows.{entryAt, tableSize, mostRows}
 
 -- Every row that a message names is in the table.

@@ -1,10 +1,6 @@
 -- The far end on the tables.
 -- Assumes nothing.
-use mathlib.Core.Path.{_≡_}
-use mathlib.Core.Bool.{true, false}
-use mathlib.Core.List.{List}
-use Prim.Native.Nat.{ℕ, _≤_, _<_}
-use lib.ListN.{length, getD}
+use Rattle.laws.specs.Basics.{_≡_, true, false, List, ℕ, _≤_, _<_, length, getD}
 use Rattle.model.specs.Words.{mostProcesses}
 use Rattle.library_judge.specs.declared.decision.far.Far.{Far}
 use Rattle.library_judge.specs.decision.Rows.{entryAt, tableSize, mostRows, noRow}

@@ -1,13 +1,6 @@
 -- The closure on the tables: the least row of each process that a zigzag path reaches. 65535 stands for none.
 -- Assumes nothing.
-use mathlib.Core.Path.{_≡_}
-use mathlib.Core.Bool.{true, _&&_}
-use mathlib.Core.List.{List}
-use Prim.Native.Nat.{ℕ, zero, suc, _-_, _≤_, _<_}
-use native.Mathlib.Omega.{arith}
-use lib.Dec.{eqb, ltb, leb}
-use lib.ListN.{length, getD, set}
-use Rattle.laws.specs.Choice.{pick}
+use Rattle.laws.specs.Basics.{_≡_, true, _&&_, List, ℕ, zero, suc, _-_, _≤_, _<_, arith, eqb, ltb, leb, length, getD, set, pick}
 use Rattle.model.specs.Words.{mostProcesses}
 use Rattle.library_judge.specs.declared.decision.reach.Pass.{Pass}
 use Rattle.library_judge.specs.decision.Rows.{entryAt, mostRows}

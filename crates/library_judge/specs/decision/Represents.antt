@@ -1,19 +1,14 @@
 -- What the tables hold of the lists of events and the vectors of their states: a row for each state from the first interval on, and of each message the row
 -- of its send and of its receipt.
 -- Assumes nothing.
-use mathlib.Core.Path.{_≡_}
-use mathlib.Core.List.{List}
-use Prim.Native.Nat.{ℕ, suc, _-_, _≤_, _<_}
-use lib.ListN.{length, getD}
+use Rattle.laws.specs.Basics.{_≡_, List, ℕ, suc, _-_, _≤_, _<_, length, getD}
 use Rattle.model.specs.Words.{mostProcesses}
 use Rattle.histories.specs.History.{sent, received, Lists, checkpoints}
-use Rattle.theory_patterns.specs.Paths.{StandsIn, FirstBreaking}
+use Rattle.theory_patterns.specs.{Paths.StandsIn, Paths.FirstBreaking, Patterns.mostJudged}
 use Rattle.theory_patterns.proofs.Trail.{Trail, Right}
-use Rattle.theory_patterns.specs.declared.Verdict.{Verdict}
-use Rattle.theory_patterns.specs.declared.Verdict.the-variants.{Refused, Trackable, Breaks}
-use Rattle.theory_patterns.specs.Paths as paths
-use Rattle.theory_patterns.specs.Patterns.{mostJudged}
+use Rattle.theory_patterns.specs.declared.{Verdict.Verdict, Verdict.the-variants.Refused, Verdict.the-variants.Trackable, Verdict.the-variants.Breaks}
 use Rattle.library_judge.specs.decision.Rows.{entryAt, tableSize, mostRows}
+use Rattle.theory_patterns.specs.Paths as paths
 
 -- The interval of a row: its own entry.
 abbrev pub intervalOf : List ℕ → List ℕ → ℕ → ℕ

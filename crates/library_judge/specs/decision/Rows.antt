@@ -1,18 +1,7 @@
 -- Rows of 16 in one flat table.
 -- Assumes nothing.
-use mathlib.Core.Path.{_≡_, refl, sym, _∙_}
-use mathlib.Core.List.{List}
-use mathlib.Core.Logic.{_⊎_, inl, inr}
-use Prim.Native.Nat.{ℕ, zero, suc, _+_, _*_, _≤_, _<_}
-use native.Mathlib.Omega.{arith}
-use lib.Dec.{ltb}
-use lib.ListN.{length, getD, set, length-set}
-use lib.Seq.{getD-set-same, getD-set-other}
-use borrow.Author.Tests.{ltb-true, ltb-false}
-use Rattle.laws.specs.Choice.{by-bool, by-eq}
-use Rattle.laws.specs.Lists.{table}
-use Rattle.laws.specs.Loops.{iter, iter-none, iter-more, either}
-use Rattle.laws.specs.Tables.{length-table, getD-table}
+use Rattle.laws.specs.Basics.{_≡_, refl, sym, _∙_, List, _⊎_, inl, inr, ℕ, zero, suc, _+_, _*_, _≤_, _<_, arith, ltb, length, getD, set, length-set, getD-set-same, getD-set-other, ltb-true, ltb-false, by-bool, by-eq}
+use Rattle.laws.specs.{Lists.table, Loops.iter, Loops.iter-none, Loops.iter-more, Loops.either, Tables.length-table, Tables.getD-table}
 use Rattle.model.specs.declared.Interval.{Interval}
 use Rattle.model.specs.Words.{mostProcesses}
 

@@ -1,6 +1,5 @@
 // The near end: which received messages cross, and the least that a receiver's state knows where one does.
-ghost use mathlib.Core.Path.{_≡_};
-ghost use Prim.Native.Nat.{_≤_, _<_};
+ghost use Rattle.laws.specs.Basics.{_≡_, _≤_, _<_};
 ghost use Rattle.model.specs.Words.{mostProcesses};
 ghost use Rattle.library_judge.specs.decision.Crossings.{Sized, crossingOf, lesserOf, leastCrossing, NearEnd};
 

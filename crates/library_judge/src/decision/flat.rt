@@ -1,9 +1,7 @@
 // The flat table of vectors: a row of 16 numbers for each state. These two functions and `entry` are all that touch it.
 use model::Interval;
 use model::PROCESSES;
-ghost use mathlib.Core.Path.{_≡_};
-ghost use Prim.Native.Nat.{_+_, _*_, _≤_, _<_};
-ghost use lib.ListN.{length};
+ghost use Rattle.laws.specs.Basics.{_≡_, _+_, _*_, _≤_, _<_, length};
 ghost use Rattle.model.specs.Words.{mostProcesses};
 ghost use Rattle.library_judge.specs.decision.Rows.{rowOf, putRow, entryAt};
 

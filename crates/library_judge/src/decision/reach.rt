@@ -1,9 +1,6 @@
 // The closure: the least row of each process that a zigzag path from the near end reaches.
 use model::PROCESSES;
-ghost use mathlib.Core.Path.{_≡_};
-ghost use mathlib.Core.Bool.{false};
-ghost use Prim.Native.Nat.{_+_, _*_, _≤_, _<_};
-ghost use lib.ListN.{length};
+ghost use Rattle.laws.specs.Basics.{_≡_, false, _+_, _*_, _≤_, _<_, length};
 ghost use Rattle.model.specs.Words.{mostProcesses};
 ghost use Rattle.library_judge.specs.decision.Reach.{Linked, loweredBy, relaxedBy, passed, Closure, FirstRow};
 

@@ -1,10 +1,5 @@
 -- `library_readers::carried_on` meets its contract. Assumes nothing.
-use mathlib.Core.Path.{_≡_, refl, sym, _∙_, ap}
-use mathlib.Core.Option.{none, some}
-use mathlib.Core.List.{List}
-use Prim.Native.Nat.{ℕ, zero, suc, _≤_, _<_}
-use native.Mathlib.Omega.{arith}
-use borrow.Author.Needs.{needs}
+use Rattle.laws.specs.Basics.{_≡_, refl, sym, _∙_, ap, List, none, some, ℕ, zero, suc, _≤_, _<_, arith, needs}
 use Rattle.whole_runs.specs.Outcomes.{accepting}
 use Rattle.listing.specs.answers.Codes.{coded, valueCode}
 use Rattle.words.proofs.ViewSound.{sound-words}
@@ -12,8 +7,7 @@ use Rattle.library_readers.specs.Readings.{Reading}
 use Rattle.words.specs.declared.messages.Found.the-variants.{Nothing, At}
 use Rattle.words.specs.messages.Places.{placeOf, foundAt}
 use Rattle.in_place.proofs.Losing.{place-in}
-use Rattle.library_readers.proofs.Readings.{answer-is, nothing-reported}
-use Rattle.library_readers.proofs.Carried.{carried-short, carried-missing, carried-read}
+use Rattle.library_readers.proofs.{Readings.answer-is, Readings.nothing-reported, Carried.carried-short, Carried.carried-missing, Carried.carried-read}
 use Rattle.library_readers.proofs.carried_on.Statement.{statement}
 use Rattle.library_readers.proofs.carried_on.Tie as tie
 

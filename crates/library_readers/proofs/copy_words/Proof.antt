@@ -1,11 +1,6 @@
 -- `library_readers::copy_words` meets its contract. Assumes nothing.
-use Prim.Native.Nat.{_≤_, _-_, _+_}
-use mathlib.Core.Path.{_≡_, refl, _∙_}
-use native.Mathlib.Omega.{arith}
-use lib.ListN.{length, length-set}
-use borrow.Author.Needs.{needs}
-use Rattle.laws.specs.Below.{below-written}
-use Rattle.laws.specs.Loops.{setBelow, below-none, step-set}
+use Rattle.laws.specs.Basics.{_≡_, refl, _∙_, _+_, _-_, _≤_, arith, length, length-set, needs}
+use Rattle.laws.specs.{Below.below-written, Loops.setBelow, Loops.below-none, Loops.step-set}
 use Rattle.words.specs.Layout.{word}
 use Rattle.library_readers.proofs.copy_words.Statement.{statement}
 use Rattle.library_readers.proofs.copy_words.Tie as tie

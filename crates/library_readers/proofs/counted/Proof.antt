@@ -1,7 +1,6 @@
 -- `library_readers::counted` meets its contract. Assumes nothing.
-use native.Mathlib.Omega.{arith}
-use Rattle.listing.specs.Lines.{valueIn}
-use Rattle.listing.specs.Summarised.{reportIn}
+use Rattle.laws.specs.Basics.{arith}
+use Rattle.listing.specs.{Lines.valueIn, Summarised.reportIn}
 use Rattle.listing.proofs.answers.Fit.{fits-value}
 use Rattle.library_readers.proofs.counted.Statement.{statement}
 use Rattle.library_readers.proofs.counted.Tie as tie

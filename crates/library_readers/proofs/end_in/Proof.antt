@@ -1,6 +1,5 @@
 -- `library_readers::end_in` meets its contract. Assumes nothing.
-use native.Mathlib.Omega.{arith}
-use borrow.Author.Needs.{needs}
+use Rattle.laws.specs.Basics.{arith, needs}
 use Rattle.words.proofs.ViewSound.{sound-words}
 use Rattle.library_readers.proofs.end_in.Statement.{statement}
 use Rattle.library_readers.proofs.end_in.Tie as tie

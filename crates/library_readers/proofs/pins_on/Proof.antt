@@ -1,7 +1,6 @@
 -- `library_readers::pins_on` meets its contract. Assumes nothing.
-use borrow.Author.Needs.{needs}
-use Rattle.library_readers.proofs.Readings.{answer-is, pins-row}
-use Rattle.library_readers.proofs.pins_on.Statement.{statement}
+use Rattle.laws.specs.Basics.{needs}
+use Rattle.library_readers.proofs.{Readings.answer-is, Readings.pins-row, pins_on.Statement.statement}
 use Rattle.library_readers.proofs.pins_on.Tie as tie
 
 returns : tie.Need-returns

@@ -1,12 +1,6 @@
 -- `library_readers::put_three` meets its contract. Assumes nothing.
-use Prim.Native.Nat.{ℕ, _+_}
-use mathlib.Core.Path.{_≡_}
-use mathlib.Core.List.{List, [], _∷_}
+use Rattle.laws.specs.Basics.{_≡_, List, [], _∷_, ℕ, _+_, arith, set, length-set, sets, needs}
 use native.Mathlib.Numerals.{add-one}
-use native.Mathlib.Omega.{arith}
-use lib.ListN.{length-set, set}
-use lib.Seq.{sets}
-use borrow.Author.Needs.{needs}
 use Rattle.library_readers.proofs.put_three.Statement.{statement}
 use Rattle.library_readers.proofs.put_three.Tie as tie
 

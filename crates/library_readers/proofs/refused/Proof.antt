@@ -1,5 +1,5 @@
 -- `library_readers::refused` meets its contract. Assumes nothing.
-use borrow.Author.Needs.{needs}
+use Rattle.laws.specs.Basics.{needs}
 use Rattle.listing.proofs.answers.Fit.{fits-refused}
 use Rattle.library_readers.proofs.refused.Statement.{statement}
 use Rattle.library_readers.proofs.refused.Tie as tie

@@ -1,7 +1,5 @@
 -- `library_readers::row_on` meets its contract. Assumes nothing.
-use mathlib.Core.Path.{refl}
-use native.Mathlib.Omega.{arith}
-use borrow.Author.Needs.{needs}
+use Rattle.laws.specs.Basics.{refl, arith, needs}
 use Rattle.words.proofs.ViewSound.{sound-words}
 use Rattle.library_readers.proofs.Readings.{answer-is, nothing-reported, row-short, row-absent, row-read}
 use Rattle.library_readers.proofs.row_on.Statement.{statement}

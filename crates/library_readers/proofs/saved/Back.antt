@@ -1,18 +1,10 @@
 -- Words are read back from their bytes; bytes that are whole are those of the words read from them; and bytes are no longer whole where
 -- up to four in a row were changed.
 -- Assumes nothing.
-use mathlib.Core.Path.{_≡_, refl, sym, _∙_, ap}
-use mathlib.Core.Bool.{true}
-use mathlib.Core.List.{List, [], _∷_, _++_}
-use Prim.Native.Nat.{ℕ, zero, suc, _+_, _*_, _-_, _/_, _%_, _≤_, _<_}
-use native.Mathlib.Omega.{arith}
-use lib.Dec.{eqb}
-use lib.ListN.{length, getD, take, drop, length-drop, take-append-drop, List·getD-append}
-use lib.Seq.{ext-getD, getD-take, getD-drop, length-take-le}
-use borrow.Author.Tests.{eq-eqb, eqb-true}
-use Rattle.laws.specs.Rows.{by-lt}
-use Rattle.laws.specs.Search.{allBelow, all-in, all-out}
-use Rattle.laws.specs.Tables.{length-table, getD-table}
+use Rattle.laws.specs.Basics.{_≡_, refl, sym, _∙_, ap, true, List, [], _∷_, _++_, ℕ, zero, suc, _+_, _-_, _*_, _/_, _%_, _≤_, _<_, arith, eqb, length, getD, take, drop, length-drop, length-take-le, eq-eqb, eqb-true}
+use lib.ListN.{take-append-drop, List·getD-append}
+use lib.Seq.{ext-getD, getD-take, getD-drop}
+use Rattle.laws.specs.{Rows.by-lt, Search.allBelow, Search.all-in, Search.all-out, Tables.length-table, Tables.getD-table}
 use Rattle.laws.specs.Truth.{and-left, and-right, and-both}
 use Rattle.library_readers.specs.saved.Castagnoli.{ones, remainder, crc32c, Bytes}
 use Rattle.library_readers.proofs.saved.FourBytes.{by-parity, number, eights, four-bytes, with-sum}

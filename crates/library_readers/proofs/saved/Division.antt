@@ -1,12 +1,7 @@
 -- What is left of bytes: of bytes after bytes, and that it has 32 bits.
 -- Assumes nothing.
-use mathlib.Core.Path.{_≡_, refl}
-use mathlib.Core.List.{List, [], _∷_, _++_}
-use Prim.Native.Nat.{ℕ, zero, suc, _/_, _%_, _<_}
-use native.Mathlib.Omega.{arith}
+use Rattle.laws.specs.Basics.{_≡_, refl, List, [], _∷_, _++_, ℕ, zero, suc, _/_, _%_, _<_, arith, eqb, by-bool}
 use lib.Bits.{bitXor, xor-lt}
-use lib.Dec.{eqb}
-use Rattle.laws.specs.Choice.{by-bool}
 use Rattle.laws.specs.Loops.{iter}
 use Rattle.library_readers.specs.saved.Castagnoli.{polynomial, bitTaken, byteTaken, remainder, Bytes}
 

@@ -1,16 +1,9 @@
 -- Bytes that differ within four in a row have different remainders, and so different checksums: four bytes after a remainder are 32 steps of the division of a
 -- number of 32 bits, and every step can be taken back.
 -- Assumes nothing.
-use mathlib.Core.Path.{_≡_, refl, sym, _∙_, ap}
-use mathlib.Core.List.{List, [], _∷_, _++_}
-use Prim.Native.Nat.{ℕ, zero, suc, _+_, _*_, _/_, _%_, _^_, _≤_, _<_}
+use Rattle.laws.specs.Basics.{_≡_, refl, sym, _∙_, ap, List, [], _∷_, _++_, ℕ, zero, suc, _+_, _*_, _/_, _%_, _^_, _≤_, _<_, arith, eqb, length, eqb-true, eqb-false, by-bool}
 use native.Mathlib.Nat.{pow-suc, div-eq-of-lt, mul-comm}
-use native.Mathlib.Omega.{arith}
 use lib.Bits.{bitXor, differ, xor-step, xor-comm, xor-shr, xor-self, xor-shifted, xor-zero-r}
-use lib.Dec.{eqb}
-use lib.ListN.{length}
-use borrow.Author.Tests.{eqb-true, eqb-false}
-use Rattle.laws.specs.Choice.{by-bool}
 use Rattle.laws.specs.Loops.{iter}
 use Rattle.library_readers.specs.saved.Castagnoli.{polynomial, ones, bitTaken, byteTaken, remainder, crc32c, Bytes}
 use Rattle.library_readers.proofs.saved.Division.{Short, xor-short, bits-short, byte-short, remainder-short, remainder-append}

@@ -1,24 +1,15 @@
 -- What saving and loading answer and leave, in each of their cases.
 -- Assumes nothing.
-use mathlib.Core.Path.{_≡_, refl, sym, _∙_, ap}
-use mathlib.Core.Bool.{true, false}
-use mathlib.Core.List.{List, _++_, append-nil}
-use mathlib.Core.Option.{Option, none, some}
-use Prim.Native.Nat.{ℕ, _+_, _≤_, _<_}
-use native.Mathlib.Omega.{arith}
-use lib.ListN.{length, getD, drop}
-use lib.Seq.{sets, drop-length, ext-getD}
-use borrow.Author.Tests.{lt-ltb, le-ltb, eq-eqb, ne-eqb}
-use Rattle.laws.specs.Front.{written-front}
-use Rattle.laws.specs.Tables.{length-table, getD-table}
+use Rattle.laws.specs.Basics.{_≡_, refl, sym, _∙_, ap, true, false, List, _++_, append-nil, Option, none, some, ℕ, _+_, _≤_, _<_, arith, length, getD, drop, sets, eq-eqb, ne-eqb, lt-ltb, le-ltb}
+use lib.Seq.{drop-length, ext-getD}
+use Rattle.laws.specs.{Front.written-front, Tables.length-table, Tables.getD-table}
 use Rattle.model.specs.declared.Refusal.the-variants.{UnsoundState, ListTooShort}
 use Rattle.model.specs.Sound.{sound}
 use Rattle.whole_runs.specs.Outcomes.{accepting}
 use Rattle.listing.specs.answers.Codes.{coded}
 use Rattle.words.specs.Layout.{runOf}
-use Rattle.library_readers.specs.Readings.{Reading}
+use Rattle.library_readers.specs.{Readings.Reading, saved.Format.savedBytes, saved.Format.wordsIn, saved.Format.isWhole}
 use Rattle.library_readers.proofs.Readings.{refusedBy, read, refused-by, read-by}
-use Rattle.library_readers.specs.saved.Format.{savedBytes, wordsIn, isWhole}
 use Rattle.library_readers.specs.saved.Saving.{saving, loadedWords, notLoaded, loadedInto, loading}
 
 -- The answer and the list of an outcome.

@@ -1,21 +1,9 @@
 -- The parts of saved bytes: how many they are, and what stands at each place.
 -- Assumes nothing.
-use mathlib.Core.Path.{_≡_, refl, sym, _∙_, ap}
-use mathlib.Core.Bool.{true, false}
-use mathlib.Core.List.{List, [], _∷_, _++_}
-use Prim.Native.Nat.{ℕ, zero, suc, _+_, _*_, _/_, _%_, _≤_, _<_}
-use native.Mathlib.Omega.{arith}
-use lib.Dec.{eqb}
-use lib.ListN.{length, getD, take, drop, length-append, List·getD-append}
-use lib.Seq.{getD-append-add, take-at, drop-at, sets, length-take-le}
-use borrow.Author.Tests.{eq-eqb, ne-eqb}
-use Rattle.laws.specs.Front.{written-front}
-use Rattle.laws.specs.Lists.{table}
-use Rattle.laws.specs.Loops.{all-yes}
-use Rattle.laws.specs.Prefixes.{take-more}
-use Rattle.laws.specs.Rows.{all-stop}
-use Rattle.laws.specs.Search.{allBelow}
-use Rattle.laws.specs.Written.{sets-after}
+use Rattle.laws.specs.Basics.{_≡_, refl, sym, _∙_, ap, true, false, List, [], _∷_, _++_, ℕ, zero, suc, _+_, _*_, _/_, _%_, _≤_, _<_, arith, eqb, length, getD, take, drop, length-append, sets, length-take-le, eq-eqb, ne-eqb}
+use lib.ListN.{List·getD-append}
+use lib.Seq.{getD-append-add, take-at, drop-at}
+use Rattle.laws.specs.{Front.written-front, Lists.table, Loops.all-yes, Prefixes.take-more, Rows.all-stop, Search.allBelow, Written.sets-after}
 use Rattle.library_readers.specs.saved.Castagnoli.{crc32c}
 use Rattle.library_readers.specs.saved.Format.{heading, wordBytes, summedBytes, sumBytes, savedBytes, sumIn, hasHeading, hasSum, isWhole}
 

@@ -1,12 +1,6 @@
 -- What was saved is loaded; and bytes that are loaded were saved, and with up to four in a row changed they are not loaded.
 -- Assumes nothing.
-use mathlib.Core.Path.{_≡_, refl, _∙_, ap}
-use mathlib.Core.Bool.{Bool, true, false, _&&_}
-use mathlib.Core.List.{List, _++_}
-use mathlib.Core.Option.{none, some}
-use Prim.Native.Nat.{ℕ}
-use native.Mathlib.Omega.{arith}
-use Rattle.laws.specs.Choice.{pick, by-bool}
+use Rattle.laws.specs.Basics.{_≡_, refl, _∙_, ap, Bool, true, false, _&&_, List, _++_, none, some, ℕ, arith, pick, by-bool}
 use Rattle.laws.specs.Truth.{and-left, and-right}
 use Rattle.model.specs.Sound.{sound}
 use Rattle.words.specs.Layout.{runOf}

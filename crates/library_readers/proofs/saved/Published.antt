@@ -1,7 +1,6 @@
 -- The check value that is published with CRC-32C: the checksum of the nine bytes "123456789" is E3069283 in hexadecimal.
 -- Assumes nothing.
-use mathlib.Core.Path.{_≡_, refl}
-use mathlib.Core.List.{[], _∷_}
+use Rattle.laws.specs.Basics.{_≡_, refl, [], _∷_}
 use Rattle.laws.specs.Loops.{iter}
 use Rattle.library_readers.specs.saved.Castagnoli.{bitTaken, byteTaken, remainder, crc32c}
 

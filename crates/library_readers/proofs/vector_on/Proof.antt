@@ -1,7 +1,6 @@
 -- `library_readers::vector_on` meets its contract. Assumes nothing.
-use borrow.Author.Needs.{needs}
-use Rattle.library_readers.proofs.Readings.{answer-is, vector-row}
-use Rattle.library_readers.proofs.vector_on.Statement.{statement}
+use Rattle.laws.specs.Basics.{needs}
+use Rattle.library_readers.proofs.{Readings.answer-is, Readings.vector-row, vector_on.Statement.statement}
 use Rattle.library_readers.proofs.vector_on.Tie as tie
 
 returns : tie.Need-returns

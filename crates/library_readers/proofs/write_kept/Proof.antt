@@ -1,16 +1,9 @@
 -- `library_readers::write_kept` meets its contract. Assumes nothing.
-use Prim.Native.Nat.{ℕ, _+_, _*_, _-_, _≤_}
-use mathlib.Core.Path.{_≡_, refl, _∙_}
-use mathlib.Core.List.{List}
-use native.Mathlib.Omega.{arith}
-use lib.ListN.{length}
-use lib.Seq.{sets}
-use borrow.Author.Needs.{needs}
+use Rattle.laws.specs.Basics.{_≡_, refl, _∙_, List, ℕ, _+_, _-_, _*_, _≤_, arith, length, sets, needs}
 use Rattle.laws.specs.Lists.{table}
 use Rattle.words.specs.Layout.{checkpointIn}
 use Rattle.library_readers.specs.Readings.{storedNumbers}
-use Rattle.library_readers.proofs.Three.{stored-step}
-use Rattle.library_readers.proofs.write_kept.Statement.{statement}
+use Rattle.library_readers.proofs.{Three.stored-step, write_kept.Statement.statement}
 use Rattle.library_readers.proofs.write_kept.Tie as tie
 
 abbrev Inv-loop : tie.InvT-loop

@@ -1,12 +1,5 @@
 -- `library_readers::write_message` meets its contract. Assumes nothing.
-use Prim.Native.Nat.{ℕ, _+_, _*_}
-use mathlib.Core.Path.{_≡_, refl, sym, _∙_, ap}
-use mathlib.Core.Bool.{true, false}
-use mathlib.Core.List.{List, [], _∷_}
-use lib.Seq.{sets}
-use borrow.Author.Needs.{needs}
-use borrow.Author.Tests.{eq-eqb, ne-eqb}
-use Rattle.laws.specs.Choice.{pick}
+use Rattle.laws.specs.Basics.{_≡_, refl, sym, _∙_, ap, true, false, List, [], _∷_, ℕ, _+_, _*_, sets, needs, eq-eqb, ne-eqb, pick}
 use Rattle.model.specs.declared.Message.{Message}
 use Rattle.words.specs.Layout.{word, senderAt, receiverAt, messageIn, isMessage}
 use Rattle.library_readers.specs.Written.{threeOf}

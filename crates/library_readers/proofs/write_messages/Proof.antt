@@ -1,19 +1,9 @@
 -- `library_readers::write_messages` meets its contract. Assumes nothing.
-use Prim.Native.Nat.{ℕ, _+_, _*_, _-_, _≤_}
-use mathlib.Core.Path.{_≡_, refl, sym, _∙_, ap}
-use mathlib.Core.List.{List}
-use native.Mathlib.Omega.{arith}
-use lib.ListN.{length}
-use lib.Seq.{sets}
-use borrow.Author.Needs.{needs}
-use Rattle.laws.specs.Lists.{select, table}
-use Rattle.laws.specs.Select.{select-length}
-use Rattle.laws.specs.Tables.{length-table}
+use Rattle.laws.specs.Basics.{_≡_, refl, sym, _∙_, ap, List, ℕ, _+_, _-_, _*_, _≤_, arith, length, sets, needs}
+use Rattle.laws.specs.{Lists.select, Lists.table, Select.select-length, Tables.length-table}
 use Rattle.words.specs.Layout.{messageIn, isMessage}
-use Rattle.library_readers.specs.Readings.{sentNumbers}
-use Rattle.library_readers.specs.Written.{messagesBelow}
-use Rattle.library_readers.proofs.Three.{sent-step}
-use Rattle.library_readers.proofs.write_messages.Statement.{statement}
+use Rattle.library_readers.specs.{Readings.sentNumbers, Written.messagesBelow}
+use Rattle.library_readers.proofs.{Three.sent-step, write_messages.Statement.statement}
 use Rattle.library_readers.proofs.write_messages.Tie as tie
 
 abbrev Inv-loop : tie.InvT-loop

@@ -1,11 +1,5 @@
 -- `library_readers::write_numbers` meets its contract. Assumes nothing.
-use Prim.Native.Nat.{ℕ}
-use mathlib.Core.Path.{_≡_, refl, sym, _∙_, ap}
-use mathlib.Core.List.{List, [], _∷_}
-use native.Mathlib.Omega.{arith}
-use lib.ListN.{length-set, set}
-use lib.Seq.{sets}
-use borrow.Author.Needs.{needs}
+use Rattle.laws.specs.Basics.{_≡_, refl, sym, _∙_, ap, List, [], _∷_, ℕ, arith, set, length-set, sets, needs}
 use Rattle.words.specs.Layout.{word, wide2, wide4, countOf}
 use Rattle.library_readers.specs.Written.{numbersIn}
 use Rattle.library_readers.proofs.write_numbers.Statement.{statement}

@@ -1,12 +1,8 @@
 -- CRC-32C: the remainder of bytes by the polynomial of Castagnoli, lowest bit first, started from 32 ones and inverted at the end. `bitXor` is the exclusive or of two
 -- numbers, bit by bit. proofs/Published has the checksum's published check value.
 -- Assumes nothing.
-use mathlib.Core.List.{List, [], _∷_}
-use Prim.Native.Nat.{ℕ, _/_, _%_, _<_}
+use Rattle.laws.specs.Basics.{List, [], _∷_, ℕ, _/_, _%_, _<_, eqb, getD, pick}
 use lib.Bits.{bitXor}
-use lib.Dec.{eqb}
-use lib.ListN.{getD}
-use Rattle.laws.specs.Choice.{pick}
 use Rattle.laws.specs.Loops.{iter}
 
 -- x³² + x²⁸ + x²⁷ + x²⁶ + x²⁵ + x²³ + x²² + x²⁰ + x¹⁹ + x¹⁸ + x¹⁴ + x¹³ + x¹¹ + x¹⁰ + x⁹ + x⁸ + x⁶ + 1 without its highest term; x³¹ is the lowest bit, 1 the highest.

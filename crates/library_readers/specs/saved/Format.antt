@@ -2,13 +2,8 @@
 -- all these. Every number has its lowest byte first, on every machine. proofs/Back says that words are read back from their bytes, that whole bytes are those of the
 -- words read from them, and that bytes are no longer whole where up to four in a row were changed.
 -- Assumes nothing.
-use mathlib.Core.Bool.{Bool, _&&_}
-use mathlib.Core.List.{List, [], _∷_, _++_}
-use Prim.Native.Nat.{ℕ, _+_, _*_, _/_, _%_}
-use lib.Dec.{eqb}
-use lib.ListN.{length, getD, take}
-use Rattle.laws.specs.Lists.{table}
-use Rattle.laws.specs.Search.{allBelow}
+use Rattle.laws.specs.Basics.{Bool, _&&_, List, [], _∷_, _++_, ℕ, _+_, _*_, _/_, _%_, eqb, length, getD, take}
+use Rattle.laws.specs.{Lists.table, Search.allBelow}
 use Rattle.words.specs.Layout.{stateSize}
 use Rattle.library_readers.specs.saved.Castagnoli.{crc32c}
 

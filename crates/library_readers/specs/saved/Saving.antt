@@ -1,21 +1,12 @@
 -- What it answers and leaves to save the state that words stand for, and to load words from bytes, any at all. The bytes are those of specs/Format.
 -- proofs/Promises has the two theorems.
 -- Assumes nothing.
-use mathlib.Core.Path.{_≡_}
-use mathlib.Core.Bool.{true, _&&_}
-use mathlib.Core.List.{List, [], _∷_, _++_}
-use mathlib.Core.Option.{Option, none, some}
-use Prim.Native.Nat.{ℕ, _≤_}
-use lib.Dec.{eqb}
-use lib.ListN.{length}
-use Rattle.laws.specs.Choice.{pick}
+use Rattle.laws.specs.Basics.{_≡_, true, _&&_, List, [], _∷_, _++_, Option, none, some, ℕ, _≤_, eqb, length, pick}
 use Rattle.model.specs.declared.Refusal.the-variants.{UnsoundState}
-use Rattle.model.specs.Sound.{sound}
-use Rattle.model.specs.Refusals.{unsound}
+use Rattle.model.specs.{Sound.sound, Refusals.unsound}
 use Rattle.whole_runs.specs.Outcomes.{refusing, accepting}
 use Rattle.words.specs.Layout.{stateSize, runOf}
-use Rattle.library_readers.specs.Readings.{Reading, reading, short}
-use Rattle.library_readers.specs.saved.Castagnoli.{Bytes}
+use Rattle.library_readers.specs.{Readings.Reading, Readings.reading, Readings.short, saved.Castagnoli.Bytes}
 use Rattle.library_readers.specs.saved.Format.{savedSize, savedBytes, wordsIn, isWhole}
 
 -- 2 if the words stand for no sound state, 3 if there is room for fewer bytes than are saved; else the bytes go to the front of the lent ones, and the value says how

@@ -1,10 +1,6 @@
 // The bytes of a saved state (specs/Format): written from its words, judged, and the words read from them.
 use words::WORDS;
-ghost use mathlib.Core.Path.{_≡_};
-ghost use mathlib.Core.List.{[], _∷_};
-ghost use Prim.Native.Nat.{_+_, _*_, _≤_, _<_};
-ghost use lib.ListN.{length};
-ghost use lib.Seq.{sets};
+ghost use Rattle.laws.specs.Basics.{_≡_, [], _∷_, _+_, _*_, _≤_, _<_, length, sets};
 ghost use Rattle.words.specs.Layout.{stateSize};
 ghost use Rattle.library_readers.specs.saved.Format.{heading, wordBytes, sumBytes, savedBytes, wordIn, wordsIn, sumIn, hasHeading, hasSum, isWhole, savedSize, summedSize};
 

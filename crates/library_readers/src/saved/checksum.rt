@@ -1,7 +1,5 @@
 // CRC-32C, the checksum of a saved state: specs/Castagnoli says what it is, and here it is computed, bit by bit.
-ghost use mathlib.Core.Path.{_≡_};
-ghost use Prim.Native.Nat.{_≤_};
-ghost use lib.ListN.{length, take};
+ghost use Rattle.laws.specs.Basics.{_≡_, _≤_, length, take};
 ghost use Rattle.library_readers.specs.saved.Castagnoli.{bitTaken, byteTaken, crc32c};
 
 // The polynomial of Castagnoli (hexadecimal 82F63B78), and 32 ones.

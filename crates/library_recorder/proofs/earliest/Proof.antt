@@ -1,12 +1,10 @@
 -- `library_recorder::earliest` meets its contract: the call is made, and nothing is written.
 -- Assumes nothing.
-use mathlib.Core.Path.{_∙_, refl}
-use borrow.Author.Needs.{needs}
+use Rattle.laws.specs.Basics.{refl, _∙_, needs}
 use Rattle.words.specs.Layout.{runOf}
 use Rattle.words_line.specs.Through.{namedIn}
 use Rattle.theory_recording.specs.Recording.{recordedEarliest}
-use Rattle.library_recorder.proofs.record.Leaves.{leaves-all}
-use Rattle.library_recorder.proofs.earliest.Statement.{statement}
+use Rattle.library_recorder.proofs.{record.Leaves.leaves-all, earliest.Statement.statement}
 use Rattle.library_recorder.proofs.earliest.Tie as tie
 
 returns : tie.Need-returns

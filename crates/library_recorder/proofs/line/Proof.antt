@@ -1,11 +1,9 @@
 -- `library_recorder::line` meets its contract: the call is made, and nothing is written.
 -- Assumes nothing.
-use mathlib.Core.Path.{_∙_, refl}
-use borrow.Author.Needs.{needs}
+use Rattle.laws.specs.Basics.{refl, _∙_, needs}
 use Rattle.words.specs.Layout.{runOf}
 use Rattle.theory_recording.specs.Recording.{recordedLine}
-use Rattle.library_recorder.proofs.record.Leaves.{leaves-all}
-use Rattle.library_recorder.proofs.line.Statement.{statement}
+use Rattle.library_recorder.proofs.{record.Leaves.leaves-all, line.Statement.statement}
 use Rattle.library_recorder.proofs.line.Tie as tie
 
 returns : tie.Need-returns

@@ -1,10 +1,6 @@
 -- What a call through the recorder leaves, field by field: the functions return and write each by itself.
 -- Assumes nothing.
-use mathlib.Core.Path.{_≡_, sym, ap}
-use mathlib.Core.List.{List}
-use Prim.Native.Nat.{ℕ, _+_}
-use lib.ListN.{length}
-use lib.Seq.{sets}
+use Rattle.laws.specs.Basics.{_≡_, sym, ap, List, ℕ, _+_, length, sets}
 use Rattle.whole_runs.specs.Outcomes.{Outcome}
 use Rattle.theory_recording.specs.Recording.{Recorded, unwritten, appended}
 

@@ -1,26 +1,8 @@
 -- A call judged on lists of its own: `a` (and `c`) are as long as the lent lists, but no longer than 512 entries (and 16). The answer is the call's own refusal, else 21.
 -- Assumes nothing.
-use mathlib.Core.Path.{_≡_, refl, sym, _∙_, ap}
-use mathlib.Core.Bool.{Bool, true, false}
-use mathlib.Core.List.{List}
-use mathlib.Core.Option.{none, some}
-use Prim.Native.Nat.{ℕ, _≤_, min}
-use lib.Dec.{eqb}
-use lib.ListN.{length, take}
-use lib.Seq.{length-take-le}
-use Rattle.model.specs.declared.Run.{Run}
-use Rattle.model.specs.declared.Refusal.{Refusal}
-use Rattle.model.specs.declared.Refusal.the-variants.{BufferTooShort, UnsoundState}
-use Rattle.model.specs.declared.CheckpointAnswer.{CheckpointAnswer}
-use Rattle.model.specs.declared.CheckpointAnswer.the-variants as checkpoint-answer
-use Rattle.model.specs.declared.SendAnswer.{SendAnswer}
-use Rattle.model.specs.declared.SendAnswer.the-variants as send-answer
-use Rattle.model.specs.declared.DeliverAnswer.{DeliverAnswer}
-use Rattle.model.specs.declared.DeliverAnswer.the-variants as deliver-answer
-use Rattle.model.specs.declared.LoseAnswer.{LoseAnswer}
-use Rattle.model.specs.declared.LoseAnswer.the-variants as lose-answer
-use Rattle.model.specs.declared.RecoverAnswer.{RecoverAnswer}
-use Rattle.model.specs.declared.RecoverAnswer.the-variants as recover-answer
+use Rattle.laws.specs.Basics.{_≡_, refl, sym, _∙_, ap, Bool, true, false, List, none, some, ℕ, _≤_, min, eqb, length, take, length-take-le}
+use Rattle.model.specs.declared.{Run.Run, Refusal.Refusal, Refusal.the-variants.BufferTooShort, Refusal.the-variants.UnsoundState, SendAnswer.SendAnswer}
+use Rattle.model.specs.declared.{CheckpointAnswer.CheckpointAnswer, DeliverAnswer.DeliverAnswer, LoseAnswer.LoseAnswer, RecoverAnswer.RecoverAnswer}
 use Rattle.model.specs.Sound.{sound}
 use Rattle.model.specs.Refusals.{firstOf, checkpointRefusal, sendRefusal, deliverRefusal, loseRefusal, recoverRefusal}
 use Rattle.whole_runs.specs.Outcomes.{judged, checkpointOutcome, checkpointReport, sendOutcome, sendReport, deliverOutcome, deliverReport, loseOutcome, loseReport, recoverOutcome, recoverReport}
@@ -28,6 +10,11 @@ use Rattle.whole_runs.specs.Calls.{checkpoint, send, deliver, lose, recover, an
 use Rattle.whole_runs.proofs.whole.Reached.{refusal}
 use Rattle.theory_recording.proofs.Recording.{checkpoint-scratch, deliver-scratch, recover-scratch}
 use Rattle.library_recorder.proofs.record.Ways.{is-accepted, is-refused}
+use Rattle.model.specs.declared.CheckpointAnswer.the-variants as checkpoint-answer
+use Rattle.model.specs.declared.SendAnswer.the-variants as send-answer
+use Rattle.model.specs.declared.DeliverAnswer.the-variants as deliver-answer
+use Rattle.model.specs.declared.LoseAnswer.the-variants as lose-answer
+use Rattle.model.specs.declared.RecoverAnswer.the-variants as recover-answer
 
 -- The first entries of a list of zeros.
 pub front : (k most size : ℕ) (zeros lent : List ℕ) → k ≡ min size most → k ≤ length zeros → length lent ≡ size → length (take k zeros) ≡ min (length lent) most

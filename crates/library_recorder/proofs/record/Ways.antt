@@ -1,41 +1,23 @@
 -- The three ways of a call through the recorder: refused by itself, refused for want of room, and done. Which it is, a test of the answer and the room tell.
 -- Assumes nothing.
-use mathlib.Core.Path.{_≡_, refl, sym, _∙_, ap}
-use mathlib.Core.Bool.{Bool, true, false, not}
-use mathlib.Core.List.{List, []}
-use mathlib.Core.Option.{Option, none, some}
-use Prim.Native.Nat.{ℕ, _+_, _-_, _≤_, _<_}
-use native.Mathlib.Omega.{arith}
-use lib.Dec.{eqb, ltb}
-use lib.ListN.{length}
-use borrow.Author.Tests.{ltb-true, ltb-false}
+use Rattle.laws.specs.Basics.{_≡_, refl, sym, _∙_, ap, Bool, true, false, not, List, [], Option, none, some, ℕ, _+_, _-_, _≤_, _<_, arith, eqb, ltb, length, ltb-true, ltb-false}
 use Rattle.laws.specs.Truth.{and-right}
-use Rattle.model.specs.declared.Run.{Run}
-use Rattle.model.specs.declared.Event.{Event}
+use Rattle.model.specs.declared.{Run.Run, Event.Event, Refusal.Refusal, Refusal.the-variants.BufferTooShort, CheckpointAnswer.CheckpointAnswer}
 use Rattle.model.specs.declared.Event.the-variants.{Checkpoint, Send, Deliver, Lose, Recover}
-use Rattle.model.specs.declared.Refusal.{Refusal}
-use Rattle.model.specs.declared.Refusal.the-variants.{BufferTooShort}
-use Rattle.model.specs.declared.CheckpointAnswer.{CheckpointAnswer}
-use Rattle.model.specs.declared.CheckpointAnswer.the-variants as checkpoint-answer
-use Rattle.model.specs.declared.SendAnswer.{SendAnswer}
-use Rattle.model.specs.declared.SendAnswer.the-variants as send-answer
-use Rattle.model.specs.declared.DeliverAnswer.{DeliverAnswer}
-use Rattle.model.specs.declared.DeliverAnswer.the-variants as deliver-answer
-use Rattle.model.specs.declared.LoseAnswer.{LoseAnswer}
-use Rattle.model.specs.declared.LoseAnswer.the-variants as lose-answer
-use Rattle.model.specs.declared.RecoverAnswer.{RecoverAnswer}
-use Rattle.model.specs.declared.RecoverAnswer.the-variants as recover-answer
-use Rattle.model.specs.Trace.{fits, fieldsOf}
+use Rattle.model.specs.declared.{SendAnswer.SendAnswer, DeliverAnswer.DeliverAnswer, LoseAnswer.LoseAnswer, RecoverAnswer.RecoverAnswer}
+use Rattle.model.specs.{Trace.fits, Trace.fieldsOf, laws.Refusals.by-refusal}
 use Rattle.model.specs.Refusals.{number, checkpointRefusal, sendRefusal, deliverRefusal, loseRefusal, recoverRefusal}
-use Rattle.model.specs.laws.Refusals.{by-refusal}
 use Rattle.whole_runs.specs.Outcomes.{Outcome, judged, checkpointOutcome, checkpointReport, sendOutcome, sendReport, deliverOutcome, deliverReport, loseOutcome, loseReport, recoverOutcome, recoverReport}
 use Rattle.whole_runs.specs.Calls.{Call, checkpoint, send, deliver, lose, recover, answered, call}
 use Rattle.theory_recording.specs.Replay.{recordBytes}
 use Rattle.theory_recording.specs.Recording.{unwritten, appended, recording, recordedCheckpoint, recordedSend, recordedDeliver, recordedLose, recordedRecover, eventOfCall}
-use Rattle.theory_recording.proofs.Replay.{record-of}
-use Rattle.theory_recording.proofs.Recording.{fits-event}
-use Rattle.whole_runs.proofs.whole.Reached.{refusal, refused-number, refused-report}
-use Rattle.whole_runs.proofs.whole.Accepted.{accepted-report}
+use Rattle.theory_recording.proofs.{Replay.record-of, Recording.fits-event}
+use Rattle.whole_runs.proofs.{whole.Reached.refusal, whole.Reached.refused-number, whole.Reached.refused-report, whole.Accepted.accepted-report}
+use Rattle.model.specs.declared.CheckpointAnswer.the-variants as checkpoint-answer
+use Rattle.model.specs.declared.SendAnswer.the-variants as send-answer
+use Rattle.model.specs.declared.DeliverAnswer.the-variants as deliver-answer
+use Rattle.model.specs.declared.LoseAnswer.the-variants as lose-answer
+use Rattle.model.specs.declared.RecoverAnswer.the-variants as recover-answer
 
 module _ {A : Type 0} (own : Option Refusal) (outcome short : Outcome A) (bytes buffer : List ℕ) (place : ℕ) where
   refused-way : (x : Refusal) → own ≡ some x → recording own outcome short bytes buffer place ≡ unwritten outcome buffer place

@@ -1,14 +1,10 @@
 -- `library_recorder::send` meets its contract: the three ways of a call through the recorder.
 -- Assumes nothing.
-use mathlib.Core.Path.{_∙_, refl}
-use native.Mathlib.Omega.{arith}
-use lib.ListN.{length}
-use borrow.Author.Needs.{needs}
+use Rattle.laws.specs.Basics.{refl, _∙_, arith, length, needs}
 use Rattle.words.specs.Layout.{runOf}
 use Rattle.in_place.proofs.Leaving.{same-words}
 use Rattle.library_recorder.proofs.record.Ways.{has-room, no-room, send-accepted, send-refused, send-done, send-without, small}
-use Rattle.library_recorder.proofs.record.Leaves.{leaves-all, leaves-written}
-use Rattle.library_recorder.proofs.send.Statement.{statement}
+use Rattle.library_recorder.proofs.{record.Leaves.leaves-all, record.Leaves.leaves-written, send.Statement.statement}
 use Rattle.library_recorder.proofs.send.Tie as tie
 
 returns : tie.Need-returns

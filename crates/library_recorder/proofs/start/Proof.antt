@@ -1,8 +1,6 @@
 -- `library_recorder::start` meets its contract: the three ways of a start through the recorder.
 -- Assumes nothing.
-use native.Mathlib.Omega.{arith}
-use lib.ListN.{length}
-use borrow.Author.Needs.{needs}
+use Rattle.laws.specs.Basics.{arith, length, needs}
 use Rattle.in_place.proofs.Starting.{accepted-few}
 use Rattle.library_recorder.proofs.Begun.{start-accepted, start-refused, replied-refused, replied-short, replied-done}
 use Rattle.library_recorder.proofs.start.Statement.{statement}

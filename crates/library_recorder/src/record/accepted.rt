@@ -5,8 +5,7 @@ use model::LoseAnswer;
 use model::RecoverAnswer;
 use model::SendAnswer;
 use model::StartAnswer;
-ghost use mathlib.Core.Path.{_≡_};
-ghost use lib.Dec.{eqb};
+ghost use Rattle.laws.specs.Basics.{_≡_, eqb};
 ghost use Rattle.whole_runs.specs.Outcomes.{startReport, checkpointReport, sendReport, deliverReport, loseReport, recoverReport};
 
 pub fn start(a: StartAnswer) -> bool

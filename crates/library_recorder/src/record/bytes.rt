@@ -1,11 +1,6 @@
 // The bytes that the recorder writes.
 use model::Event;
-ghost use mathlib.Core.Path.{_≡_};
-ghost use mathlib.Core.Bool.{not, true};
-ghost use Prim.Native.Nat.{_+_, _-_, _≤_};
-ghost use lib.Dec.{ltb};
-ghost use lib.ListN.{length};
-ghost use lib.Seq.{sets};
+ghost use Rattle.laws.specs.Basics.{_≡_, true, not, _+_, _-_, _≤_, ltb, length, sets};
 ghost use Rattle.model.specs.Trace.{fits};
 ghost use Rattle.theory_recording.specs.Replay.{recordBytes};
 

@@ -1,13 +1,10 @@
 -- `library_trials::act` meets its contract.
 -- Assumes nothing.
-use mathlib.Core.Path.{_∙_, ap, sym}
-use mathlib.Core.Bool.{true, false}
-use borrow.Author.Needs.{needs}
+use Rattle.laws.specs.Basics.{sym, _∙_, ap, true, false, needs}
 use Rattle.laws.specs.Below.{not-out}
 use Rattle.words.specs.Layout.{runOf}
 use Rattle.library_trials.specs.Steps.{after, actionOf}
-use Rattle.library_trials.proofs.Actions.{action-none, action-even, action-odd}
-use Rattle.library_trials.proofs.act.Statement.{statement}
+use Rattle.library_trials.proofs.{Actions.action-none, Actions.action-even, Actions.action-odd, act.Statement.statement}
 use Rattle.library_trials.proofs.act.Tie as tie
 
 returns : tie.Need-returns

@@ -1,8 +1,7 @@
 -- `library_trials::begin` meets its contract.
 -- Assumes nothing.
-use borrow.Author.Needs.{needs}
-use Rattle.library_trials.proofs.Trials.{begun-words}
-use Rattle.library_trials.proofs.begin.Statement.{statement}
+use Rattle.laws.specs.Basics.{needs}
+use Rattle.library_trials.proofs.{Trials.begun-words, begin.Statement.statement}
 use Rattle.library_trials.proofs.begin.Tie as tie
 
 returns : tie.Need-returns

@@ -1,10 +1,8 @@
 -- `library_trials::deliver` meets its contract.
 -- Assumes nothing.
-use mathlib.Core.Path.{_∙_}
-use borrow.Author.Needs.{needs}
+use Rattle.laws.specs.Basics.{_∙_, needs}
 use Rattle.words.specs.Layout.{runOf}
-use Rattle.library_trials.proofs.Actions.{deliver-leaves, deliver-is}
-use Rattle.library_trials.proofs.deliver.Statement.{statement}
+use Rattle.library_trials.proofs.{Actions.deliver-leaves, Actions.deliver-is, deliver.Statement.statement}
 use Rattle.library_trials.proofs.deliver.Tie as tie
 
 returns : tie.Need-returns

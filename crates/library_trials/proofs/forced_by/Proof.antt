@@ -1,6 +1,6 @@
 -- `library_trials::forced_by` meets its contract, by the answer.
 -- Assumes nothing.
-use borrow.Author.Needs.{needs}
+use Rattle.laws.specs.Basics.{needs}
 use Rattle.library_trials.specs.Steps.{forcedBy}
 use Rattle.library_trials.proofs.forced_by.Statement.{statement}
 use Rattle.library_trials.proofs.forced_by.Tie as tie

@@ -1,14 +1,10 @@
 -- `library_trials::most_kept` meets its contract.
 -- Assumes nothing.
-use mathlib.Core.Path.{_≡_, refl, sym, _∙_, ap}
-use Prim.Native.Nat.{ℕ, _-_, _≤_, _<_}
-use native.Mathlib.Omega.{arith}
-use borrow.Author.Needs.{needs}
+use Rattle.laws.specs.Basics.{_≡_, refl, sym, _∙_, ap, ℕ, _-_, _≤_, _<_, arith, needs}
 use Rattle.words.specs.Layout.{word, countOf, keptCountAt, runOf}
 use Rattle.words.proofs.ViewSound.{sound-words}
 use Rattle.theory_recording.specs.spacing.Spacing.{greatestBelow, mostKept}
-use Rattle.library_trials.proofs.Searching.{greatest-more, most-in}
-use Rattle.library_trials.proofs.most_kept.Statement.{statement}
+use Rattle.library_trials.proofs.{Searching.greatest-more, Searching.most-in, most_kept.Statement.statement}
 use Rattle.library_trials.proofs.most_kept.Tie as tie
 
 abbrev Inv-loop : tie.InvT-loop

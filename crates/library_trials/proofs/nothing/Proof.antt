@@ -1,6 +1,6 @@
 -- `library_trials::nothing` meets its contract.
 -- Assumes nothing.
-use mathlib.Core.Path.{refl}
+use Rattle.laws.specs.Basics.{refl}
 use Rattle.library_trials.proofs.nothing.Statement.{statement}
 use Rattle.library_trials.proofs.nothing.Tie as tie
 

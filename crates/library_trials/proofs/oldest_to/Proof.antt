@@ -1,11 +1,6 @@
 -- `library_trials::oldest_to` meets its contract.
 -- Assumes nothing.
-use mathlib.Core.Path.{_≡_, refl, ap}
-use mathlib.Core.Bool.{Bool, true, false, _&&_, not}
-use Prim.Native.Nat.{ℕ, _-_, _≤_, _<_}
-use native.Mathlib.Omega.{arith}
-use lib.Dec.{eqb}
-use borrow.Author.Needs.{needs}
+use Rattle.laws.specs.Basics.{_≡_, refl, ap, Bool, true, false, not, _&&_, ℕ, _-_, _≤_, _<_, arith, eqb, needs}
 use Rattle.words.specs.Layout.{word, receiverAt, messageIn}
 use Rattle.words.proofs.ViewSound.{sound-words}
 use Rattle.library_trials.specs.Steps.{foundIn}

@@ -1,6 +1,6 @@
 -- `library_trials::refuse` meets its contract.
 -- Assumes nothing.
-use mathlib.Core.Path.{refl}
+use Rattle.laws.specs.Basics.{refl}
 use Rattle.theory_recording.specs.spacing.Spacing.{noFigures}
 use Rattle.library_trials.proofs.refuse.Statement.{statement}
 use Rattle.library_trials.proofs.refuse.Tie as tie

@@ -1,10 +1,8 @@
 -- `library_trials::rest` meets its contract, by whether a checkpoint is due.
 -- Assumes nothing.
-use mathlib.Core.Path.{_∙_}
-use borrow.Author.Needs.{needs}
+use Rattle.laws.specs.Basics.{_∙_, needs}
 use Rattle.words.specs.Layout.{runOf}
-use Rattle.library_trials.proofs.Actions.{rests, rests-not}
-use Rattle.library_trials.proofs.rest.Statement.{statement}
+use Rattle.library_trials.proofs.{Actions.rests, Actions.rests-not, rest.Statement.statement}
 use Rattle.library_trials.proofs.rest.Tie as tie
 
 returns : tie.Need-returns

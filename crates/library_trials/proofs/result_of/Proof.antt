@@ -1,6 +1,6 @@
 -- `library_trials::result_of` meets its contract.
 -- Assumes nothing.
-use borrow.Author.Needs.{needs}
+use Rattle.laws.specs.Basics.{needs}
 use Rattle.theory_recording.specs.spacing.Spacing.{figures}
 use Rattle.library_trials.specs.Steps.{trialOf}
 use Rattle.library_trials.proofs.result_of.Statement.{statement}

@@ -1,14 +1,9 @@
 -- `library_trials::run_steps` meets its contract. The loop's invariant: the trial after the steps done.
 -- Assumes nothing.
-use mathlib.Core.Path.{_≡_, refl, _∙_}
-use Prim.Native.Nat.{_-_, _≤_}
-use native.Mathlib.Omega.{arith}
-use lib.ListN.{length}
-use borrow.Author.Needs.{needs}
+use Rattle.laws.specs.Basics.{_≡_, refl, _∙_, _-_, _≤_, arith, length, needs}
 use Rattle.theory_recording.specs.spacing.Spacing.{trialAfter}
 use Rattle.library_trials.specs.Steps.{trialOf, Underway}
-use Rattle.library_trials.proofs.Trials.{none-stepped, one-stepped}
-use Rattle.library_trials.proofs.run_steps.Statement.{statement}
+use Rattle.library_trials.proofs.{Trials.none-stepped, Trials.one-stepped, run_steps.Statement.statement}
 use Rattle.library_trials.proofs.run_steps.Tie as tie
 
 abbrev Inv-loop : tie.InvT-loop

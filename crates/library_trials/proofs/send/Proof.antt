@@ -1,17 +1,10 @@
 -- `library_trials::send` meets its contract.
 -- Assumes nothing.
-use mathlib.Core.Path.{_≡_, _∙_, ap, sym}
-use mathlib.Core.Bool.{true}
-use mathlib.Core.List.{List}
-use mathlib.Core.Option.{some}
-use Prim.Native.Nat.{ℕ}
-use native.Mathlib.Omega.{arith}
-use borrow.Author.Needs.{needs}
+use Rattle.laws.specs.Basics.{_≡_, sym, _∙_, ap, true, List, some, ℕ, arith, needs}
 use Rattle.model.specs.declared.Event.the-variants.{Send}
 use Rattle.model.specs.Sound.{sound}
 use Rattle.words.specs.Layout.{word, runOf}
-use Rattle.words.proofs.View.{underway-is}
-use Rattle.words.proofs.ViewSound.{sound-words, sound-fits}
+use Rattle.words.proofs.{View.underway-is, ViewSound.sound-words, ViewSound.sound-fits}
 use Rattle.library_trials.proofs.Actions.{nothing-so, send-so, sends-alone, sends-full, sends-one}
 use Rattle.library_trials.proofs.send.Statement.{statement}
 use Rattle.library_trials.proofs.send.Tie as tie

@@ -1,8 +1,6 @@
 -- `library_trials::simulate` meets its contract, by the three ranges.
 -- Assumes nothing.
-use mathlib.Core.Path.{_≡_, refl, _∙_, sym}
-use mathlib.Core.Option.{none}
-use borrow.Author.Needs.{needs}
+use Rattle.laws.specs.Basics.{_≡_, refl, sym, _∙_, none, needs}
 use Rattle.theory_recording.specs.spacing.Spacing.{trialRefusal, TrialsAgree}
 use Rattle.theory_recording.proofs.spacing.Agreement.{trials-agree, trial-out}
 use Rattle.library_trials.specs.Steps.{trialOf}

@@ -1,25 +1,15 @@
 -- `library_trials::step` meets its contract.
 -- Assumes nothing.
-use mathlib.Core.Path.{_≡_, sym, _∙_, ap}
-use mathlib.Core.List.{[], _∷_}
-use Prim.Native.Nat.{ℕ, _%_, _≤_, _<_}
+use Rattle.laws.specs.Basics.{_≡_, sym, _∙_, ap, [], _∷_, ℕ, _%_, _≤_, _<_, arith, needs, pick}
 use native.Mathlib.Nat.{mod-lt}
-use native.Mathlib.Omega.{arith}
-use borrow.Author.Needs.{needs}
-use Rattle.laws.specs.Choice.{pick}
-use Rattle.model.specs.declared.Run.{Run}
-use Rattle.model.specs.declared.Event.the-variants.{Checkpoint}
+use Rattle.model.specs.declared.{Run.Run, Event.the-variants.Checkpoint}
 use Rattle.model.specs.Sound.{sound}
-use Rattle.theory_recording.specs.Replay.{stateAfterEvents}
+use Rattle.theory_recording.specs.{Replay.stateAfterEvents, spacing.Trial.Trial, spacing.Spacing.stepEvents}
 use Rattle.words.specs.Layout.{runOf}
-use Rattle.words.proofs.View.{count-is}
-use Rattle.words.proofs.ViewSound.{sound-fits}
-use Rattle.theory_recording.specs.spacing.Trial.{Trial}
-use Rattle.theory_recording.specs.spacing.Spacing.{stepEvents}
+use Rattle.words.proofs.{View.count-is, ViewSound.sound-fits}
 use Rattle.library_trials.specs.Steps.{trialOf, Underway}
-use Rattle.library_trials.proofs.Actions.{small-action}
+use Rattle.library_trials.proofs.{Actions.small-action, step.Statement.statement}
 use Rattle.library_trials.proofs.Trials.{Facts, facts, after-sound, events-sound, drawn-process, drawn-number, step-run, step-is}
-use Rattle.library_trials.proofs.step.Statement.{statement}
 use Rattle.library_trials.proofs.step.Tie as tie
 
 -- The trial before the step, and what is known of it.

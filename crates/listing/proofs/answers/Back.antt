@@ -1,11 +1,6 @@
 -- A report that fits is read back from its number, and so is the set that rose: no two answers have the same number.
 -- Assumes nothing.
-use mathlib.Core.Path.{_≡_, refl, sym, _∙_, ap}
-use mathlib.Core.Option.{Option, none, some}
-use Prim.Native.Nat.{ℕ, _+_, _*_, _/_, _%_, _<_}
-use native.Mathlib.Omega.{arith}
-use lib.Dec.{eqb}
-use borrow.Author.Tests.{eq-eqb, ne-eqb}
+use Rattle.laws.specs.Basics.{_≡_, refl, sym, _∙_, ap, Option, none, some, ℕ, _+_, _*_, _/_, _%_, _<_, arith, eqb, eq-eqb, ne-eqb}
 use Rattle.whole_runs.specs.Outcomes.{Report}
 use Rattle.listing.specs.answers.Codes.{valueCode, coded, Fits, valueOf, reportOf, roseOf}
 

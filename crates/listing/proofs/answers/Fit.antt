@@ -1,35 +1,17 @@
 -- The report of every call fits the fields of its number, whatever the state and the arguments.
 -- Assumes nothing.
-use mathlib.Core.Path.{_≡_}
-use mathlib.Core.Bool.{Bool, true, _&&_, not}
-use mathlib.Core.List.{List, [], _∷_}
-use mathlib.Core.Option.{Option, none, some}
-use Prim.Native.Nat.{ℕ, _+_, _≤_, _<_}
-use native.Mathlib.Omega.{arith}
-use lib.Dec.{leb, eqb}
-use lib.ListN.{length, getD, length-append, length-map, length-take}
-use Rattle.laws.specs.Choice.{by-bool}
-use Rattle.laws.specs.Counting.{count-le}
-use Rattle.laws.specs.Lists.{select}
-use Rattle.laws.specs.Prefixes.{every-select}
-use Rattle.laws.specs.Select.{select-length}
-use Rattle.model.specs.declared.Interval.{Interval}
-use Rattle.model.specs.declared.Checkpoint.{Checkpoint}
-use Rattle.model.specs.declared.Message.{Message}
-use Rattle.model.specs.declared.Named.{Named}
-use Rattle.model.specs.declared.Run.{Run}
-use Rattle.model.specs.declared.Refusal.{Refusal}
+use Rattle.laws.specs.Basics.{_≡_, Bool, true, not, _&&_, List, [], _∷_, Option, none, some, ℕ, _+_, _≤_, _<_, arith, eqb, leb, length, getD, length-append, by-bool}
+use lib.ListN.{length-map, length-take}
+use Rattle.laws.specs.{Counting.count-le, Lists.select, Prefixes.every-select, Select.select-length}
+use Rattle.model.specs.declared.{Interval.Interval, Checkpoint.Checkpoint, Message.Message, Named.Named, Run.Run, Refusal.Refusal}
 use Rattle.model.specs.Words.{basic, forced, isPinned, Process, process, own, underWay, live}
 use Rattle.model.specs.Steps.{Deletion, listed, gone, deletions, storing, checkpointed, checkpointDeletions, found, forces, takenIn, delivered, deliverDeletions, member, pinsAfter, goneAt, deletedAt, recoverDeletions, rolledBack, rolledBackCount}
-use Rattle.model.specs.Sound.{messageSound, sound}
+use Rattle.model.specs.{Sound.messageSound, Sound.sound, laws.Refusals.by-refusal, laws.Refusals.number-range, laws.Sound.sound-state, laws.Sound.sound-message}
 use Rattle.model.specs.Refusals.{number, startRefusal, checkpointRefusal, sendRefusal, deliverRefusal, loseRefusal, lineRefusal, recoverRefusal}
-use Rattle.model.specs.laws.Refusals.{by-refusal, number-range}
-use Rattle.model.specs.laws.Sound.{sound-state, sound-message}
 use Rattle.model.proofs.simulation.Accepted.{checkpoint-out, send-out, deliver-out, recover-out}
 use Rattle.whole_runs.specs.Outcomes.{Report, refusing, accepting, deliverAnswer, startOutcome, startReport, checkpointOutcome, checkpointReport, sendOutcome, sendReport, deliverOutcome, deliverReport, loseOutcome, loseReport, lineOutcome, lineReport, recoverOutcome, recoverReport}
 use Rattle.whole_runs.specs.Earliest.{earliestRefusal, earliestOutcome}
-use Rattle.whole_runs.proofs.Sizes.{few-processes, last-passes}
-use Rattle.whole_runs.proofs.whole.Handed.{gather-length}
+use Rattle.whole_runs.proofs.{Sizes.few-processes, Sizes.last-passes, whole.Handed.gather-length}
 use Rattle.listing.specs.answers.Codes.{Fits}
 
 no-value : (v : ℕ) {P : Type 0} → _≡_ {A = Option ℕ} none (some v) → P

@@ -1,14 +1,7 @@
 -- What the ends of a trace print.
 -- Assumes nothing.
-use mathlib.Core.Path.{_≡_}
-use mathlib.Core.Bool.{Bool}
-use mathlib.Core.List.{List, [], _∷_}
-use Prim.Native.Nat.{ℕ, _+_, _≤_, _<_}
-use native.Mathlib.Omega.{arith}
-use lib.ListN.{length}
-use borrow.Author.Tests.{lt-ltb}
-use Rattle.model.specs.declared.Run.{Run}
-use Rattle.model.specs.declared.Refusal.the-variants.{LeftOverBytes}
+use Rattle.laws.specs.Basics.{_≡_, Bool, List, [], _∷_, ℕ, _+_, _≤_, _<_, arith, length, lt-ltb}
+use Rattle.model.specs.declared.{Run.Run, Refusal.the-variants.LeftOverBytes}
 use Rattle.whole_runs.specs.Listing.{refusalText, mostRecords, records}
 use Rattle.whole_runs.proofs.Blocks.{past-limit}
 use Rattle.listing.specs.Printed.{Printed}

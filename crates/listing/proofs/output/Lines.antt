@@ -1,20 +1,13 @@
 -- A line has room where the longest one has, and so has the line of a refusal.
 -- Assumes nothing.
-use mathlib.Core.Path.{_≡_}
-use mathlib.Core.List.{List}
-use Prim.Native.Nat.{ℕ, _≤_, _<_}
-use native.Mathlib.Omega.{arith}
-use lib.ListN.{length, getD}
+use Rattle.laws.specs.Basics.{_≡_, List, ℕ, _≤_, _<_, arith, length, getD}
 use Rattle.model.specs.declared.Refusal.{Refusal}
-use Rattle.model.specs.Refusals.{number}
-use Rattle.model.specs.laws.Refusals.{number-range}
+use Rattle.model.specs.{Refusals.number, laws.Refusals.number-range}
 use Rattle.whole_runs.specs.Listing.{lineText, refusalText}
 use Rattle.whole_runs.proofs.Sizes.{Small, small-refused}
 use Rattle.listing.specs.declared.Summary.{Summary}
-use Rattle.listing.specs.Lines.{replyOf, refusalLine, longestLine}
-use Rattle.listing.specs.Summarised.{reportIn}
-use Rattle.listing.proofs.Bounds.{line-length}
-use Rattle.listing.proofs.Texts.{refused-line}
+use Rattle.listing.specs.{Lines.replyOf, Lines.refusalLine, Lines.longestLine, Summarised.reportIn}
+use Rattle.listing.proofs.{Bounds.line-length, Texts.refused-line}
 
 -- No line of small numbers is longer than the longest.
 pub line-fits : (summary : Summary) (deleted : List ℕ) (k : ℕ) → Small (reportIn summary) → k ≤ 1000000000 → ((j : ℕ) → getD deleted j 0 < 65536)

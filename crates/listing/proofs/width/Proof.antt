@@ -1,15 +1,10 @@
 -- `listing::width` meets its contract. The loop's invariant: the limit is ten to the power of the digits counted, and the number has at least
 -- that many. The measure is what is left of 20. Assumes nothing.
-use mathlib.Core.Path.{_≡_, refl}
-use Prim.Native.Nat.{_-_, _^_, _≤_}
+use Rattle.laws.specs.Basics.{_≡_, refl, _-_, _^_, _≤_, arith, length, needs}
 use native.Mathlib.Nat.{pow-suc, pow-le-pow-right}
 use native.Mathlib.Numerals.{add-one}
-use native.Mathlib.Omega.{arith}
-use lib.ListN.{length}
-use borrow.Author.Needs.{needs}
 use Rattle.whole_runs.specs.Listing.{decimal}
-use Rattle.listing.proofs.Digits.{at-most, more-than, no-more, at-least-one}
-use Rattle.listing.proofs.width.Statement.{statement}
+use Rattle.listing.proofs.{Digits.at-most, Digits.more-than, Digits.no-more, Digits.at-least-one, width.Statement.statement}
 use Rattle.listing.proofs.width.Tie as tie
 
 abbrev Inv-loop : tie.InvT-loop

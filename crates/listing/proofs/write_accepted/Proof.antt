@@ -1,14 +1,10 @@
 -- `listing::write_accepted` meets its contract: its five texts stand one after the other.
 -- Assumes nothing.
-use borrow.Author.Needs.{needs}
-use mathlib.Core.List.{List, [], _∷_, _++_}
-use Prim.Native.Nat.{ℕ}
+use Rattle.laws.specs.Basics.{List, [], _∷_, _++_, ℕ, needs}
 use denote.Ref.{now}
 use Rattle.whole_runs.specs.Listing.{decimal, space, valueText, deletionsText, acceptedText}
-use Rattle.listing.specs.Lines.{valueIn, replyOf}
-use Rattle.listing.specs.Printed.{Room}
-use Rattle.listing.proofs.Texts.{then, room-first, room-rest}
-use Rattle.listing.proofs.write_accepted.Statement.{statement}
+use Rattle.listing.specs.{Lines.valueIn, Lines.replyOf, Printed.Room}
+use Rattle.listing.proofs.{Texts.then, Texts.room-first, Texts.room-rest, write_accepted.Statement.statement}
 use Rattle.listing.proofs.write_accepted.Tie as tie
 
 -- The text from the value on, and the text from the count on.

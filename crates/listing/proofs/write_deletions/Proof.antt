@@ -1,17 +1,11 @@
 -- `listing::write_deletions` meets its contract. The loop's invariant: the first k deletions are printed. The measure is what is left of the count.
 -- Assumes nothing.
-use mathlib.Core.Path.{_≡_, refl, _∙_}
-use Prim.Native.Nat.{_+_, _-_, _*_, _≤_}
+use Rattle.laws.specs.Basics.{_≡_, refl, _∙_, _+_, _-_, _*_, _≤_, arith, length, getD, needs}
 use native.Mathlib.Numerals.{add-one}
-use native.Mathlib.Omega.{arith}
-use lib.ListN.{length, getD}
 use denote.Ref.{now}
-use borrow.Author.Needs.{needs}
 use Rattle.whole_runs.specs.Listing.{deletionsText}
-use Rattle.listing.specs.Lines.{pairText}
-use Rattle.listing.specs.Printed.{Printed}
-use Rattle.listing.proofs.Texts.{then, nothing, room-rest, one-more, room-for-one-more}
-use Rattle.listing.proofs.write_deletions.Statement.{statement}
+use Rattle.listing.specs.{Lines.pairText, Printed.Printed}
+use Rattle.listing.proofs.{Texts.then, Texts.nothing, Texts.room-rest, Texts.one-more, Texts.room-for-one-more, write_deletions.Statement.statement}
 use Rattle.listing.proofs.write_deletions.Tie as tie
 
 abbrev Inv-loop : tie.InvT-loop

@@ -1,16 +1,10 @@
 -- `listing::write_line` meets its contract: the line of a refused record by itself, else its texts one after the other.
 -- Assumes nothing.
-use borrow.Author.Needs.{needs}
-use mathlib.Core.Path.{_≡_}
-use mathlib.Core.List.{List, [], _∷_, _++_}
-use Prim.Native.Nat.{ℕ}
+use Rattle.laws.specs.Basics.{_≡_, List, [], _∷_, _++_, ℕ, needs}
 use denote.Ref.{now}
-use Rattle.whole_runs.specs.Calls.{Reply}
-use Rattle.whole_runs.specs.Listing.{decimal, space, lineFeed, acceptedText, lineText}
-use Rattle.listing.specs.Lines.{replyOf}
-use Rattle.listing.specs.Printed.{Room}
-use Rattle.listing.proofs.Texts.{then, room-first, room-rest, refused-line, accepted-line}
-use Rattle.listing.proofs.write_line.Statement.{statement}
+use Rattle.whole_runs.specs.{Calls.Reply, Listing.decimal, Listing.space, Listing.lineFeed, Listing.acceptedText, Listing.lineText}
+use Rattle.listing.specs.{Lines.replyOf, Printed.Room}
+use Rattle.listing.proofs.{Texts.then, Texts.room-first, Texts.room-rest, Texts.refused-line, Texts.accepted-line, write_line.Statement.statement}
 use Rattle.listing.proofs.write_line.Tie as tie
 
 -- What the record answered.

@@ -1,13 +1,7 @@
 -- `listing::write_number` meets its contract. The loop's invariant: the digits after the place are stored, those of the rest are to come.
 -- The measure is the rest. Assumes nothing.
-use mathlib.Core.Path.{_≡_}
-use mathlib.Core.List.{List}
-use Prim.Native.Nat.{ℕ, _+_, _-_, _/_, _%_, _≤_, _<_}
-use native.Mathlib.Omega.{arith}
-use lib.ListN.{length, set, length-set}
-use lib.Seq.{sets}
+use Rattle.laws.specs.Basics.{_≡_, List, ℕ, _+_, _-_, _/_, _%_, _≤_, _<_, arith, length, set, length-set, sets, needs}
 use denote.Ref.{now}
-use borrow.Author.Needs.{needs}
 use Rattle.whole_runs.specs.Listing.{decimal}
 use Rattle.listing.proofs.Digits.{Storing, none-stored, between, two-stored, all-stored, all-stored-by-two}
 use Rattle.listing.proofs.write_number.Statement.{statement}

@@ -1,13 +1,10 @@
 -- `listing::write_pair` meets its contract: its four texts stand one after the other.
 -- Assumes nothing.
-use borrow.Author.Needs.{needs}
-use mathlib.Core.List.{[], _∷_, _++_}
+use Rattle.laws.specs.Basics.{[], _∷_, _++_, needs}
 use denote.Ref.{now}
 use Rattle.whole_runs.specs.Listing.{decimal, space, colon}
-use Rattle.listing.specs.Lines.{pairText}
-use Rattle.listing.specs.Printed.{Room}
-use Rattle.listing.proofs.Texts.{then, room-first, room-rest}
-use Rattle.listing.proofs.write_pair.Statement.{statement}
+use Rattle.listing.specs.{Lines.pairText, Printed.Room}
+use Rattle.listing.proofs.{Texts.then, Texts.room-first, Texts.room-rest, write_pair.Statement.statement}
 use Rattle.listing.proofs.write_pair.Tie as tie
 
 -- The room that is left after each text.

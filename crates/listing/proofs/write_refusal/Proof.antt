@@ -1,14 +1,10 @@
 -- `listing::write_refusal` meets its contract: its four texts stand one after the other.
 -- Assumes nothing.
-use borrow.Author.Needs.{needs}
-use mathlib.Core.List.{List, [], _∷_, _++_}
-use Prim.Native.Nat.{ℕ}
+use Rattle.laws.specs.Basics.{List, [], _∷_, _++_, ℕ, needs}
 use denote.Ref.{now}
 use Rattle.whole_runs.specs.Listing.{decimal, space, lineFeed}
-use Rattle.listing.specs.Lines.{refusalLine}
-use Rattle.listing.specs.Printed.{Room}
-use Rattle.listing.proofs.Texts.{then, room-first, room-rest}
-use Rattle.listing.proofs.write_refusal.Statement.{statement}
+use Rattle.listing.specs.{Lines.refusalLine, Printed.Room}
+use Rattle.listing.proofs.{Texts.then, Texts.room-first, Texts.room-rest, write_refusal.Statement.statement}
 use Rattle.listing.proofs.write_refusal.Tie as tie
 
 -- The text from the number of the refusal on.

@@ -1,6 +1,6 @@
 -- `listing::write_value` meets its contract: a hyphen or a number, by the case of the value.
 -- Assumes nothing.
-use borrow.Author.Needs.{needs}
+use Rattle.laws.specs.Basics.{needs}
 use Rattle.whole_runs.specs.Listing.{valueText}
 use Rattle.listing.specs.Lines.{valueIn}
 use Rattle.listing.proofs.write_value.Statement.{statement}

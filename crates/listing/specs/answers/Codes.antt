@@ -7,18 +7,9 @@
 --   bits 48 to 63   the set of entries that rose (Note 1), 0 of a call that takes nothing in
 -- proofs/Back says that a report that fits is read back from its number, and proofs/Fit that the report of every call fits.
 -- Assumes nothing.
-use mathlib.Core.Option.{Option, none, some}
-use mathlib.Core.Path.{_≡_}
-use Prim.Native.Nat.{ℕ, _+_, _*_, _/_, _%_, _<_}
-use lib.Dec.{eqb}
-use Rattle.laws.specs.Choice.{pick}
-use Rattle.model.specs.declared.StartAnswer.{StartAnswer}
-use Rattle.model.specs.declared.CheckpointAnswer.{CheckpointAnswer}
-use Rattle.model.specs.declared.SendAnswer.{SendAnswer}
-use Rattle.model.specs.declared.DeliverAnswer.{DeliverAnswer}
-use Rattle.model.specs.declared.LoseAnswer.{LoseAnswer}
-use Rattle.model.specs.declared.LineAnswer.{LineAnswer}
-use Rattle.model.specs.declared.RecoverAnswer.{RecoverAnswer}
+use Rattle.laws.specs.Basics.{_≡_, Option, none, some, ℕ, _+_, _*_, _/_, _%_, _<_, eqb, pick}
+use Rattle.model.specs.declared.{StartAnswer.StartAnswer, CheckpointAnswer.CheckpointAnswer, SendAnswer.SendAnswer, DeliverAnswer.DeliverAnswer}
+use Rattle.model.specs.declared.{LoseAnswer.LoseAnswer, LineAnswer.LineAnswer, RecoverAnswer.RecoverAnswer}
 use Rattle.whole_runs.specs.Outcomes.{Report, startReport, checkpointReport, sendReport, deliverReport, loseReport, lineReport, recoverReport}
 
 -- Bits 23 to 47: a value, or none.

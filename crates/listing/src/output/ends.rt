@@ -2,14 +2,10 @@
 use crate::output::line;
 use model::Refusal;
 use whole_runs::MOST_RECORDS;
-ghost use mathlib.Core.Bool.{Bool};
-ghost use mathlib.Core.List.{[]};
-ghost use Prim.Native.Nat.{_≤_, _<_};
-ghost use lib.ListN.{length};
-ghost use Rattle.model.specs.declared.Run as model-run;
+ghost use Rattle.laws.specs.Basics.{Bool, [], _≤_, _<_, length};
 ghost use Rattle.whole_runs.specs.Listing.{records, listing};
-ghost use Rattle.listing.specs.Lines.{longestLine};
-ghost use Rattle.listing.specs.Printed.{Printed};
+ghost use Rattle.listing.specs.{Lines.longestLine, Printed.Printed};
+ghost use Rattle.model.specs.declared.Run as model-run;
 
 // "13 prints under the next record number and ends": what is left after the last whole record prints this, and nothing past record 1,000,000,000.
 pub fn end(done: u64, rest: &[u8], out: &mut [u8]) -> usize

@@ -1,14 +1,10 @@
 // A line printed into a lent buffer that has room for the longest one, and whether the replay goes on after it.
 use crate::Summary;
 use model::Refusal;
-ghost use mathlib.Core.Path.{_≡_};
-ghost use Prim.Native.Nat.{_+_, _*_, _≤_};
-ghost use lib.ListN.{length};
+ghost use Rattle.laws.specs.Basics.{_≡_, _+_, _*_, _≤_, length};
 ghost use Rattle.whole_runs.specs.Listing.{lineText, refusalText, goesOn, mostRecords};
-ghost use Rattle.listing.specs.Lines.{replyOf, longestLine};
-ghost use Rattle.listing.specs.Printed.{Printed};
+ghost use Rattle.listing.specs.{Lines.replyOf, Lines.longestLine, Printed.Printed, Summarised.reportIn};
 ghost use Rattle.whole_runs.proofs.Sizes.{Small};
-ghost use Rattle.listing.specs.Summarised.{reportIn};
 
 // A line whose numbers are small.
 pub fn print(summary: Summary, deleted: &[u16], number: u64, out: &mut [u8], at: usize) -> usize

@@ -1,10 +1,6 @@
 -- `machine_console::begin` meets its contract. Assumes nothing.
-use mathlib.Core.Path.{refl}
-use native.Mathlib.Omega.{arith}
-use Rattle.machine_console.proofs.Arriving.{arrives-opening}
-use Rattle.machine_console.proofs.Stepping.{enoughRoom, room-kept, begin-stands}
-use borrow.Author.Needs.{needs}
-use Rattle.machine_console.proofs.begin.Statement.{statement}
+use Rattle.laws.specs.Basics.{refl, arith, needs}
+use Rattle.machine_console.proofs.{Arriving.arrives-opening, Stepping.enoughRoom, Stepping.room-kept, Stepping.begin-stands, begin.Statement.statement}
 use Rattle.machine_console.proofs.begin.Tie as tie
 
 put-requires : tie.Need-put-requires

@@ -1,8 +1,6 @@
 -- `machine_console::has_room` meets its contract. Assumes nothing.
-use mathlib.Core.Path.{refl}
-use borrow.Author.Tests.{lt-leb, le-leb, eq-eqb, ne-eqb}
+use Rattle.laws.specs.Basics.{refl, needs, eq-eqb, ne-eqb, le-leb, lt-leb}
 use Rattle.machine_console.specs.Lent.{hasRoom}
-use borrow.Author.Needs.{needs}
 use Rattle.machine_console.proofs.has_room.Statement.{statement}
 use Rattle.machine_console.proofs.has_room.Tie as tie
 

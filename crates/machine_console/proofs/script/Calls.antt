@@ -1,18 +1,9 @@
 -- Eight bytes by the tests of `call_of`, and that what has 16 bits is the whole argument.
 -- Assumes nothing.
-use mathlib.Core.Path.{_≡_, sym, _∙_, ap}
-use mathlib.Core.Bool.{Bool, true, false, _&&_}
-use mathlib.Core.List.{List}
-use Prim.Native.Nat.{ℕ, _≤_, _<_}
-use native.Mathlib.Omega.{arith}
-use lib.Dec.{eqb}
-use borrow.Author.Tests.{lt-ltb, le-ltb, eqb-true}
-use Rattle.laws.specs.Tests.{every}
-use Rattle.laws.specs.Truth.{and-left, and-right}
-use Rattle.theory_roles.specs.declared.Operation.{Operation}
-use Rattle.theory_roles.specs.declared.Operation.the-variants.{Recover, Line, Earliest}
-use Rattle.machine_console.specs.declared.script.Call.{Call}
-use Rattle.machine_console.specs.declared.script.Read.the-variants.{Malformed, Asks}
+use Rattle.laws.specs.Basics.{_≡_, sym, _∙_, ap, Bool, true, false, _&&_, List, ℕ, _≤_, _<_, arith, eqb, eqb-true, lt-ltb, le-ltb}
+use Rattle.laws.specs.{Tests.every, Truth.and-left, Truth.and-right}
+use Rattle.theory_roles.specs.declared.{Operation.Operation, Operation.the-variants.Recover, Operation.the-variants.Line, Operation.the-variants.Earliest}
+use Rattle.machine_console.specs.declared.{script.Call.Call, script.Read.the-variants.Malformed, script.Read.the-variants.Asks}
 use Rattle.machine_console.specs.script.Script.{byte, operationOf, mustBeZero, isClear, wellFormed, callIn, callOf, asked, WholeArguments}
 
 module _ (call : List ℕ) where

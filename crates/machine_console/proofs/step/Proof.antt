@@ -1,10 +1,8 @@
 -- `machine_console::step` meets its contract. Assumes nothing.
-use mathlib.Core.Path.{_≡_, refl, sym, _∙_, ap}
-use lib.ListN.{length}
+use Rattle.laws.specs.Basics.{_≡_, refl, sym, _∙_, ap, length, needs}
 use Rattle.machine_console.specs.declared.marks.Marks.{Marks}
 use Rattle.machine_console.specs.Lent.{inBounds}
 use Rattle.machine_console.proofs.Stepping.{negated, affirmed, bounded, enoughRoom, not-state, no-room, no-bounds, room-kept, step-stands}
-use borrow.Author.Needs.{needs}
 use Rattle.machine_console.proofs.step.Statement.{statement}
 use Rattle.machine_console.proofs.step.Tie as tie
 

@@ -1,20 +1,10 @@
 -- A script of console calls: which eight bytes are a call, and what it asks for. Numbers have their high byte first, and no value is cut short.
 -- Assumes nothing.
-use mathlib.Core.Path.{_≡_}
-use mathlib.Core.Bool.{Bool, true, _&&_, _||_}
-use mathlib.Core.List.{List, [], _∷_}
-use mathlib.Core.Option.{Option, none, some}
-use Prim.Native.Nat.{ℕ, _+_, _*_}
-use lib.Dec.{eqb, ltb, leb}
-use lib.ListN.{getD}
-use Rattle.laws.specs.Choice.{pick}
+use Rattle.laws.specs.Basics.{_≡_, Bool, true, _&&_, _||_, List, [], _∷_, Option, none, some, ℕ, _+_, _*_, eqb, ltb, leb, getD, pick}
 use Rattle.laws.specs.Tests.{every}
-use Rattle.theory_roles.specs.declared.Role.{Role}
-use Rattle.theory_roles.specs.declared.Role.the-variants.{Operator, JobOwner, Viewer}
-use Rattle.theory_roles.specs.declared.Operation.{Operation}
+use Rattle.theory_roles.specs.declared.{Role.Role, Role.the-variants.Operator, Role.the-variants.JobOwner, Role.the-variants.Viewer, Operation.Operation}
 use Rattle.theory_roles.specs.declared.Operation.the-variants.{Start, Checkpoint, Send, Deliver, Lose, Recover, Line, Earliest, List as Listing, Counts}
-use Rattle.machine_console.specs.declared.script.Call.{Call}
-use Rattle.machine_console.specs.declared.script.Read.{Read}
+use Rattle.machine_console.specs.declared.{script.Call.Call, script.Read.Read}
 use Rattle.machine_console.specs.declared.script.Read.the-variants.{Ended, LeftOver, Malformed, Asks}
 
 -- The byte in a place of a call.

@@ -1,9 +1,8 @@
 -- `machine_judge::after_read` meets its contract, by what the read brought.
 -- Assumes nothing.
+use Rattle.laws.specs.Basics.{arith, needs}
 use denote.Ref.{now}
-use native.Mathlib.Omega.{arith}
 use Rattle.machine_judge.proofs.Stepping.{brought-fits, led-onward, led-end, led-failed, stands-as}
-use borrow.Author.Needs.{needs}
 use Rattle.machine_judge.proofs.after_read.Statement.{statement}
 use Rattle.machine_judge.proofs.after_read.Tie as tie
 

@@ -1,9 +1,8 @@
 -- `machine_judge::after_write` meets its contract, by whether the line is written.
 -- Assumes nothing.
+use Rattle.laws.specs.Basics.{needs}
 use denote.Ref.{now}
-use Rattle.machine_judge.proofs.Stepping.{led-written, led-unwritten, stands-as}
-use borrow.Author.Needs.{needs}
-use Rattle.machine_judge.proofs.after_write.Statement.{statement}
+use Rattle.machine_judge.proofs.{Stepping.led-written, Stepping.led-unwritten, Stepping.stands-as, after_write.Statement.statement}
 use Rattle.machine_judge.proofs.after_write.Tie as tie
 
 returns : tie.Need-returns

@@ -1,11 +1,9 @@
 -- `machine_judge::fail` meets its contract: the name stands at the front of the buffer.
 -- Assumes nothing.
-use borrow.Author.Needs.{needs}
+use Rattle.laws.specs.Basics.{arith, needs}
 use denote.Ref.{now}
-use native.Mathlib.Omega.{arith}
 use Rattle.machines.proofs.programs.Texts.{front-text}
-use Rattle.machine_judge.proofs.Standing.{failing-after}
-use Rattle.machine_judge.proofs.fail.Statement.{statement}
+use Rattle.machine_judge.proofs.{Standing.failing-after, fail.Statement.statement}
 use Rattle.machine_judge.proofs.fail.Tie as tie
 
 write-word-requires : tie.Need-write-word-requires

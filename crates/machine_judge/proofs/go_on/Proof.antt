@@ -1,10 +1,8 @@
 -- `machine_judge::go_on` meets its contract.
 -- Assumes nothing.
-use borrow.Author.Needs.{needs}
+use Rattle.laws.specs.Basics.{arith, needs}
 use denote.Ref.{now}
-use native.Mathlib.Omega.{arith}
-use Rattle.machine_judge.proofs.Standing.{onward-printed, onward-read}
-use Rattle.machine_judge.proofs.go_on.Statement.{statement}
+use Rattle.machine_judge.proofs.{Standing.onward-printed, Standing.onward-read, go_on.Statement.statement}
 use Rattle.machine_judge.proofs.go_on.Tie as tie
 
 is-settled-requires : tie.Need-is-settled-requires

@@ -1,8 +1,7 @@
 -- `machine_judge::is_settled` meets its contract, by its tests.
 -- Assumes nothing.
-use borrow.Author.Needs.{needs}
+use Rattle.laws.specs.Basics.{arith, needs}
 use denote.Ref.{now}
-use native.Mathlib.Omega.{arith}
 use Rattle.machine_judge.proofs.Standing.{settled-none, settled-low, settled-high, settled-long}
 use Rattle.machine_judge.proofs.is_settled.Statement.{statement}
 use Rattle.machine_judge.proofs.is_settled.Tie as tie

@@ -1,17 +1,11 @@
 -- `machine_judge::print_verdict` meets its contract: the line of the verdict stands at the front of the buffer.
 -- Assumes nothing.
-use borrow.Author.Needs.{needs}
-use mathlib.Core.Path.{sym, _∙_, ap}
+use Rattle.laws.specs.Basics.{sym, _∙_, ap, arith, take, length-take-le, needs}
 use denote.Ref.{now}
-use native.Mathlib.Omega.{arith}
-use lib.ListN.{take}
-use lib.Seq.{length-take-le}
 use Rattle.theory_patterns.specs.Verdicts.{verdict}
 use Rattle.machines.proofs.programs.Texts.{front-text}
 use Rattle.machine_judge.specs.Text.{verdictText}
-use Rattle.machine_judge.proofs.Lengths.{verdict-short, small}
-use Rattle.machine_judge.proofs.Standing.{printing-after}
-use Rattle.machine_judge.proofs.print_verdict.Statement.{statement}
+use Rattle.machine_judge.proofs.{Lengths.verdict-short, Lengths.small, Standing.printing-after, print_verdict.Statement.statement}
 use Rattle.machine_judge.proofs.print_verdict.Tie as tie
 
 slice-aggregate-judge : tie.Need-slice-aggregate-judge

@@ -1,9 +1,8 @@
 -- `machine_judge::read_more` meets its contract.
 -- Assumes nothing.
-use borrow.Author.Needs.{needs}
+use Rattle.laws.specs.Basics.{needs}
 use denote.Ref.{now}
-use Rattle.machine_judge.proofs.Standing.{reading-after}
-use Rattle.machine_judge.proofs.read_more.Statement.{statement}
+use Rattle.machine_judge.proofs.{Standing.reading-after, read_more.Statement.statement}
 use Rattle.machine_judge.proofs.read_more.Tie as tie
 
 returns : tie.Need-returns

@@ -1,10 +1,8 @@
 -- `machine_judge::step` meets its contract, by the phase.
 -- Assumes nothing.
-use mathlib.Core.Path.{sym, _∙_}
+use Rattle.laws.specs.Basics.{sym, _∙_, arith, needs}
 use denote.Ref.{now}
-use native.Mathlib.Omega.{arith}
 use Rattle.machine_judge.proofs.Stepping.{no-room, room-by, is-reading, is-printing, read-too-far, printed-too-far, then-stops, stands-as, steps-as}
-use borrow.Author.Needs.{needs}
 use Rattle.machine_judge.proofs.step.Statement.{statement}
 use Rattle.machine_judge.proofs.step.Tie as tie
 

@@ -1,9 +1,8 @@
 -- `machine_judge::stop` meets its contract.
 -- Assumes nothing.
-use borrow.Author.Needs.{needs}
+use Rattle.laws.specs.Basics.{needs}
 use denote.Ref.{now}
-use Rattle.machine_judge.proofs.Standing.{stopped-after}
-use Rattle.machine_judge.proofs.stop.Statement.{statement}
+use Rattle.machine_judge.proofs.{Standing.stopped-after, stop.Statement.statement}
 use Rattle.machine_judge.proofs.stop.Tie as tie
 
 returns : tie.Need-returns

@@ -1,7 +1,6 @@
 -- `machine_judge::wanted` meets its contract.
 -- Assumes nothing.
-use borrow.Author.Needs.{needs}
-use borrow.Author.Tests.{eq-eqb, ne-eqb}
+use Rattle.laws.specs.Basics.{needs, eq-eqb, ne-eqb}
 use Rattle.machine_judge.specs.Judging.{wanted}
 use Rattle.machine_judge.proofs.wanted.Statement.{statement}
 use Rattle.machine_judge.proofs.wanted.Tie as tie

@@ -1,10 +1,7 @@
 -- `machine_merge::begin` meets its contract.
 -- Assumes nothing.
-use native.Mathlib.Omega.{arith}
-use Rattle.machine_merge.proofs.Arriving.{arrives-counting}
-use Rattle.machine_merge.proofs.Stepping.{put-stands}
-use borrow.Author.Needs.{needs}
-use Rattle.machine_merge.proofs.begin.Statement.{statement}
+use Rattle.laws.specs.Basics.{arith, needs}
+use Rattle.machine_merge.proofs.{Arriving.arrives-counting, Stepping.put-stands, begin.Statement.statement}
 use Rattle.machine_merge.proofs.begin.Tie as tie
 
 returns : tie.Need-returns

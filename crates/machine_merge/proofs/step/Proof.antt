@@ -1,13 +1,10 @@
 -- `machine_merge::step` meets its contract.
 -- Assumes nothing.
-use mathlib.Core.Path.{sym, _∙_, ap}
-use lib.ListN.{length}
+use Rattle.laws.specs.Basics.{sym, _∙_, ap, length, needs}
 use Rattle.machine_merge.specs.declared.marks.Marks.{Marks}
 use Rattle.machine_merge.specs.Words.{inBounds}
-use Rattle.machine_merge.proofs.Marking.{bounded}
+use Rattle.machine_merge.proofs.{Marking.bounded, step.Statement.statement}
 use Rattle.machine_merge.proofs.Stepping.{room-by, negated, affirmed, no-room, no-bounds, step-stands}
-use borrow.Author.Needs.{needs}
-use Rattle.machine_merge.proofs.step.Statement.{statement}
 use Rattle.machine_merge.proofs.step.Tie as tie
 
 returns : tie.Need-returns

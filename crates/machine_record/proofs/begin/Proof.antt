@@ -1,11 +1,6 @@
 -- `machine_record::begin` meets its contract. Assumes nothing.
-use native.Mathlib.Omega.{arith}
-use mathlib.Core.Path.{_≡_, refl, _∙_, sym, ap}
-use lib.ListN.{length}
-use Rattle.machine_record.proofs.Arriving.{arrives-counting}
-use Rattle.machine_record.proofs.Stepping.{enoughRoom, room-kept, begin-stands}
-use borrow.Author.Needs.{needs}
-use Rattle.machine_record.proofs.begin.Statement.{statement}
+use Rattle.laws.specs.Basics.{_≡_, refl, sym, _∙_, ap, arith, length, needs}
+use Rattle.machine_record.proofs.{Arriving.arrives-counting, Stepping.enoughRoom, Stepping.room-kept, Stepping.begin-stands, begin.Statement.statement}
 use Rattle.machine_record.proofs.begin.Tie as tie
 
 put-requires : tie.Need-put-requires

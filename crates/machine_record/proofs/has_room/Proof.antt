@@ -1,9 +1,6 @@
 -- `machine_record::has_room` meets its contract. Assumes nothing.
-use mathlib.Core.Path.{refl}
-use borrow.Author.Tests.{lt-leb, le-leb, eq-eqb, ne-eqb}
-use Rattle.machine_record.specs.Played.{blockLines}
-use Rattle.machine_record.specs.Lent.{hasRoom}
-use borrow.Author.Needs.{needs}
+use Rattle.laws.specs.Basics.{refl, needs, eq-eqb, ne-eqb, le-leb, lt-leb}
+use Rattle.machine_record.specs.{Played.blockLines, Lent.hasRoom}
 use Rattle.machine_record.proofs.has_room.Statement.{statement}
 use Rattle.machine_record.proofs.has_room.Tie as tie
 

@@ -1,11 +1,8 @@
 -- `machine_record::step` meets its contract. Assumes nothing.
-use native.Mathlib.Omega.{arith}
-use mathlib.Core.Path.{_≡_, refl, _∙_, sym, ap}
-use lib.ListN.{length}
+use Rattle.laws.specs.Basics.{_≡_, refl, sym, _∙_, ap, arith, length, needs}
 use Rattle.machine_record.specs.declared.marks.Marks.{Marks}
 use Rattle.machine_record.specs.Lent.{inBounds}
 use Rattle.machine_record.proofs.Stepping.{negated, affirmed, bounded, enoughRoom, not-state, no-room, no-bounds, room-kept, step-stands}
-use borrow.Author.Needs.{needs}
 use Rattle.machine_record.proofs.step.Statement.{statement}
 use Rattle.machine_record.proofs.step.Tie as tie
 

@@ -1,12 +1,9 @@
 -- `machine_simulate::after_count` meets its contract.
 -- Assumes nothing.
+use Rattle.laws.specs.Basics.{sym, _∙_, ap, needs}
 use denote.Ref.{now}
-use mathlib.Core.Path.{sym, _∙_, ap}
 use Rattle.machine_simulate.specs.Simulating.{Asking}
-use Rattle.machine_simulate.proofs.Standing.{stands-as}
-use Rattle.machine_simulate.proofs.Stepping.{led-counted, led-miscounted}
-use borrow.Author.Needs.{needs}
-use Rattle.machine_simulate.proofs.after_count.Statement.{statement}
+use Rattle.machine_simulate.proofs.{Standing.stands-as, Stepping.led-counted, Stepping.led-miscounted, after_count.Statement.statement}
 use Rattle.machine_simulate.proofs.after_count.Tie as tie
 
 returns : tie.Need-returns

@@ -1,10 +1,8 @@
 -- `machine_simulate::after_last` meets its contract.
 -- Assumes nothing.
+use Rattle.laws.specs.Basics.{needs}
 use denote.Ref.{now}
-use Rattle.machine_simulate.proofs.Standing.{stands-as}
-use Rattle.machine_simulate.proofs.Stepping.{printed-done, printed-failed}
-use borrow.Author.Needs.{needs}
-use Rattle.machine_simulate.proofs.after_last.Statement.{statement}
+use Rattle.machine_simulate.proofs.{Standing.stands-as, Stepping.printed-done, Stepping.printed-failed, after_last.Statement.statement}
 use Rattle.machine_simulate.proofs.after_last.Tie as tie
 
 returns : tie.Need-returns

@@ -1,10 +1,8 @@
 -- `machine_simulate::after_line` meets its contract.
 -- Assumes nothing.
+use Rattle.laws.specs.Basics.{needs}
 use denote.Ref.{now}
-use Rattle.machine_simulate.proofs.Standing.{stands-as}
-use Rattle.machine_simulate.proofs.Stepping.{row-done, row-failed}
-use borrow.Author.Needs.{needs}
-use Rattle.machine_simulate.proofs.after_line.Statement.{statement}
+use Rattle.machine_simulate.proofs.{Standing.stands-as, Stepping.row-done, Stepping.row-failed, after_line.Statement.statement}
 use Rattle.machine_simulate.proofs.after_line.Tie as tie
 
 returns : tie.Need-returns

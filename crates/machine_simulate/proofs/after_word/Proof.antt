@@ -1,13 +1,8 @@
 -- `machine_simulate::after_word` meets its contract.
 -- Assumes nothing.
+use Rattle.laws.specs.Basics.{sym, arith, length-take-le, needs}
 use denote.Ref.{now}
-use native.Mathlib.Omega.{arith}
-use mathlib.Core.Path.{sym}
-use lib.Seq.{length-take-le}
-use Rattle.machine_simulate.proofs.Standing.{stands-as}
-use Rattle.machine_simulate.proofs.Stepping.{led-asking, led-decided}
-use borrow.Author.Needs.{needs}
-use Rattle.machine_simulate.proofs.after_word.Statement.{statement}
+use Rattle.machine_simulate.proofs.{Standing.stands-as, Stepping.led-asking, Stepping.led-decided, after_word.Statement.statement}
 use Rattle.machine_simulate.proofs.after_word.Tie as tie
 
 slice-aggregate-with-word : tie.Need-slice-aggregate-with-word

@@ -1,15 +1,10 @@
 -- `machine_simulate::answer_with` meets its contract.
 -- Assumes nothing.
+use Rattle.laws.specs.Basics.{sym, _∙_, ap, arith, needs}
 use denote.Ref.{now}
-use native.Mathlib.Omega.{arith}
-use mathlib.Core.Path.{sym, _∙_, ap}
 use Rattle.machines.proofs.programs.Texts.{front-text}
-use Rattle.machine_simulate.specs.Text.{resultText}
-use Rattle.machine_simulate.specs.Simulating.{Printing}
-use Rattle.machine_simulate.proofs.Standing.{stands-as}
-use Rattle.machine_simulate.proofs.Ending.{answered-table, answered-one}
-use borrow.Author.Needs.{needs}
-use Rattle.machine_simulate.proofs.answer_with.Statement.{statement}
+use Rattle.machine_simulate.specs.{Text.resultText, Simulating.Printing}
+use Rattle.machine_simulate.proofs.{Standing.stands-as, Ending.answered-table, Ending.answered-one, answer_with.Statement.statement}
 use Rattle.machine_simulate.proofs.answer_with.Tie as tie
 
 returns : tie.Need-returns

@@ -1,10 +1,8 @@
 -- `machine_simulate::ask_word` meets its contract.
 -- Assumes nothing.
+use Rattle.laws.specs.Basics.{arith, needs}
 use denote.Ref.{now}
-use native.Mathlib.Omega.{arith}
-use Rattle.machine_simulate.proofs.Standing.{asking-stands}
-use borrow.Author.Needs.{needs}
-use Rattle.machine_simulate.proofs.ask_word.Statement.{statement}
+use Rattle.machine_simulate.proofs.{Standing.asking-stands, ask_word.Statement.statement}
 use Rattle.machine_simulate.proofs.ask_word.Tie as tie
 
 returns : tie.Need-returns

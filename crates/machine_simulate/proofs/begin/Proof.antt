@@ -1,10 +1,8 @@
 -- `machine_simulate::begin` meets its contract.
 -- Assumes nothing.
+use Rattle.laws.specs.Basics.{arith, needs}
 use denote.Ref.{now}
-use native.Mathlib.Omega.{arith}
-use Rattle.machine_simulate.proofs.Standing.{counting-stands}
-use borrow.Author.Needs.{needs}
-use Rattle.machine_simulate.proofs.begin.Statement.{statement}
+use Rattle.machine_simulate.proofs.{Standing.counting-stands, begin.Statement.statement}
 use Rattle.machine_simulate.proofs.begin.Tie as tie
 
 returns : tie.Need-returns

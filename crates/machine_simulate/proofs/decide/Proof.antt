@@ -1,10 +1,7 @@
 -- `machine_simulate::decide` meets its contract.
 -- Assumes nothing.
-use mathlib.Core.Path.{sym, _∙_}
-use Rattle.machine_simulate.proofs.Standing.{stands-as}
-use Rattle.machine_simulate.proofs.Stepping.{decided-wrong, decided-right}
-use borrow.Author.Needs.{needs}
-use Rattle.machine_simulate.proofs.decide.Statement.{statement}
+use Rattle.laws.specs.Basics.{sym, _∙_, needs}
+use Rattle.machine_simulate.proofs.{Standing.stands-as, Stepping.decided-wrong, Stepping.decided-right, decide.Statement.statement}
 use Rattle.machine_simulate.proofs.decide.Tie as tie
 
 returns : tie.Need-returns

@@ -1,12 +1,10 @@
 -- `machine_simulate::fail` meets its contract.
 -- Assumes nothing.
+use Rattle.laws.specs.Basics.{arith, needs}
 use denote.Ref.{now}
-use native.Mathlib.Omega.{arith}
 use Rattle.machines.proofs.programs.Texts.{front-text}
 use Rattle.machine_simulate.specs.Simulating.{outputName}
-use Rattle.machine_simulate.proofs.Standing.{failing-stands}
-use borrow.Author.Needs.{needs}
-use Rattle.machine_simulate.proofs.fail.Statement.{statement}
+use Rattle.machine_simulate.proofs.{Standing.failing-stands, fail.Statement.statement}
 use Rattle.machine_simulate.proofs.fail.Tie as tie
 
 returns : tie.Need-returns

@@ -1,10 +1,8 @@
 -- `machine_simulate::go_on` meets its contract.
 -- Assumes nothing.
+use Rattle.laws.specs.Basics.{needs}
 use denote.Ref.{now}
-use Rattle.machine_simulate.proofs.Standing.{stands-as}
-use Rattle.machine_simulate.proofs.Stepping.{steps-as, tabled-too-far, is-tabling}
-use borrow.Author.Needs.{needs}
-use Rattle.machine_simulate.proofs.go_on.Statement.{statement}
+use Rattle.machine_simulate.proofs.{Standing.stands-as, Stepping.steps-as, Stepping.tabled-too-far, Stepping.is-tabling, go_on.Statement.statement}
 use Rattle.machine_simulate.proofs.go_on.Tie as tie
 
 returns : tie.Need-returns

@@ -1,7 +1,7 @@
 -- `machine_simulate::kept` meets its contract.
 -- Assumes nothing.
+use Rattle.laws.specs.Basics.{needs}
 use Rattle.machine_simulate.specs.Words.{keptIn}
-use borrow.Author.Needs.{needs}
 use Rattle.machine_simulate.proofs.kept.Statement.{statement}
 use Rattle.machine_simulate.proofs.kept.Tie as tie
 

@@ -1,6 +1,6 @@
 -- `machine_simulate::lacks_room` meets its contract.
 -- Assumes nothing.
-use borrow.Author.Tests.{le-ltb, lt-ltb}
+use Rattle.laws.specs.Basics.{lt-ltb, le-ltb}
 use Rattle.machine_simulate.specs.Words.{lacksRoom}
 use Rattle.machine_simulate.proofs.lacks_room.Statement.{statement}
 use Rattle.machine_simulate.proofs.lacks_room.Tie as tie

@@ -1,17 +1,10 @@
 -- `machine_simulate::next_row` meets its contract.
 -- Assumes nothing.
+use Rattle.laws.specs.Basics.{sym, _∙_, ap, List, ℕ, arith, needs}
 use denote.Ref.{now}
-use native.Mathlib.Omega.{arith}
-use mathlib.Core.Path.{sym, _∙_, ap}
-use mathlib.Core.List.{List}
-use Prim.Native.Nat.{ℕ}
 use Rattle.machines.proofs.programs.Texts.{front-text}
-use Rattle.machine_simulate.specs.Text.{rowText}
-use Rattle.machine_simulate.specs.Simulating.{Tabling, withoutFirst}
-use Rattle.machine_simulate.proofs.Standing.{stands-as}
-use Rattle.machine_simulate.proofs.Stepping.{row-none, row-next}
-use borrow.Author.Needs.{needs}
-use Rattle.machine_simulate.proofs.next_row.Statement.{statement}
+use Rattle.machine_simulate.specs.{Text.rowText, Simulating.Tabling, Simulating.withoutFirst}
+use Rattle.machine_simulate.proofs.{Standing.stands-as, Stepping.row-none, Stepping.row-next, next_row.Statement.statement}
 use Rattle.machine_simulate.proofs.next_row.Tie as tie
 
 returns : tie.Need-returns

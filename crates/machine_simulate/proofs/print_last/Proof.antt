@@ -1,10 +1,8 @@
 -- `machine_simulate::print_last` meets its contract.
 -- Assumes nothing.
+use Rattle.laws.specs.Basics.{arith, needs}
 use denote.Ref.{now}
-use native.Mathlib.Omega.{arith}
-use Rattle.machine_simulate.proofs.Standing.{printing-stands}
-use borrow.Author.Needs.{needs}
-use Rattle.machine_simulate.proofs.print_last.Statement.{statement}
+use Rattle.machine_simulate.proofs.{Standing.printing-stands, print_last.Statement.statement}
 use Rattle.machine_simulate.proofs.print_last.Tie as tie
 
 returns : tie.Need-returns

@@ -1,11 +1,8 @@
 -- `machine_simulate::put` meets its contract: every write leaves the length.
 -- Assumes nothing.
+use Rattle.laws.specs.Basics.{arith, length-set, needs}
 use denote.Ref.{now}
-use native.Mathlib.Omega.{arith}
-use lib.ListN.{length-set}
-use Rattle.machine_simulate.proofs.Standing.{puts-all}
-use borrow.Author.Needs.{needs}
-use Rattle.machine_simulate.proofs.put.Statement.{statement}
+use Rattle.machine_simulate.proofs.{Standing.puts-all, put.Statement.statement}
 use Rattle.machine_simulate.proofs.put.Tie as tie
 
 returns : tie.Need-returns

@@ -1,12 +1,10 @@
 -- `machine_simulate::report_usage` meets its contract.
 -- Assumes nothing.
+use Rattle.laws.specs.Basics.{arith, needs}
 use denote.Ref.{now}
-use native.Mathlib.Omega.{arith}
 use Rattle.machines.proofs.programs.Texts.{front-text}
 use Rattle.machine_simulate.specs.Simulating.{usage}
-use Rattle.machine_simulate.proofs.Standing.{reporting-stands}
-use borrow.Author.Needs.{needs}
-use Rattle.machine_simulate.proofs.report_usage.Statement.{statement}
+use Rattle.machine_simulate.proofs.{Standing.reporting-stands, report_usage.Statement.statement}
 use Rattle.machine_simulate.proofs.report_usage.Tie as tie
 
 returns : tie.Need-returns

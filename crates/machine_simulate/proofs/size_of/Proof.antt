@@ -1,8 +1,7 @@
 -- `machine_simulate::size_of` meets its contract.
 -- Assumes nothing.
-use Rattle.machine_simulate.proofs.Stepping.{size-brought, size-ended, size-failed}
-use borrow.Author.Needs.{needs}
-use Rattle.machine_simulate.proofs.size_of.Statement.{statement}
+use Rattle.laws.specs.Basics.{needs}
+use Rattle.machine_simulate.proofs.{Stepping.size-brought, Stepping.size-ended, Stepping.size-failed, size_of.Statement.statement}
 use Rattle.machine_simulate.proofs.size_of.Tie as tie
 
 returns : tie.Need-returns

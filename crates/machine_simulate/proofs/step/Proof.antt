@@ -1,14 +1,10 @@
 -- `machine_simulate::step` meets its contract.
 -- Assumes nothing.
+use Rattle.laws.specs.Basics.{sym, _∙_, ap, arith, getD, needs}
 use denote.Ref.{now}
-use native.Mathlib.Omega.{arith}
-use lib.ListN.{getD}
-use mathlib.Core.Path.{sym, _∙_, ap}
 use Rattle.machine_simulate.specs.Simulating.{Asking}
-use Rattle.machine_simulate.proofs.Standing.{room-by, stands-as}
+use Rattle.machine_simulate.proofs.{Standing.room-by, Standing.stands-as, step.Statement.statement}
 use Rattle.machine_simulate.proofs.Stepping.{no-room, steps-as, is-counting, is-asking, is-printing, then-stops, one-most}
-use borrow.Author.Needs.{needs}
-use Rattle.machine_simulate.proofs.step.Statement.{statement}
 use Rattle.machine_simulate.proofs.step.Tie as tie
 
 returns : tie.Need-returns

@@ -1,8 +1,7 @@
 -- `machine_simulate::stop` meets its contract.
 -- Assumes nothing.
-use Rattle.machine_simulate.proofs.Standing.{stopped-stands}
-use borrow.Author.Needs.{needs}
-use Rattle.machine_simulate.proofs.stop.Statement.{statement}
+use Rattle.laws.specs.Basics.{needs}
+use Rattle.machine_simulate.proofs.{Standing.stopped-stands, stop.Statement.statement}
 use Rattle.machine_simulate.proofs.stop.Tie as tie
 
 returns : tie.Need-returns

@@ -1,18 +1,10 @@
 -- `machine_simulate::table` meets its contract.
 -- Assumes nothing.
+use Rattle.laws.specs.Basics.{sym, _∙_, ap, List, ℕ, arith, needs}
 use denote.Ref.{now}
-use native.Mathlib.Omega.{arith}
-use mathlib.Core.Path.{sym, _∙_, ap}
-use mathlib.Core.List.{List}
-use Prim.Native.Nat.{ℕ}
 use Rattle.machines.proofs.programs.Texts.{front-text}
-use Rattle.machine_simulate.specs.Text.{headLine}
-use Rattle.machine_simulate.specs.Simulating.{Printing, Tabling}
-use Rattle.machine_simulate.proofs.Numbers.{in-table}
-use Rattle.machine_simulate.proofs.Standing.{stands-as}
-use Rattle.machine_simulate.proofs.Stepping.{tabled-refused, tabled-begins}
-use borrow.Author.Needs.{needs}
-use Rattle.machine_simulate.proofs.table.Statement.{statement}
+use Rattle.machine_simulate.specs.{Text.headLine, Simulating.Printing, Simulating.Tabling}
+use Rattle.machine_simulate.proofs.{Numbers.in-table, Standing.stands-as, Stepping.tabled-refused, Stepping.tabled-begins, table.Statement.statement}
 use Rattle.machine_simulate.proofs.table.Tie as tie
 
 returns : tie.Need-returns

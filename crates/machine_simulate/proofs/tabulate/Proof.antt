@@ -1,10 +1,8 @@
 -- `machine_simulate::tabulate` meets its contract.
 -- Assumes nothing.
+use Rattle.laws.specs.Basics.{arith, needs}
 use denote.Ref.{now}
-use native.Mathlib.Omega.{arith}
-use Rattle.machine_simulate.proofs.Standing.{tabling-stands}
-use borrow.Author.Needs.{needs}
-use Rattle.machine_simulate.proofs.tabulate.Statement.{statement}
+use Rattle.machine_simulate.proofs.{Standing.tabling-stands, tabulate.Statement.statement}
 use Rattle.machine_simulate.proofs.tabulate.Tie as tie
 
 returns : tie.Need-returns

@@ -1,9 +1,8 @@
 -- `machine_simulate::trial` meets its contract.
 -- Assumes nothing.
-use mathlib.Core.Path.{_∙_}
+use Rattle.laws.specs.Basics.{_∙_, needs}
 use Rattle.theory_recording.specs.spacing.Spacing.{simulated}
 use Rattle.machine_simulate.specs.Text.{trialOf}
-use borrow.Author.Needs.{needs}
 use Rattle.machine_simulate.proofs.trial.Statement.{statement}
 use Rattle.machine_simulate.proofs.trial.Tie as tie
 

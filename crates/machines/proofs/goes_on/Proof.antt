@@ -1,6 +1,6 @@
 -- `machines::goes_on` meets its contract, by the kind of the request.
 -- Assumes nothing.
-use borrow.Author.Needs.{needs}
+use Rattle.laws.specs.Basics.{needs}
 use Rattle.machines.specs.Forms.{goesOn}
 use Rattle.machines.proofs.goes_on.Statement.{statement}
 use Rattle.machines.proofs.goes_on.Tie as tie

@@ -1,7 +1,6 @@
 -- `machines::obey` meets its contract: a request's places lie inside the buffers, and no call changes more of `input` than the place that it is given.
 -- Assumes nothing.
-use mathlib.Core.Path.{refl}
-use borrow.Author.Needs.{needs}
+use Rattle.laws.specs.Basics.{refl, needs}
 use Rattle.machines.specs.Forms.{Leaves}
 use Rattle.machines.proofs.Places.{argument-inside, open-inside, read-inside, write-inside, say-inside, fail-inside, leaves-by}
 use Rattle.machines.proofs.obey.Statement.{statement}

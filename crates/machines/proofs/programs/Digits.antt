@@ -1,14 +1,7 @@
 -- The number that a word is, digit by digit, and what stands for it.
 -- Assumes nothing.
-use mathlib.Core.Path.{_≡_, refl, sym, _∙_, ap}
-use mathlib.Core.List.{List}
-use mathlib.Core.Option.{Option, none, some}
-use Prim.Native.Nat.{ℕ, _+_, _-_, _*_, _≤_, _<_}
-use native.Mathlib.Omega.{arith}
-use lib.ListN.{length, getD}
-use borrow.Author.Tests.{lt-ltb, le-ltb, eq-eqb, ne-eqb}
-use Rattle.laws.specs.Loops.{iter}
-use Rattle.laws.specs.Rows.{by-lt}
+use Rattle.laws.specs.Basics.{_≡_, refl, sym, _∙_, ap, List, Option, none, some, ℕ, _+_, _-_, _*_, _≤_, _<_, arith, length, getD, eq-eqb, ne-eqb, lt-ltb, le-ltb}
+use Rattle.laws.specs.{Loops.iter, Rows.by-lt}
 use Rattle.machines.specs.programs.Numbers.{tooGreat, noNumber, grown, decimalIn, standsFor, numberIn, atMost}
 
 -- What stands for a number.

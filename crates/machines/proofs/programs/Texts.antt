@@ -1,14 +1,8 @@
 -- Texts in a buffer: a word byte by byte, a text at the front; and how long the line of a refusal can be.
 -- Assumes nothing.
-use mathlib.Core.Path.{_≡_, sym, _∙_, ap}
-use mathlib.Core.List.{List, [], _∷_, _++_}
-use Prim.Native.Nat.{ℕ, _+_, _≤_, _<_}
-use native.Mathlib.Omega.{arith}
-use lib.ListN.{length, getD, set, take, drop, length-append}
-use lib.Seq.{sets, length-take-le, take-at, take-length}
-use Rattle.laws.specs.Front.{written-front}
-use Rattle.laws.specs.Prefixes.{take-more}
-use Rattle.laws.specs.Written.{sets-after}
+use Rattle.laws.specs.Basics.{_≡_, sym, _∙_, ap, List, [], _∷_, _++_, ℕ, _+_, _≤_, _<_, arith, length, getD, take, drop, set, length-append, sets, length-take-le}
+use lib.Seq.{take-at, take-length}
+use Rattle.laws.specs.{Front.written-front, Prefixes.take-more, Written.sets-after}
 use Rattle.model.specs.declared.Refusal.{Refusal}
 use Rattle.model.specs.Refusals.{number}
 use Rattle.whole_runs.specs.Listing.{decimal, lineFeed}

@@ -1,13 +1,8 @@
 -- Bytes moved towards the front of a list, one after the other: the first k of them are written, and what lies after them is as it was.
 -- Assumes nothing.
-use mathlib.Core.Path.{_≡_, refl, sym, _∙_, ap}
-use mathlib.Core.List.{List, [], _∷_}
-use Prim.Native.Nat.{ℕ, suc, _+_, _≤_, _<_}
-use native.Mathlib.Omega.{arith}
-use lib.ListN.{length, getD, set, take, drop, length-drop}
-use lib.Seq.{sets, getD-set-other, getD-drop, length-take-le}
-use Rattle.laws.specs.Prefixes.{take-more}
-use Rattle.laws.specs.Written.{sets-after}
+use Rattle.laws.specs.Basics.{_≡_, refl, sym, _∙_, ap, List, [], _∷_, ℕ, suc, _+_, _≤_, _<_, arith, length, getD, take, drop, set, length-drop, sets, getD-set-other, length-take-le}
+use lib.Seq.{getD-drop}
+use Rattle.laws.specs.{Prefixes.take-more, Written.sets-after}
 
 above : (l : List ℕ) (i : ℕ) (xs : List ℕ) (j : ℕ) → i + length xs ≤ j → getD (sets l i xs) j 0 ≡ getD l j 0
 above l i [] j h = refl

@@ -1,13 +1,6 @@
 -- The word `all`, byte by byte.
 -- Assumes nothing.
-use mathlib.Core.Path.{_≡_, refl}
-use mathlib.Core.Bool.{true, false, _&&_}
-use mathlib.Core.List.{List, [], _∷_}
-use Prim.Native.Nat.{ℕ}
-use native.Mathlib.Omega.{arith}
-use lib.Dec.{eqb}
-use lib.ListN.{length, getD}
-use Rattle.laws.specs.Choice.{by-bool}
+use Rattle.laws.specs.Basics.{_≡_, refl, true, false, _&&_, List, [], _∷_, ℕ, arith, eqb, length, getD, by-bool}
 use Rattle.laws.specs.Tests.{same}
 
 -- A word of three bytes is the same if each byte is.

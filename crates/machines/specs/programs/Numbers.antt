@@ -1,11 +1,6 @@
 -- The number that a word is, by its decimal digits, and how 64 bits stand for it: no number is cut short.
 -- Assumes nothing.
-use mathlib.Core.List.{List}
-use mathlib.Core.Option.{Option, none, some}
-use Prim.Native.Nat.{ℕ, _+_, _-_, _*_}
-use lib.Dec.{eqb, ltb}
-use lib.ListN.{length, getD}
-use Rattle.laws.specs.Choice.{pick}
+use Rattle.laws.specs.Basics.{List, Option, none, some, ℕ, _+_, _-_, _*_, eqb, ltb, length, getD, pick}
 use Rattle.laws.specs.Loops.{iter}
 
 -- One digit more, in ASCII: 48 to 57. A byte that is no digit makes a word that is no number.

@@ -1,7 +1,6 @@
 -- What programs print alike: a name and a number in one line, and the line of a refusal. Numbers are decimal.
 -- Assumes nothing.
-use mathlib.Core.List.{List, [], _∷_, _++_}
-use Prim.Native.Nat.{ℕ}
+use Rattle.laws.specs.Basics.{List, [], _∷_, _++_, ℕ}
 use Rattle.model.specs.declared.Refusal.{Refusal}
 use Rattle.model.specs.Refusals.{number}
 use Rattle.whole_runs.specs.Listing.{decimal, space, lineFeed}

@@ -1,7 +1,5 @@
 // Bytes read into a lent buffer.
-ghost use mathlib.Core.Path.{_≡_};
-ghost use Prim.Native.Nat.{_+_, _≤_};
-ghost use lib.ListN.{length, take};
+ghost use Rattle.laws.specs.Basics.{_≡_, _+_, _≤_, length, take};
 
 // Whether a read failed, and how many bytes it brought, none at the end of the input.
 pub struct Brought {

@@ -1,7 +1,5 @@
 // The number that a word is, by its decimal digits. 4,294,967,296 stands for every greater number, and 4,294,967,297 for a word that is no number.
-ghost use mathlib.Core.Path.{_≡_};
-ghost use mathlib.Core.Option.{Option};
-ghost use Prim.Native.Nat.{ℕ, _≤_};
+ghost use Rattle.laws.specs.Basics.{_≡_, Option, ℕ, _≤_};
 ghost use Rattle.machines.specs.programs.Numbers.{grown, standsFor, numberIn, atMost, noNumber};
 
 // The greatest number of 32 bits; what stands for every greater one, and for a word that is no number (tooGreat, noNumber in specs/Numbers).

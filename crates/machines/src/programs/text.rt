@@ -1,7 +1,6 @@
 // Texts printed to a lent buffer from a place on: every function hands back the place after what it printed.
 use model::Refusal;
-ghost use Prim.Native.Nat.{_+_, _≤_};
-ghost use lib.ListN.{length};
+ghost use Rattle.laws.specs.Basics.{_+_, _≤_, length};
 ghost use Rattle.listing.specs.Printed.{Room, Printed};
 ghost use Rattle.machines.specs.programs.Texts.{figureText, refusedText, longestFigure, longestRefusal};
 

@@ -1,6 +1,5 @@
 // The word that the program is started with.
-ghost use mathlib.Core.Path.{_≡_};
-ghost use mathlib.Core.List.{[], _∷_};
+ghost use Rattle.laws.specs.Basics.{_≡_, [], _∷_};
 ghost use Rattle.laws.specs.Tests.{same};
 
 // Whether it is `all`, with which a replay goes on after a refusal: "Any other argument .. counts as none."

@@ -1,9 +1,6 @@
 // The buffer that blocks of a trace are read into: how far it may be filled, and the bytes that stay in it from one block to the next.
 use whole_runs::MOST_RECORDS;
-ghost use mathlib.Core.Path.{_≡_};
-ghost use Prim.Native.Nat.{_-_, _*_, _≤_, min};
-ghost use lib.ListN.{length, take, drop};
-ghost use lib.Seq.{sets};
+ghost use Rattle.laws.specs.Basics.{_≡_, _-_, _*_, _≤_, min, length, take, drop, sets};
 ghost use Rattle.whole_runs.specs.Listing.{mostRecords};
 
 // How far a buffer of `size` bytes may be filled where `done` records were taken: never past the last record that a replay takes.

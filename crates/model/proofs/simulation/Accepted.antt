@@ -1,24 +1,12 @@
 -- Which calls are accepted: for each call, its refusal is none exactly if every test of the table fails, said as facts about the arguments and the state.
 -- And what a failed set is that no number of the table refuses.
 -- Assumes nothing.
-use mathlib.Core.Path.{_≡_, refl}
-use mathlib.Core.Bool.{Bool, true, false, _||_, not}
-use mathlib.Core.List.{List}
-use mathlib.Core.Option.{Option, none, some}
-use Prim.Native.Nat.{ℕ, _+_, _*_, _^_, _≤_, _<_}
-use lib.Dec.{leb}
-use lib.ListN.{length, getD}
-use borrow.Author.Tests.{ltb-false, leb-true, leb-false, eqb-false, not-false, le-ltb, le-leb, lt-leb, ne-eqb}
-use Rattle.laws.specs.Choice.{by-bool}
-use Rattle.laws.specs.Search.{anyBelow, any-out, any-none}
-use Rattle.laws.specs.Truth.{never-both, and-left, and-right, and-both}
-use Rattle.model.specs.declared.Message.{Message}
-use Rattle.model.specs.declared.Run.{Run}
+use Rattle.laws.specs.Basics.{_≡_, refl, Bool, true, false, not, _||_, List, Option, none, some, ℕ, _+_, _*_, _^_, _≤_, _<_, leb, length, getD, ne-eqb, eqb-false, le-ltb, ltb-false, le-leb, lt-leb, leb-true, leb-false, not-false, by-bool}
+use Rattle.laws.specs.{Search.anyBelow, Search.any-out, Search.any-none, Truth.never-both, Truth.and-left, Truth.and-right, Truth.and-both}
+use Rattle.model.specs.declared.{Message.Message, Run.Run}
 use Rattle.model.specs.Words.{mostProcesses, mostUnderWay, mostMessages, mostInterval, mostBlocks, blockCount, process, own}
-use Rattle.model.specs.Steps.{found, forces}
-use Rattle.model.specs.Sound.{isBlockCount, sound}
+use Rattle.model.specs.{Steps.found, Steps.forces, Sound.isBlockCount, Sound.sound, laws.Refusals.refusal-in, laws.Refusals.no-rule}
 use Rattle.model.specs.Refusals.{startRefusal, shortDeletions, shortLine, absent, checkpointRefusal, sendRefusal, missing, forcesPast, forcesOver, deliverRefusal, loseRefusal, noMember, outside, lineRefusal, recoverRefusal}
-use Rattle.model.specs.laws.Refusals.{refusal-in, no-rule}
 
 -- A disjunction that fails.
 or-out : (a b : Bool) → (a || b) ≡ false → (a ≡ false) × (b ≡ false)

@@ -1,25 +1,14 @@
 -- Calls on the state that stands for a run, the other way round from SoundCalls: which calls are accepted, by facts of the run.
 -- Assumes nothing.
-use mathlib.Core.Path.{_≡_, sym, _∙_}
-use mathlib.Core.Bool.{true}
-use mathlib.Core.List.{List}
-use mathlib.Core.Option.{Option, none, some}
-use Prim.Native.Nat.{ℕ, _+_, _*_, _≤_, _<_}
-use native.Mathlib.Omega.{arith}
-use lib.ListN.{length}
+use Rattle.laws.specs.Basics.{_≡_, sym, _∙_, true, List, Option, none, some, ℕ, _+_, _*_, _≤_, _<_, arith, length}
 use Rattle.model.specs.declared.Message.{Message}
-use Rattle.model.specs.Words.{mostUnderWay, mostMessages, mostInterval, mostBlocks, own}
-use Rattle.model.specs.Steps.{found}
+use Rattle.model.specs.{Words.mostUnderWay, Words.mostMessages, Words.mostInterval, Words.mostBlocks, Words.own, Steps.found}
 use Rattle.model.specs.Refusals.{checkpointRefusal, sendRefusal, deliverRefusal, loseRefusal}
-use Rattle.histories.proofs.Run.{Ideal, forces}
-use Rattle.histories.proofs.Invariant.{Inv}
-use Rattle.histories.proofs.Messages.{underway-proper}
+use Rattle.histories.proofs.{Run.Ideal, Run.forces, Invariant.Inv, Messages.underway-proper}
 use Rattle.model.proofs.simulation.View.{messageOf, messagesOf, stateOf, Limits}
 use Rattle.model.proofs.simulation.Reads.{count-is, last-is, underway-is, own-is}
-use Rattle.model.proofs.simulation.Messages.{used-number, found-is}
-use Rattle.model.proofs.simulation.Deliver.{deliver-forces}
+use Rattle.model.proofs.{simulation.Messages.used-number, simulation.Messages.found-is, simulation.Deliver.deliver-forces, simulation.Sound.state-sound}
 use Rattle.model.proofs.simulation.Accepted.{checkpoint-in, send-in, deliver-in, deliver-out, lose-in}
-use Rattle.model.proofs.simulation.Sound.{state-sound}
 use Rattle.model.proofs.simulation.SoundCalls.{written-is, count-is-of, deliver-run}
 
 module _ (r : Ideal) (v : Inv r) (fit : Limits r) where

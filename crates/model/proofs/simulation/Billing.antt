@@ -1,24 +1,11 @@
 -- Blocks on the state that stands for a run: those of a process's checkpoints that pass a test, a process's block count, the disk after a step.
 -- Assumes nothing.
-use mathlib.Core.Path.{_≡_, sym, _∙_, ap}
-use mathlib.Core.Bool.{Bool, true, _&&_, not}
-use mathlib.Core.List.{List, [], _∷_, _++_, append-nil}
-use Prim.Native.Nat.{ℕ, zero, suc, _+_, _-_, _*_, _≤_, _<_}
+use Rattle.laws.specs.Basics.{_≡_, sym, _∙_, ap, Bool, true, not, _&&_, List, [], _∷_, _++_, append-nil, ℕ, zero, suc, _+_, _-_, _*_, _≤_, _<_, arith, eqb, length, getD, eq-eqb, eqb-true, lt-ltb, by-bool}
 use native.Mathlib.Nat.{add-mul}
-use native.Mathlib.Omega.{arith}
-use lib.Dec.{eqb}
-use lib.ListN.{length, getD}
-use borrow.Author.Tests.{lt-ltb, eq-eqb, eqb-true}
-use Rattle.laws.specs.Choice.{by-bool}
-use Rattle.laws.specs.Sums.{sumBelow, sum-same}
-use Rattle.laws.specs.Tests.{countBelow, every}
-use Rattle.laws.specs.Truth.{and-left}
+use Rattle.laws.specs.{Sums.sumBelow, Sums.sum-same, Tests.countBelow, Tests.every, Truth.and-left}
 use Rattle.model.specs.declared.Checkpoint.{Checkpoint}
-use Rattle.model.specs.Words.{blocksOf, noCheckpoint, blockCount}
-use Rattle.model.specs.Steps.{billed}
-use Rattle.histories.proofs.Run.{Ideal, keeps}
-use Rattle.histories.proofs.Invariant.{Inv}
-use Rattle.histories.proofs.Keeping.{Moved}
+use Rattle.model.specs.{Words.blocksOf, Words.noCheckpoint, Words.blockCount, Steps.billed}
+use Rattle.histories.proofs.{Run.Ideal, Run.keeps, Invariant.Inv, Keeping.Moved}
 use Rattle.histories.proofs.Counted.{keptIn, goneIn, newIn, Paid, gone-one, deleted-on}
 use Rattle.model.proofs.simulation.View.{passing, checkpointOf, keptOf, processOf, diskOf}
 use Rattle.model.proofs.simulation.Kept.{kept-every, kept-least}

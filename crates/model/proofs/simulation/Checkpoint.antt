@@ -1,36 +1,19 @@
 -- A checkpoint: the state after it stands for the run after it, and the deleted ones are those that were kept and are kept no more.
 -- Assumes nothing.
-use mathlib.Core.Path.{_≡_, refl, sym, _∙_, ap}
-use mathlib.Core.Bool.{Bool, true, _&&_, not}
-use mathlib.Core.List.{List, [], _∷_, _++_}
-use Prim.Native.Nat.{ℕ, suc, _≤_, _<_}
-use native.Mathlib.Omega.{arith}
-use lib.Dec.{ltb}
-use lib.ListN.{set}
-use borrow.Author.Tests.{lt-ltb, eq-eqb, ne-eqb}
-use Rattle.laws.specs.Choice.{pick, by-eq}
-use Rattle.laws.specs.Lists.{select}
-use Rattle.laws.specs.Tables.{table-same, table-set}
-use Rattle.laws.specs.Update.{upd, upd-same, upd-other, upds}
-use Rattle.model.specs.declared.Checkpoint.{Checkpoint}
-use Rattle.model.specs.declared.Disk.{Disk}
-use Rattle.model.specs.declared.Pin.{Pin}
-use Rattle.model.specs.declared.Pin.the-variants.{Nothing, At}
+use Rattle.laws.specs.Basics.{_≡_, refl, sym, _∙_, ap, Bool, true, not, _&&_, List, [], _∷_, _++_, ℕ, suc, _≤_, _<_, arith, ltb, set, eq-eqb, ne-eqb, lt-ltb, pick, by-eq}
+use Rattle.laws.specs.{Lists.select, Tables.table-same, Tables.table-set, Update.upd, Update.upd-same, Update.upd-other, Update.upds}
+use Rattle.model.specs.declared.{Checkpoint.Checkpoint, Disk.Disk, Pin.Pin, Pin.the-variants.Nothing, Pin.the-variants.At}
 use Rattle.model.specs.Words.{basic, mostProcesses, entry, liveIndex, isPinned, Process, live, blocksOf, blockCount, process}
-use Rattle.model.specs.Steps as steps
 use Rattle.model.specs.Steps.{settled, listed, gone, deletions, billed, checkpointState, checkpointDeletions}
-use Rattle.histories.proofs.Run.{Ideal, keeps, stores, checkpointed}
-use Rattle.histories.proofs.Invariant.{Inv}
-use Rattle.histories.proofs.Keeping.{checkpointed-moved}
-use Rattle.histories.proofs.Checkpointed.{checkpointed-inv}
+use Rattle.histories.proofs.{Run.Ideal, Run.keeps, Run.stores, Run.checkpointed, Invariant.Inv, Keeping.checkpointed-moved, Checkpointed.checkpointed-inv}
 use Rattle.histories.proofs.Counted.{keptIn, checkpointed-new, checkpointed-paid}
 use Rattle.histories.proofs.CheckpointedViews.{checkpointed-n, checkpointed-own, checkpointed-own-other, checkpointed-vector, checkpointed-mark, checkpointed-mark-other, checkpointed-pin, checkpointed-pin-row, checkpointed-pin-column, checkpointed-keeps-old, checkpointed-keeps-new, checkpointed-last}
 use Rattle.model.proofs.simulation.View.{passing, vectorOf, pinOf, pinsOf, checkpointOf, keptOf, processOf, messageOf, messagesOf, diskOf, stateOf}
-use Rattle.model.proofs.simulation.Passing.{passing-same, passing-yes, passing-no}
+use Rattle.model.proofs.{simulation.Passing.passing-same, simulation.Passing.passing-yes, simulation.Passing.passing-no, simulation.Stepping.one-part}
 use Rattle.model.proofs.simulation.Reads.{entry-is, vector-same, disk-is, process-is, live-is}
 use Rattle.model.proofs.simulation.Rows.{keeps-same, process-eq, process-same, checkpoint-same, advanced-is, standing, settled-kept, settled-gone}
 use Rattle.model.proofs.simulation.Billing.{count-of, gone-blocks, billed-is}
-use Rattle.model.proofs.simulation.Stepping.{one-part}
+use Rattle.model.specs.Steps as steps
 
 -- The index that an accepted checkpoint answers.
 pub checkpoint-index : (r : Ideal) (i : ℕ) → r .n ≤ mostProcesses → i < r .n → r .vector i (r .own i) i ≡ r .own i → live i (process (stateOf r) i) .index .0 ≡ r .own i

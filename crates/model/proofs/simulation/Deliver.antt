@@ -1,31 +1,22 @@
 -- A delivery: the state after it stands for the run after it, and the deleted ones are those that were kept and are kept no more.
 -- Assumes nothing.
-use mathlib.Core.Path.{_≡_, refl, sym, _∙_, ap}
-use mathlib.Core.Bool.{true, false, _&&_, not}
-use Prim.Native.Nat.{ℕ, _≤_, _<_}
-use native.Mathlib.Omega.{arith}
-use Rattle.laws.specs.Choice.{pick, by-bool}
+use Rattle.laws.specs.Basics.{_≡_, refl, sym, _∙_, ap, true, false, not, _&&_, ℕ, _≤_, _<_, arith, pick, by-bool}
 use Rattle.model.specs.declared.Disk.{Disk}
 use Rattle.model.specs.Words.{forced, mostProcesses, live, blocksOf, blockCount, process}
-use Rattle.model.specs.Steps as steps
 use Rattle.model.specs.Steps.{settled, listed, gone, deletions, billed, deliverState, deliverDeletions, others}
-use Rattle.histories.proofs.Run.{Ideal, Ledger, keeps, checkpointed, takenBy, takenIn, forces, delivered, lost}
-use Rattle.histories.proofs.Invariant.{Inv}
-use Rattle.histories.proofs.Keeping.{delivered-moved}
-use Rattle.histories.proofs.Delivered.{delivered-inv}
+use Rattle.histories.proofs.{Run.Ideal, Run.Ledger, Run.keeps, Run.checkpointed, Run.takenBy, Run.takenIn, Run.forces, Run.delivered, Run.lost, Invariant.Inv}
+use Rattle.histories.proofs.{Keeping.delivered-moved, Delivered.delivered-inv, Rule.keeps-in}
 use Rattle.histories.proofs.Counted.{keptIn, newIn, delivered-new-forced, delivered-new-plain, delivered-paid}
-use Rattle.histories.proofs.Rule.{keeps-in}
 use Rattle.histories.proofs.CheckpointedViews.{checkpointed-n, checkpointed-own, checkpointed-own-other, checkpointed-vector, checkpointed-mark, checkpointed-mark-other, checkpointed-pin, checkpointed-pin-row, checkpointed-last}
 use Rattle.histories.proofs.TakenInViews.{takenIn-n, takenIn-own, takenIn-vector, takenIn-mark, takenIn-pin-other, takenIn-last}
-use Rattle.histories.proofs.Run as ideal
 use Rattle.model.proofs.simulation.View.{passing, vectorOf, checkpointOf, keptOf, processOf, messageOf, messagesOf, diskOf, stateOf}
-use Rattle.model.proofs.simulation.Reads.{last-is, disk-is, process-is}
-use Rattle.model.proofs.simulation.Rows.{keeps-same, process-same, standing}
-use Rattle.model.proofs.simulation.Stepping.{one-part-messages}
+use Rattle.model.proofs.{simulation.Reads.last-is, simulation.Reads.disk-is, simulation.Reads.process-is, simulation.Stepping.one-part-messages}
+use Rattle.model.proofs.{simulation.Rows.keeps-same, simulation.Rows.process-same, simulation.Rows.standing, simulation.Messages.others-are}
 use Rattle.model.proofs.simulation.Checkpoint.{checkpoint-vector, checkpoint-pins, checkpoint-kept, checkpoint-standing, checkpoint-gone, checkpoint-index, cause-other, counts-same}
-use Rattle.model.proofs.simulation.Messages.{others-are}
 use Rattle.model.proofs.simulation.Taking.{taken-ledger, forces-is, taken-own-pin, taken-process, taken-gone}
 use Rattle.model.proofs.simulation.Billing.{count-of, gone-blocks, billed-is}
+use Rattle.model.specs.Steps as steps
+use Rattle.histories.proofs.Run as ideal
 
 -- Taking in a message leaves the other processes' parts.
 taken-others : (r : Ideal) (m p : ℕ) → (p ≡ r .receiver m → ⊥) → processOf (takenIn r m) p ≡ processOf r p

@@ -1,30 +1,14 @@
 -- The checkpoints that a process keeps, as a list: at least one and at most n, exactly those that a pin names, the last one the last stored.
 -- Assumes nothing.
-use mathlib.Core.Path.{_≡_, refl, sym, _∙_}
-use mathlib.Core.Bool.{Bool, true, false}
-use mathlib.Core.List.{map}
-use mathlib.Core.Option.{Option, none, some}
-use Prim.Native.Nat.{ℕ, suc, _-_, _≤_, _<_}
-use native.Mathlib.Omega.{arith}
-use lib.Dec.{eqb}
-use lib.ListN.{length}
-use borrow.Author.Tests.{eqb-true}
-use Rattle.laws.specs.Truth.{never-both}
-use Rattle.laws.specs.Lists.{lastOf}
-use Rattle.laws.specs.Tests.{countBelow, every, some-of}
-use Rattle.laws.specs.Select.{lastOf-snoc}
-use Rattle.laws.specs.Elements.{any-at}
+use Rattle.laws.specs.Basics.{_≡_, refl, sym, _∙_, Bool, true, false, map, Option, none, some, ℕ, suc, _-_, _≤_, _<_, arith, eqb, length, eqb-true}
+use Rattle.laws.specs.{Truth.never-both, Lists.lastOf, Tests.countBelow, Tests.every, Tests.some-of, Select.lastOf-snoc, Elements.any-at}
 use Rattle.laws.specs.Counting.{count-any, count-some}
 use Rattle.model.specs.declared.Checkpoint.{Checkpoint}
-use Rattle.model.specs.Words.{mostProcesses, names, isPinned}
-use Rattle.model.specs.Sound.{ascending}
-use Rattle.histories.proofs.Run.{Ideal, keeps, names as namesIn}
-use Rattle.histories.proofs.Invariant.{Inv}
-use Rattle.histories.proofs.Line.{keeps-below, last-kept}
+use Rattle.model.specs.{Words.mostProcesses, Words.names, Words.isPinned, Sound.ascending}
+use Rattle.histories.proofs.{Run.Ideal, Run.keeps, Run.names as namesIn, Invariant.Inv, Line.keeps-below, Line.last-kept}
 use Rattle.model.proofs.simulation.View.{passing, pinsOf, checkpointOf, keptOf}
 use Rattle.model.proofs.simulation.Passing.{passing-yes, some-passing, length-passing, map-passing}
-use Rattle.model.proofs.simulation.Rows.{pinned-is}
-use Rattle.model.proofs.simulation.SoundPassing.{passing-every, passing-ascends}
+use Rattle.model.proofs.{simulation.Rows.pinned-is, simulation.SoundPassing.passing-every, simulation.SoundPassing.passing-ascends}
 
 -- A pin names one checkpoint alone.
 names-one : (o : Option ℕ) (i j : ℕ) → namesIn o i ≡ true → namesIn o j ≡ true → i ≡ j

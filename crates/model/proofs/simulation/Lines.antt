@@ -1,26 +1,15 @@
 -- The line on a state that stands for a run: the rule, the member at each process, the indexes that are written, and who rolls back.
-use mathlib.Core.Path.{_≡_, refl, _∙_, ap}
-use mathlib.Core.Bool.{true, _&&_, _||_, not}
-use mathlib.Core.Option.{some, Option·map}
-use Prim.Native.Nat.{ℕ, suc, _≤_, _<_}
-use native.Mathlib.Omega.{arith}
-use lib.Dec.{ltb}
-use borrow.Author.Tests.{lt-ltb, le-ltb}
-use Rattle.laws.specs.Choice.{pick, by-bool}
-use Rattle.laws.specs.Lists.{lastOf, table}
-use Rattle.laws.specs.Ranges.{all-same}
-use Rattle.laws.specs.Search.{allBelow, latest}
-use Rattle.laws.specs.Tables.{table-same}
+use Rattle.laws.specs.Basics.{_≡_, refl, _∙_, ap, true, not, _&&_, _||_, some, ℕ, suc, _≤_, _<_, arith, ltb, lt-ltb, le-ltb, pick, by-bool}
+use mathlib.Core.Option.{Option·map}
+use Rattle.laws.specs.{Lists.lastOf, Lists.table, Ranges.all-same, Search.allBelow, Search.latest, Tables.table-same}
 use Rattle.model.specs.Words.{mostProcesses, entry, below, process, own, failed}
-use Rattle.model.specs.Steps as steps
 use Rattle.model.specs.Steps.{allowed, states, latestAllowed, lineOf, rolledBack}
-use Rattle.histories.proofs.Run.{Ideal, safe, member, line, rolled}
-use Rattle.histories.proofs.Invariant.{Inv}
-use Rattle.histories.proofs.Line.{line-found, line-back, line-live}
+use Rattle.histories.proofs.{Run.Ideal, Run.safe, Run.member, Run.line, Run.rolled, Invariant.Inv, Line.line-found, Line.line-back, Line.line-live}
 use Rattle.model.proofs.simulation.View.{passing, checkpointOf, processOf, stateOf}
 use Rattle.model.proofs.simulation.Passing.{passing-same, select-passing, last-passing}
 use Rattle.model.proofs.simulation.Reads.{entry-is, count-is, process-is, own-is}
 use Rattle.model.proofs.simulation.Rows.{standing, states-are}
+use Rattle.model.specs.Steps as steps
 
 module _ (r : Ideal) (v : Inv r) (few : r .n ≤ mostProcesses) (F : ℕ) where
   -- The live state's own entry is its index.

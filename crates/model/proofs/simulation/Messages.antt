@@ -1,29 +1,15 @@
 -- Sends and losses: the state after each stands for the run after it; which message a number finds, and what is left without it.
 -- Assumes nothing.
-use mathlib.Core.Path.{_≡_, refl, sym, _∙_, ap}
-use mathlib.Core.Bool.{true, false, _&&_, not}
-use mathlib.Core.List.{List, [], _∷_, _++_}
-use mathlib.Core.Option.{none, some}
-use Prim.Native.Nat.{ℕ, suc, _+_, _≤_, _<_}
+use Rattle.laws.specs.Basics.{_≡_, refl, sym, _∙_, ap, true, false, not, _&&_, List, [], _∷_, _++_, none, some, ℕ, suc, _+_, _≤_, _<_, arith, eqb, eq-eqb, ne-eqb, by-bool, by-eq}
 use native.Mathlib.Numerals.{add-one}
-use native.Mathlib.Omega.{arith}
-use lib.Dec.{eqb}
-use borrow.Author.Tests.{eq-eqb, ne-eqb}
-use Rattle.laws.specs.Choice.{by-bool, by-eq}
-use Rattle.laws.specs.Lists.{lastOf}
-use Rattle.laws.specs.Search.{latest-is, latest-none}
-use Rattle.laws.specs.Update.{upd-same, upd-other, upds}
+use Rattle.laws.specs.{Lists.lastOf, Search.latest-is, Search.latest-none, Update.upd-same, Update.upd-other, Update.upds}
 use Rattle.model.specs.declared.Message.{Message}
-use Rattle.model.specs.Words.{mostProcesses}
-use Rattle.model.specs.Steps.{sentMessage, marked, sendState, found, others, loseState}
-use Rattle.histories.proofs.Run.{Ideal, keeps, sending, lost}
-use Rattle.histories.proofs.Invariant.{Inv}
-use Rattle.histories.proofs.Counted.{keptIn}
+use Rattle.model.specs.{Words.mostProcesses, Steps.sentMessage, Steps.marked, Steps.sendState, Steps.found, Steps.others, Steps.loseState}
+use Rattle.histories.proofs.{Run.Ideal, Run.keeps, Run.sending, Run.lost, Invariant.Inv, Counted.keptIn}
 use Rattle.histories.proofs.Lost.{lost-n, lost-own, lost-vector, lost-mark, lost-pin, lost-last}
 use Rattle.model.proofs.simulation.View.{passing, pinsOf, checkpointOf, keptOf, processOf, messageOf, messagesOf, diskOf, stateOf}
 use Rattle.model.proofs.simulation.Passing.{passing-same, passing-yes, select-passing, last-passing}
-use Rattle.model.proofs.simulation.Reads.{last-is, underWay-is, process-is}
-use Rattle.model.proofs.simulation.Rows.{process-same}
+use Rattle.model.proofs.{simulation.Reads.last-is, simulation.Reads.underWay-is, simulation.Reads.process-is, simulation.Rows.process-same}
 use Rattle.model.proofs.simulation.Stepping.{one-part-still, messages-alone}
 
 -- A message under way has a used number.

@@ -1,20 +1,10 @@
 -- Laws of a state's parts: one process's part and the messages, put in and read back. They hold of every state.
 -- Assumes nothing.
-use mathlib.Core.Path.{_≡_, refl, sym, _∙_, ap, subst}
-use mathlib.Core.Bool.{false}
-use mathlib.Core.List.{List, []}
-use Prim.Native.Nat.{ℕ, zero, suc, _≤_, _<_}
+use Rattle.laws.specs.Basics.{_≡_, refl, sym, _∙_, ap, subst, false, List, [], ℕ, zero, suc, _≤_, _<_, arith, length, getD, length-set, getD-replicate, getD-set-same, getD-set-other, by-eq}
 use native.Mathlib.Nat.{not-suc-le-zero}
-use native.Mathlib.Omega.{arith}
-use lib.ListN.{length, getD, length-set, getD-replicate}
-use lib.Seq.{getD-set-same, getD-set-other, set-set, set-comm}
-use Rattle.laws.specs.Choice.{by-eq}
-use Rattle.laws.specs.Lists.{placed}
-use Rattle.laws.specs.Tables.{take-placed}
-use Rattle.laws.specs.Update.{upd, upd-same, upd-other}
-use Rattle.model.specs.declared.Message.{Message}
-use Rattle.model.specs.declared.Disk.{Disk}
-use Rattle.model.specs.declared.Run.{Run}
+use lib.Seq.{set-set, set-comm}
+use Rattle.laws.specs.{Lists.placed, Tables.take-placed, Update.upd, Update.upd-same, Update.upd-other}
+use Rattle.model.specs.declared.{Message.Message, Disk.Disk, Run.Run}
 use Rattle.model.specs.Words.{mostProcesses, mostUnderWay, Process, zeroVector, noPins, noCheckpoint, noMessage, blank, process, withProcess, underWay, withMessages, withDisk}
 use Rattle.model.specs.Steps.{withProcesses}
 

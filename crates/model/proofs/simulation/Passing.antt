@@ -1,16 +1,8 @@
 -- Laws of the values at the numbers that pass a test, in ascending order: selected, mapped, tested and counted; the last of them; which numbers matter.
 -- Assumes nothing.
-use mathlib.Core.Path.{_≡_, refl, sym, _∙_}
-use mathlib.Core.Bool.{Bool, true, false, _&&_}
-use mathlib.Core.List.{[], _∷_, _++_, map, append-nil}
+use Rattle.laws.specs.Basics.{_≡_, refl, sym, _∙_, Bool, true, false, _&&_, [], _∷_, _++_, map, append-nil, ℕ, zero, suc, _≤_, _<_, arith, length, length-append, by-bool, by-eq}
 use mathlib.Core.Option.{Option·map}
-use Prim.Native.Nat.{ℕ, zero, suc, _≤_, _<_}
-use native.Mathlib.Omega.{arith}
-use lib.ListN.{length, length-append}
-use Rattle.laws.specs.Choice.{by-bool, by-eq}
-use Rattle.laws.specs.Lists.{select, lastOf}
-use Rattle.laws.specs.Search.{anyBelow, latest}
-use Rattle.laws.specs.Tests.{countBelow, some-of}
+use Rattle.laws.specs.{Lists.select, Lists.lastOf, Search.anyBelow, Search.latest, Tests.countBelow, Tests.some-of}
 use Rattle.laws.specs.Select.{select-append, map-append, lastOf-snoc, some-append, some-one, or-swap}
 use Rattle.model.proofs.simulation.View.{passing}
 

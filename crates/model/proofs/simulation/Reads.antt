@@ -1,12 +1,7 @@
 -- What the state that stands for a run holds: each process's part, the messages, the count; and the entries of its vectors and pins.
 -- Assumes nothing.
-use mathlib.Core.Path.{_≡_, refl, _∙_}
-use Prim.Native.Nat.{ℕ, suc, _≤_, _<_}
-use native.Mathlib.Omega.{arith}
-use lib.Dec.{ltb, leb}
-use lib.ListN.{length, getD, getD-replicate, List·getD-eq-default}
-use borrow.Author.Tests.{lt-ltb, le-ltb, leb-true, leb-false}
-use Rattle.laws.specs.Choice.{by-bool}
+use Rattle.laws.specs.Basics.{_≡_, refl, _∙_, ℕ, suc, _≤_, _<_, arith, ltb, leb, length, getD, getD-replicate, lt-ltb, le-ltb, leb-true, leb-false, by-bool}
+use lib.ListN.{List·getD-eq-default}
 use Rattle.laws.specs.Tables.{getD-table, getD-table-past, table-same}
 use Rattle.model.specs.declared.Pin.the-variants.{Nothing}
 use Rattle.model.specs.Words.{mostProcesses, entry, live, zeroVector, blank, process, own, underWay, withMessages, withDisk}

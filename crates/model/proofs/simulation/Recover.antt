@@ -1,40 +1,23 @@
 -- A recovery: the state after it stands for the run after it, and the deleted ones are those that were kept and are kept no more.
-use mathlib.Core.Path.{_≡_, refl, sym, _∙_, ap}
-use mathlib.Core.Bool.{Bool, true, false, _&&_, not}
-use mathlib.Core.List.{List}
-use mathlib.Core.Option.{Option, none, some, Option·map}
-use Prim.Native.Nat.{ℕ, suc, _≤_, _<_}
-use native.Mathlib.Omega.{arith}
-use lib.Dec.{eqb, ltb, leb, leb·suc-zero}
-use borrow.Author.Tests.{lt-ltb, leb-true, leb-false}
-use Rattle.laws.specs.Choice.{by-bool, not-ltb}
-use Rattle.laws.specs.Lists.{select, lastOf, gather}
-use Rattle.laws.specs.Search.{latest, latest-out}
-use Rattle.laws.specs.Sums.{sumBelow, sum-same}
-use Rattle.laws.specs.Tables.{table-same, gather-same}
-use Rattle.laws.specs.Truth.{and-left, and-no-right}
-use Rattle.model.specs.declared.Interval.{Interval}
-use Rattle.model.specs.declared.Pin.the-variants.{Nothing}
-use Rattle.model.specs.declared.Checkpoint.{Checkpoint}
-use Rattle.model.specs.declared.Disk.{Disk}
+use Rattle.laws.specs.Basics.{_≡_, refl, sym, _∙_, ap, Bool, true, false, not, _&&_, List, Option, none, some, ℕ, suc, _≤_, _<_, arith, eqb, ltb, leb, lt-ltb, leb-true, leb-false, by-bool}
+use mathlib.Core.Option.{Option·map}
+use lib.Dec.{leb·suc-zero}
+use Rattle.laws.specs.{Choice.not-ltb, Lists.select, Lists.lastOf, Lists.gather, Search.latest, Search.latest-out, Sums.sumBelow, Sums.sum-same}
+use Rattle.laws.specs.{Tables.table-same, Tables.gather-same, Truth.and-left, Truth.and-no-right}
+use Rattle.model.specs.declared.{Interval.Interval, Pin.the-variants.Nothing, Checkpoint.Checkpoint, Disk.Disk}
 use Rattle.model.specs.Words.{mostProcesses, entry, below, isPinned, blocksOf, process, withMessages, withDisk, failed}
-use Rattle.model.specs.Steps as steps
 use Rattle.model.specs.Steps.{listed, billed, goneAt, withProcesses, latestPin, movedPin, pinsAfter, notLost, rolledBack, lostBy, stillUnderWay, recoverState, deletedAt, recoverDeletions}
 use Rattle.histories.proofs.Run.{Ideal, Failed, keeps, line, rolled, ownAfter, vectorAfter, pinAfter, outlives, recovered}
-use Rattle.histories.proofs.Invariant.{Inv}
-use Rattle.histories.proofs.Keeping.{recovered-moved}
-use Rattle.histories.proofs.Recovered.{recovered-inv}
-use Rattle.histories.proofs.Counted.{keptIn, recovered-new, recovered-paid}
-use Rattle.histories.proofs.Messages.{underway-proper}
-use Rattle.histories.proofs.Rule.{keeps-in, keeps-out}
+use Rattle.histories.proofs.{Invariant.Inv, Keeping.recovered-moved, Recovered.recovered-inv, Counted.keptIn, Counted.recovered-new, Counted.recovered-paid}
+use Rattle.histories.proofs.{Messages.underway-proper, Rule.keeps-in, Rule.keeps-out}
 use Rattle.model.proofs.simulation.View.{passing, pinOf, pinsOf, checkpointOf, keptOf, processOf, messageOf, messagesOf, diskOf, stateOf}
 use Rattle.model.proofs.simulation.Passing.{passing-same, passing-none, select-passing, last-passing}
 use Rattle.model.proofs.simulation.Reads.{entry-is, entry-past, pin-is, pin-past, count-is, last-is, disk-is, underWay-is, process-is}
 use Rattle.model.proofs.simulation.Rows.{process-eq, pinned-is, checkpoint-same, settled-kept}
-use Rattle.model.proofs.simulation.Stepping.{all-parts-messages}
-use Rattle.model.proofs.simulation.Lines.{member-index, rolled-is}
+use Rattle.model.proofs.{simulation.Stepping.all-parts-messages, simulation.Lines.member-index, simulation.Lines.rolled-is}
 use Rattle.model.proofs.simulation.Billing.{gone-all, billed-is}
 use Rattle.model.proofs.simulation.Rollback.{own-back, own-stays, own-after-le, vector-stored, not-lost, vector-after, own-after, own-after-past, not-lost-are}
+use Rattle.model.specs.Steps as steps
 
 -- The pin that names the checkpoint of a number, if there is one.
 latest-pin : (r : Ideal) (p : ℕ) (o : Option ℕ) → latestPin (Option·map (checkpointOf r p) o) ≡ pinOf o

@@ -1,27 +1,13 @@
 -- The set of entries that rose at a delivery: of each process of the run exactly if the run's live state knows less of it than the message carries, a forced
 -- checkpoint or not; and of no other.
 -- Assumes nothing.
-use mathlib.Core.Path.{_≡_, sym, _∙_, ap}
-use mathlib.Core.Bool.{Bool, true, false}
-use mathlib.Core.List.{List}
-use Prim.Native.Nat.{ℕ, suc, _+_, _≤_, _<_}
-use native.Mathlib.Omega.{arith}
-use lib.Dec.{ltb, leb}
-use lib.ListN.{length}
-use lib.Seq.{getD-set-same, getD-set-other}
-use borrow.Author.Tests.{le-ltb, leb-true, leb-false}
-use Rattle.laws.specs.Choice.{pick, by-bool, by-eq}
+use Rattle.laws.specs.Basics.{_≡_, sym, _∙_, ap, Bool, true, false, List, ℕ, suc, _+_, _≤_, _<_, arith, ltb, leb, length, getD-set-same, getD-set-other, le-ltb, leb-true, leb-false, pick, by-bool, by-eq}
 use Rattle.laws.specs.Tables.{length-table}
 use Rattle.model.specs.declared.Interval.{Interval}
-use Rattle.model.specs.Words.{mostProcesses, entry, below, inSet}
-use Rattle.model.specs.Steps.{advanced, risen, deliverRisen}
-use Rattle.model.proofs.Risen.{risen-is-exact}
-use Rattle.histories.proofs.Run.{Ideal, forces}
-use Rattle.histories.proofs.Invariant.{Inv}
-use Rattle.histories.proofs.Messages.{underway-proper, underway-own}
-use Rattle.model.proofs.simulation.View.{vectorOf, processOf, messageOf, stateOf}
-use Rattle.model.proofs.simulation.Reads.{process-is}
-use Rattle.model.proofs.simulation.Taking.{below-is, below-past, forces-is}
+use Rattle.model.specs.{Words.mostProcesses, Words.entry, Words.below, Words.inSet, Steps.advanced, Steps.risen, Steps.deliverRisen}
+use Rattle.model.proofs.{Risen.risen-is-exact, simulation.View.vectorOf, simulation.View.processOf, simulation.View.messageOf, simulation.View.stateOf}
+use Rattle.histories.proofs.{Run.Ideal, Run.forces, Invariant.Inv, Messages.underway-proper, Messages.underway-own}
+use Rattle.model.proofs.{simulation.Reads.process-is, simulation.Taking.below-is, simulation.Taking.below-past, simulation.Taking.forces-is}
 
 module _ (r : Ideal) (v : Inv r) (few : r .n ≤ mostProcesses) (m : ℕ) (under : r .transit m ≡ true) where
   abbrev i : ℕ

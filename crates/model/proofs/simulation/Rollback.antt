@@ -1,26 +1,15 @@
 -- What a recovery leaves of each process before its pins are settled: its vector, its own entry, the checkpoints that are not lost.
-use mathlib.Core.Path.{_≡_, refl, sym, _∙_, ap}
-use mathlib.Core.Bool.{true, false}
-use Prim.Native.Nat.{ℕ, suc, _≤_, _<_}
-use native.Mathlib.Omega.{arith}
-use lib.Dec.{ltb, leb}
-use borrow.Author.Tests.{lt-ltb, le-ltb, le-leb, leb-true, leb-false}
-use Rattle.laws.specs.Choice.{by-bool}
-use Rattle.laws.specs.Lists.{select, lastOf}
-use Rattle.laws.specs.Truth.{and-no-right}
-use Rattle.laws.specs.Update.{upd, upd-same, upd-other}
+use Rattle.laws.specs.Basics.{_≡_, refl, sym, _∙_, ap, true, false, ℕ, suc, _≤_, _<_, arith, ltb, leb, lt-ltb, le-ltb, le-leb, leb-true, leb-false, by-bool}
+use Rattle.laws.specs.{Lists.select, Lists.lastOf, Truth.and-no-right, Update.upd, Update.upd-same, Update.upd-other}
 use Rattle.model.specs.Words.{mostProcesses, live, own, failed}
-use Rattle.model.specs.Steps as steps
 use Rattle.model.specs.Steps.{allowed, states, latestAllowed, rolledBack, notLost}
-use Rattle.histories.proofs.Run.{Ideal, Failed, keeps, line, rolled, ownAfter, vectorAfter}
-use Rattle.histories.proofs.Invariant.{Inv}
+use Rattle.histories.proofs.{Run.Ideal, Run.Failed, Run.keeps, Run.line, Run.rolled, Run.ownAfter, Run.vectorAfter, Invariant.Inv}
 use Rattle.histories.proofs.Line.{line-back, line-live, line-le}
 use Rattle.model.proofs.simulation.View.{passing, vectorOf, checkpointOf, keptOf, processOf, stateOf}
-use Rattle.model.proofs.simulation.Parts.{unused}
-use Rattle.model.proofs.simulation.Passing.{passing-same, passing-wider, select-passing}
+use Rattle.model.proofs.{simulation.Parts.unused, simulation.Passing.passing-same, simulation.Passing.passing-wider, simulation.Passing.select-passing}
 use Rattle.model.proofs.simulation.Reads.{entry-is, entry-zero, process-is, process-past, own-past}
-use Rattle.model.proofs.simulation.Rows.{advanced-is}
-use Rattle.model.proofs.simulation.Lines.{member-is, member-index, rolled-is}
+use Rattle.model.proofs.{simulation.Rows.advanced-is, simulation.Lines.member-is, simulation.Lines.member-index, simulation.Lines.rolled-is}
+use Rattle.model.specs.Steps as steps
 
 module _ (r : Ideal) (v : Inv r) where
   -- The run after a recovery, at a process that rolls back and at one that stays.

@@ -1,33 +1,17 @@
 -- One process's part of the state that stands for a run: its pins name what the run keeps, its states in order, when two parts are the same,
 -- and what is left of a list of checkpoints once the pins have moved.
 -- Assumes nothing.
-use mathlib.Core.Path.{_≡_, refl, sym, _∙_, ap}
-use mathlib.Core.Bool.{Bool, true, _&&_, _||_, not}
-use mathlib.Core.List.{[], _∷_, _++_}
-use mathlib.Core.Option.{Option, none, some}
-use Prim.Native.Nat.{ℕ, suc, _≤_, _<_}
+use Rattle.laws.specs.Basics.{_≡_, refl, sym, _∙_, ap, Bool, true, not, _&&_, _||_, [], _∷_, _++_, Option, none, some, ℕ, suc, _≤_, _<_, arith, eqb, ltb, set, eq-eqb, ne-eqb, lt-ltb, le-ltb, leb-true, pick, by-bool, by-eq}
 use native.Mathlib.Numerals.{add-one}
-use native.Mathlib.Omega.{arith}
-use lib.Dec.{eqb, ltb}
-use lib.ListN.{set}
-use borrow.Author.Tests.{lt-ltb, le-ltb, leb-true, eq-eqb, ne-eqb}
-use Rattle.laws.specs.Choice.{pick, by-bool, by-eq}
-use Rattle.laws.specs.Lists.{select}
-use Rattle.laws.specs.Ranges.{any-same, any-wider}
-use Rattle.laws.specs.Select.{some-table}
-use Rattle.laws.specs.Tables.{table-same, table-set}
+use Rattle.laws.specs.{Lists.select, Ranges.any-same, Ranges.any-wider, Select.some-table, Tables.table-same, Tables.table-set}
 use Rattle.laws.specs.Update.{upd, upd-same, upd-other}
-use Rattle.model.specs.declared.Interval.{Interval}
-use Rattle.model.specs.declared.CheckpointIndex.{CheckpointIndex}
-use Rattle.model.specs.declared.Pin.the-variants.{Nothing}
-use Rattle.model.specs.declared.Checkpoint.{Checkpoint}
-use Rattle.model.specs.Words.{mostProcesses, names, isPinned, Process, live}
-use Rattle.model.specs.Steps.{advanced}
-use Rattle.histories.proofs.Run as ideal
+use Rattle.model.specs.declared.{Interval.Interval, CheckpointIndex.CheckpointIndex, Pin.the-variants.Nothing, Checkpoint.Checkpoint}
+use Rattle.model.specs.{Words.mostProcesses, Words.names, Words.isPinned, Words.Process, Words.live, Steps.advanced}
 use Rattle.histories.proofs.Run.{Ideal, keeps}
 use Rattle.model.proofs.simulation.View.{passing, vectorOf, pinOf, pinsOf, checkpointOf, keptOf, processOf}
 use Rattle.model.proofs.simulation.Passing.{passing-same, passing-yes, select-passing}
 use Rattle.model.proofs.simulation.Reads.{entry-is, vector-same, live-is}
+use Rattle.histories.proofs.Run as ideal
 
 -- Two parts with the same fields are the same.
 pub process-eq : (P Q : Process) → P .vector ≡ Q .vector → P .pins ≡ Q .pins → P .mark ≡ Q .mark → P .kept ≡ Q .kept → P ≡ Q

@@ -1,39 +1,18 @@
 -- The state that stands for a run is sound, clause by clause: for every run with the invariant that is within the limits.
 -- Assumes nothing.
-use mathlib.Core.Path.{_≡_, refl, _∙_, ap}
-use mathlib.Core.Bool.{Bool, true}
-use mathlib.Core.List.{map}
-use mathlib.Core.Option.{Option, none, some}
-use Prim.Native.Nat.{ℕ, suc, _+_, _-_, _≤_, _<_}
-use native.Mathlib.Omega.{arith}
-use lib.Dec.{eqb, ltb}
-use lib.ListN.{length, getD}
-use borrow.Author.Tests.{lt-ltb, ltb-true, le-leb, eq-eqb, ne-eqb}
-use Rattle.laws.specs.Choice.{by-bool}
-use Rattle.laws.specs.Truth.{and-both}
-use Rattle.laws.specs.Lists.{orElse, lastOf}
-use Rattle.laws.specs.Search.{allBelow, all-in, any-in}
-use Rattle.laws.specs.Sums.{sumBelow, sum-same}
-use Rattle.laws.specs.Tests.{every}
+use Rattle.laws.specs.Basics.{_≡_, refl, _∙_, ap, Bool, true, map, Option, none, some, ℕ, suc, _+_, _-_, _≤_, _<_, arith, eqb, ltb, length, getD, eq-eqb, ne-eqb, lt-ltb, ltb-true, le-leb, by-bool}
+use Rattle.laws.specs.{Truth.and-both, Lists.orElse, Lists.lastOf, Search.allBelow, Search.all-in, Search.any-in, Sums.sumBelow, Sums.sum-same, Tests.every}
 use Rattle.laws.specs.Elements.{every-table}
-use Rattle.model.specs.declared.Pin.the-variants.{Nothing}
-use Rattle.model.specs.declared.Checkpoint.{Checkpoint}
-use Rattle.model.specs.declared.Message.{Message}
+use Rattle.model.specs.declared.{Pin.the-variants.Nothing, Checkpoint.Checkpoint, Message.Message}
 use Rattle.model.specs.Words.{mostProcesses, mostUnderWay, mostMessages, mostBlocks, entry, names, isPinned, Process, blocksOf, noCheckpoint, process, own, underWay}
 use Rattle.model.specs.Sound.{countSound, ownSound, within, vectorsSound, ascending, keptSound, pinSound, pinsSound, messageSound, messagesSound, recordSound, keptBlocks, diskSound, sound}
-use Rattle.histories.proofs.Run.{Ideal, keeps}
-use Rattle.histories.proofs.Rule.{keeps-in}
-use Rattle.histories.proofs.Invariant.{Inv, Proper}
-use Rattle.histories.proofs.Line.{interval, own-pin}
-use Rattle.histories.proofs.Counted.{keptIn}
+use Rattle.histories.proofs.{Run.Ideal, Run.keeps, Rule.keeps-in, Invariant.Inv, Invariant.Proper, Line.interval, Line.own-pin, Counted.keptIn}
 use Rattle.model.proofs.simulation.View.{vectorOf, pinOf, pinsOf, checkpointOf, keptOf, processOf, messageOf, messagesOf, diskOf, stateOf, Limits}
 use Rattle.model.proofs.simulation.Reads.{entry-is, pin-is, count-is, last-is, disk-is, underway-is, underWay-is, process-is, own-is}
-use Rattle.model.proofs.simulation.Passing.{some-passing, map-passing}
-use Rattle.model.proofs.simulation.Rows.{pinned-is}
+use Rattle.model.proofs.{simulation.Passing.some-passing, simulation.Passing.map-passing, simulation.Rows.pinned-is}
 use Rattle.model.proofs.simulation.SoundPassing.{passing-every, passing-ascends}
 use Rattle.model.proofs.simulation.Kept.{kept-ascends, kept-every, kept-least, kept-most, kept-last}
-use Rattle.model.proofs.simulation.Billing.{blocks-kept, count-of}
-use Rattle.model.proofs.simulation.SoundUnused.{row-is, unused-sound}
+use Rattle.model.proofs.{simulation.Billing.blocks-kept, simulation.Billing.count-of, simulation.SoundUnused.row-is, simulation.SoundUnused.unused-sound}
 
 module _ (r : Ideal) (v : Inv r) (fit : Limits r) where
   -- A fact of each process of the run holds of each process that the state counts.

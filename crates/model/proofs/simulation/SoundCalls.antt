@@ -1,28 +1,15 @@
 -- Calls on the state that stands for a run: what an accepted one says of the run, and which failed sets the table does not refuse.
 -- Assumes nothing.
-use mathlib.Core.Path.{_≡_, _∙_, ap}
-use mathlib.Core.Bool.{true}
-use mathlib.Core.List.{List}
-use mathlib.Core.Option.{Option, none, some}
-use Prim.Native.Nat.{ℕ, _+_, _*_, _≤_, _<_}
-use native.Mathlib.Omega.{arith}
-use lib.ListN.{length}
-use Rattle.laws.specs.Choice.{by-bool}
-use Rattle.model.specs.declared.Disk.{Disk}
-use Rattle.model.specs.declared.Message.{Message}
-use Rattle.model.specs.Words.{mostInterval, mostBlocks, blockCount, process, own}
-use Rattle.model.specs.Steps.{found}
+use Rattle.laws.specs.Basics.{_≡_, _∙_, ap, true, List, Option, none, some, ℕ, _+_, _*_, _≤_, _<_, arith, length, by-bool}
+use Rattle.model.specs.declared.{Disk.Disk, Message.Message}
+use Rattle.model.specs.{Words.mostInterval, Words.mostBlocks, Words.blockCount, Words.process, Words.own, Steps.found}
 use Rattle.model.specs.Refusals.{checkpointRefusal, sendRefusal, deliverRefusal, loseRefusal, lineRefusal, recoverRefusal}
-use Rattle.histories.proofs.Run.{Ideal, sending, forces}
-use Rattle.histories.proofs.Invariant.{Inv}
-use Rattle.histories.proofs.Messages.{underway-proper}
-use Rattle.model.proofs.simulation.View.{messageOf, diskOf, stateOf, Limits}
+use Rattle.histories.proofs.{Run.Ideal, Run.sending, Run.forces, Invariant.Inv, Messages.underway-proper}
+use Rattle.model.proofs.{simulation.View.messageOf, simulation.View.diskOf, simulation.View.stateOf, simulation.View.Limits, simulation.Billing.count-of}
 use Rattle.model.proofs.simulation.Reads.{count-is, last-is, underway-is, disk-is, process-is, own-is}
-use Rattle.model.proofs.simulation.Billing.{count-of}
 use Rattle.model.proofs.simulation.Messages.{used-number, found-is, found-none}
-use Rattle.model.proofs.simulation.Deliver.{deliver-forces}
+use Rattle.model.proofs.{simulation.Deliver.deliver-forces, simulation.SoundLimits.limits-send}
 use Rattle.model.proofs.simulation.Accepted.{SetFine, checkpoint-out, send-out, deliver-out, lose-out, line-out, recover-out}
-use Rattle.model.proofs.simulation.SoundLimits.{limits-send}
 
 module _ (r : Ideal) (v : Inv r) (fit : Limits r) where
   -- Blocks written, and a process's count.

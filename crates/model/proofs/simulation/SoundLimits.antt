@@ -1,36 +1,18 @@
 -- The limits of a run hold at the start, and every step keeps them; a send does where there is room.
 -- Assumes nothing.
-use mathlib.Core.Path.{_≡_, refl, ap}
-use mathlib.Core.Bool.{Bool, true, false}
-use mathlib.Core.List.{List}
-use mathlib.Core.Logic.{_⊎_, inl, inr}
-use Prim.Native.Nat.{ℕ, suc, _+_, _*_, _≤_, _<_}
-use native.Mathlib.Omega.{arith}
-use lib.Dec.{leb}
-use lib.ListN.{length, getD}
-use borrow.Author.Tests.{le-leb, leb-true, ne-eqb}
-use Rattle.laws.specs.Choice.{by-bool, by-eq}
-use Rattle.laws.specs.Sums.{sumBelow, sum-le}
-use Rattle.laws.specs.Truth.{never-both, and-left, and-right}
-use Rattle.laws.specs.Tests.{countBelow}
-use Rattle.laws.specs.Update.{upd, upd-same, upd-other, upd-same₁, upd-other₁}
-use Rattle.laws.specs.Counting.{count-none, count-mono}
+use Rattle.laws.specs.Basics.{_≡_, refl, ap, Bool, true, false, List, _⊎_, inl, inr, ℕ, suc, _+_, _*_, _≤_, _<_, arith, leb, length, getD, ne-eqb, le-leb, leb-true, by-bool, by-eq}
+use Rattle.laws.specs.{Sums.sumBelow, Sums.sum-le, Truth.never-both, Truth.and-left, Truth.and-right, Tests.countBelow}
+use Rattle.laws.specs.{Update.upd, Update.upd-same, Update.upd-other, Update.upd-same₁, Update.upd-other₁, Counting.count-none, Counting.count-mono}
 use Rattle.model.specs.Words.{mostProcesses, mostUnderWay, mostMessages, mostBlockCount, mostBlocks}
 use Rattle.model.specs.Sound.{causeSound, isBlockCount}
 use Rattle.histories.proofs.Run.{Ideal, Ledger, Failed, begin, openLedger, begun, keeps, stores, checkpointed, sending, forces, takenBy, takenIn, delivered, lost, outlives, recovered}
-use Rattle.histories.proofs.Invariant.{Inv}
-use Rattle.histories.proofs.Messages.{underway-proper}
-use Rattle.histories.proofs.Keeping.{Moved, checkpointed-moved, delivered-moved, recovered-moved}
-use Rattle.histories.proofs.CheckpointedViews.{checkpointed-own, checkpointed-own-other}
-use Rattle.histories.proofs.Checkpointed.{checkpointed-inv}
+use Rattle.histories.proofs.{Invariant.Inv, Messages.underway-proper, CheckpointedViews.checkpointed-own, CheckpointedViews.checkpointed-own-other}
+use Rattle.histories.proofs.{Keeping.Moved, Keeping.checkpointed-moved, Keeping.delivered-moved, Keeping.recovered-moved, Checkpointed.checkpointed-inv}
 use Rattle.histories.proofs.DeliveredViews.{delivered-n, delivered-last, delivered-own-forced, delivered-own-plain, delivered-own-other}
-use Rattle.histories.proofs.Delivered.{delivered-inv}
-use Rattle.histories.proofs.RecoveredStates.{recovered-own-le}
-use Rattle.histories.proofs.Recovered.{recovered-inv}
+use Rattle.histories.proofs.{Delivered.delivered-inv, RecoveredStates.recovered-own-le, Recovered.recovered-inv}
 use Rattle.histories.proofs.Counted.{keptIn, Paid, paid-on, checkpointed-new, checkpointed-paid, delivered-new-forced, delivered-paid, delivered-ledger-forced, delivered-ledger-plain, recovered-paid}
 use Rattle.model.proofs.simulation.View.{messageOf, messagesOf, Fits, Limits}
-use Rattle.model.proofs.simulation.Passing.{length-passing}
-use Rattle.model.proofs.simulation.Start.{start-kept-in}
+use Rattle.model.proofs.{simulation.Passing.length-passing, simulation.Start.start-kept-in}
 
 -- As many messages are under way as numbers up to the last used.
 pub messages-count : (r : Ideal) → length (messagesOf r) ≡ countBelow (suc (r .last)) (r .transit)

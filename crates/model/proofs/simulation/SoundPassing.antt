@@ -1,19 +1,9 @@
 -- The values at the numbers below a bound that pass a test: every one of them passes another test, and the numbers themselves ascend.
 -- Assumes nothing.
-use mathlib.Core.Path.{_≡_, refl}
-use mathlib.Core.Bool.{Bool, true}
-use mathlib.Core.List.{List, [], _∷_, _++_}
-use Prim.Native.Nat.{ℕ, zero, suc, _≤_, _<_}
-use native.Mathlib.Omega.{arith}
-use lib.Dec.{ltb, leb}
-use borrow.Author.Tests.{le-leb, lt-ltb, ltb-true}
-use Rattle.laws.specs.Choice.{by-bool}
-use Rattle.laws.specs.Truth.{and-left, and-right}
-use Rattle.laws.specs.Tests.{every}
-use Rattle.laws.specs.Elements.{every-nil, every-single, every-append}
+use Rattle.laws.specs.Basics.{_≡_, refl, Bool, true, List, [], _∷_, _++_, ℕ, zero, suc, _≤_, _<_, arith, ltb, leb, lt-ltb, ltb-true, le-leb, by-bool}
+use Rattle.laws.specs.{Truth.and-left, Truth.and-right, Tests.every, Elements.every-nil, Elements.every-single, Elements.every-append}
 use Rattle.model.specs.Sound.{ascending}
-use Rattle.model.proofs.simulation.View.{passing}
-use Rattle.model.proofs.simulation.Passing.{passing-yes, passing-no}
+use Rattle.model.proofs.{simulation.View.passing, simulation.Passing.passing-yes, simulation.Passing.passing-no}
 
 -- Every one passes another test, if it holds at each number that passes the first.
 pub passing-every : {A : Type 0} (u : A → Bool) (k : ℕ) (t : ℕ → Bool) (f : ℕ → A) → ((j : ℕ) → j < k → t j ≡ true → u (f j) ≡ true) → every u (passing k t f) ≡ true

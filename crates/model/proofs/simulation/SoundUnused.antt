@@ -1,30 +1,17 @@
 -- The unused places of the state that stands for a run: every one holds zero, every unused pin is none. And how many checkpoints each row holds.
 -- Assumes nothing.
-use mathlib.Core.Path.{_≡_, refl, _∙_}
-use mathlib.Core.Bool.{Bool, true, false, not}
-use mathlib.Core.List.{List, []}
-use Prim.Native.Nat.{ℕ, zero, suc, _-_, _≤_, _<_}
+use Rattle.laws.specs.Basics.{_≡_, refl, _∙_, Bool, true, false, not, List, [], ℕ, zero, suc, _-_, _≤_, _<_, arith, eqb, length, getD, drop, replicate, getD-set-same, getD-set-other, by-eq}
 use native.Mathlib.Nat.{not-suc-le-zero}
-use native.Mathlib.Omega.{arith}
-use lib.Dec.{eqb}
-use lib.ListN.{length, getD, drop, replicate}
-use lib.Seq.{getD-set-same, getD-set-other, drop-set-lt, drop-append-seam}
-use Rattle.laws.specs.Choice.{by-eq}
-use Rattle.laws.specs.Lists.{placed}
-use Rattle.laws.specs.Search.{allBelow, all-in}
-use Rattle.laws.specs.Tests.{every}
-use Rattle.laws.specs.Elements.{every-drop, every-from, every-replicate}
-use Rattle.model.specs.declared.Pin.the-variants.{Nothing}
-use Rattle.model.specs.declared.Checkpoint.{Checkpoint}
-use Rattle.model.specs.declared.Run.{Run}
+use lib.Seq.{drop-set-lt, drop-append-seam}
+use Rattle.laws.specs.{Lists.placed, Search.allBelow, Search.all-in, Tests.every, Elements.every-drop, Elements.every-from, Elements.every-replicate}
+use Rattle.model.specs.declared.{Pin.the-variants.Nothing, Checkpoint.Checkpoint, Run.Run}
 use Rattle.model.specs.Words.{mostProcesses, mostUnderWay, Process, zeroVector, noPins, noCheckpoint, noMessage, blank, withProcess, underWay, withMessages, withDisk}
 use Rattle.model.specs.Steps.{withProcesses}
 use Rattle.model.specs.Sound.{zeroFrom, unusedCheckpoint, unusedMessage, isNothing, nothingFrom, rowUnused, unusedSound}
 use Rattle.histories.proofs.Run.{Ideal}
 use Rattle.model.proofs.simulation.View.{vectorOf, pinsOf, checkpointOf, keptOf, processOf, messageOf, messagesOf, partsOf, stateOf}
-use Rattle.model.proofs.simulation.Parts.{Room, room-all, room-blank}
+use Rattle.model.proofs.{simulation.Parts.Room, simulation.Parts.room-all, simulation.Parts.room-blank, simulation.SoundPassing.passing-every}
 use Rattle.model.proofs.simulation.Reads.{entry-past, pin-past, count-is, underWay-is, process-is}
-use Rattle.model.proofs.simulation.SoundPassing.{passing-every}
 use Rattle.model.proofs.simulation.Kept.{kept-every}
 
 -- What a state holds of the checkpoints of one process: how many, and the row with its unused places.

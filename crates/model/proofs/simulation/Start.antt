@@ -1,32 +1,14 @@
 -- The start: the state that an accepted start returns stands for the run that has just begun.
 -- Assumes nothing.
-use mathlib.Core.Path.{_≡_, refl, sym, _∙_, ap}
-use mathlib.Core.Bool.{true, false}
-use mathlib.Core.List.{List, [], _∷_}
-use mathlib.Core.Option.{none, some}
-use Prim.Native.Nat.{ℕ, _-_, _*_, _<_}
-use native.Mathlib.Omega.{arith}
-use lib.Dec.{eqb, ltb}
-use lib.ListN.{set, getD}
-use borrow.Author.Tests.{lt-ltb, eq-eqb, ne-eqb}
-use Rattle.laws.specs.Choice.{pick, by-eq, pick-same}
-use Rattle.laws.specs.Lists.{placed}
-use Rattle.laws.specs.Search.{any-in}
-use Rattle.laws.specs.Sums.{sumBelow, sum-same}
-use Rattle.laws.specs.Tables.{table-same, table-set, table-replicate}
-use Rattle.laws.specs.Tests.{countBelow}
-use Rattle.laws.specs.Update.{upd-same, upd-other}
-use Rattle.model.specs.declared.Interval.{Interval}
-use Rattle.model.specs.declared.Pin.{Pin}
-use Rattle.model.specs.declared.Pin.the-variants.{Nothing, At}
-use Rattle.model.specs.declared.Run.{Run}
+use Rattle.laws.specs.Basics.{_≡_, refl, sym, _∙_, ap, true, false, List, [], _∷_, none, some, ℕ, _-_, _*_, _<_, arith, eqb, ltb, getD, set, eq-eqb, ne-eqb, lt-ltb, pick, by-eq}
+use Rattle.laws.specs.{Choice.pick-same, Lists.placed, Search.any-in, Sums.sumBelow, Sums.sum-same, Tables.table-same, Tables.table-set, Tables.table-replicate}
+use Rattle.laws.specs.{Tests.countBelow, Update.upd-same, Update.upd-other}
+use Rattle.model.specs.declared.{Interval.Interval, Pin.Pin, Pin.the-variants.Nothing, Pin.the-variants.At, Run.Run}
 use Rattle.model.specs.Words.{mostProcesses, zeroVector, noPins, blank, withMessages, withDisk}
 use Rattle.model.specs.Steps.{withProcesses, checkpointZero, started, opening, startState}
-use Rattle.histories.proofs.Run.{begin, openLedger, begun, keeps, names}
-use Rattle.histories.proofs.Counted.{keptIn}
+use Rattle.histories.proofs.{Run.begin, Run.openLedger, Run.begun, Run.keeps, Run.names, Counted.keptIn}
 use Rattle.model.proofs.simulation.View.{passing, vectorOf, pinOf, pinsOf, checkpointOf, keptOf, processOf, messagesOf, diskOf, partsOf, stateOf}
-use Rattle.model.proofs.simulation.Parts.{all-agree, all-messages}
-use Rattle.model.proofs.simulation.Reads.{vector-same}
+use Rattle.model.proofs.{simulation.Parts.all-agree, simulation.Parts.all-messages, simulation.Reads.vector-same}
 use Rattle.model.proofs.simulation.Rows.{process-eq, vector-set}
 
 -- The vector of zeros.

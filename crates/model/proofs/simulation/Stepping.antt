@@ -1,16 +1,9 @@
 -- A step that changes one process's part, the messages and the disk: the state after it stands for a run that differs in these alone.
 -- Assumes nothing.
-use mathlib.Core.Path.{_≡_, refl, sym, _∙_, ap}
-use mathlib.Core.List.{List}
-use Prim.Native.Nat.{ℕ, _<_}
-use native.Mathlib.Omega.{arith}
-use Rattle.laws.specs.Choice.{by-eq}
+use Rattle.laws.specs.Basics.{_≡_, refl, sym, _∙_, ap, List, ℕ, _<_, arith, by-eq}
 use Rattle.laws.specs.Update.{upd, upd-same, upd-other}
-use Rattle.model.specs.declared.Message.{Message}
-use Rattle.model.specs.declared.Disk.{Disk}
-use Rattle.model.specs.declared.Run.{Run}
-use Rattle.model.specs.Words.{Process, blank, withProcess, withMessages, withDisk}
-use Rattle.model.specs.Steps.{withProcesses}
+use Rattle.model.specs.declared.{Message.Message, Disk.Disk, Run.Run}
+use Rattle.model.specs.{Words.Process, Words.blank, Words.withProcess, Words.withMessages, Words.withDisk, Steps.withProcesses}
 use Rattle.histories.proofs.Run.{Ideal}
 use Rattle.model.proofs.simulation.View.{processOf, messagesOf, diskOf, partsOf, stateOf}
 use Rattle.model.proofs.simulation.Parts.{put-one, all-all, all-agree, all-messages, all-disk, put-messages, messages-twice}

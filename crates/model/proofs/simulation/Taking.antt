@@ -1,29 +1,18 @@
 -- What a process takes in of a message: the vector and the pins of its part, and the part and the deleted ones once what no pin names goes.
 -- Assumes nothing.
-use mathlib.Core.Path.{_≡_, refl, sym, _∙_, ap}
-use mathlib.Core.Bool.{Bool, true, false, _&&_, not}
-use Prim.Native.Nat.{ℕ, suc, _≤_, _<_, max}
-use native.Mathlib.Omega.{arith}
-use lib.Dec.{ltb}
-use lib.ListN.{getD}
-use borrow.Author.Tests.{leb-true, leb-false}
-use Rattle.laws.specs.Choice.{pick, by-bool, pick-same}
-use Rattle.laws.specs.Ranges.{any-same, any-wider}
-use Rattle.laws.specs.Search.{anyBelow}
-use Rattle.laws.specs.Tables.{table-same}
-use Rattle.laws.specs.Update.{upds}
-use Rattle.model.specs.declared.Pin.{Pin}
-use Rattle.model.specs.declared.Pin.the-variants.{Nothing}
+use Rattle.laws.specs.Basics.{_≡_, refl, sym, _∙_, ap, Bool, true, false, not, _&&_, ℕ, suc, _≤_, _<_, max, arith, ltb, getD, leb-true, leb-false, pick, by-bool}
+use Rattle.laws.specs.{Choice.pick-same, Ranges.any-same, Ranges.any-wider, Search.anyBelow, Tables.table-same, Update.upds}
+use Rattle.model.specs.declared.{Pin.Pin, Pin.the-variants.Nothing}
 use Rattle.model.specs.Words.{mostProcesses, entry, below, Process}
-use Rattle.model.specs.Steps as steps
 use Rattle.model.specs.Steps.{settled, gone, takenEntry, takenVector, takenPin, takenPins}
 use Rattle.histories.proofs.Run.{Ideal, Ledger, keeps, takenBy, takenIn}
 use Rattle.histories.proofs.TakenInViews.{takenIn-n, takenIn-own, takenIn-live, takenIn-vector, takenIn-mark, takenIn-keeps-old}
-use Rattle.histories.proofs.Run as ideal
 use Rattle.model.proofs.simulation.View.{passing, vectorOf, pinOf, pinsOf, checkpointOf, keptOf, processOf}
 use Rattle.model.proofs.simulation.Passing.{passing-same}
 use Rattle.model.proofs.simulation.Reads.{entry-is, entry-past, vector-same, pin-is, pin-past}
 use Rattle.model.proofs.simulation.Rows.{process-eq, checkpoint-same, settled-kept, settled-gone}
+use Rattle.model.specs.Steps as steps
+use Rattle.histories.proofs.Run as ideal
 
 module _ (n : ℕ) (v w : ℕ → ℕ) (few : n ≤ mostProcesses) where
   -- Whether an entry is smaller than the carried one.

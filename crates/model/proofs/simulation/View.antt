@@ -1,26 +1,12 @@
 -- The state that stands for a run as functions: the library's state after any list of accepted calls is `stateOf` of the run, to the last unused place.
 -- Assumes nothing.
-use mathlib.Core.Path.{_≡_}
-use mathlib.Core.Bool.{Bool, true}
-use mathlib.Core.List.{List, [], _∷_, _++_}
-use mathlib.Core.Option.{Option, none, some}
-use Prim.Native.Nat.{ℕ, zero, suc, _-_, _≤_, _<_}
-use lib.Dec.{ltb}
-use lib.ListN.{length}
-use Rattle.laws.specs.Choice.{pick}
+use Rattle.laws.specs.Basics.{_≡_, Bool, true, List, [], _∷_, _++_, Option, none, some, ℕ, zero, suc, _-_, _≤_, _<_, ltb, length, pick}
 use Rattle.laws.specs.Lists.{table}
-use Rattle.model.specs.declared.Interval.{Interval}
-use Rattle.model.specs.declared.Pin.{Pin}
-use Rattle.model.specs.declared.Pin.the-variants.{Nothing, At}
-use Rattle.model.specs.declared.Checkpoint.{Checkpoint}
-use Rattle.model.specs.declared.Message.{Message}
-use Rattle.model.specs.declared.Disk.{Disk}
-use Rattle.model.specs.declared.Run.{Run}
+use Rattle.model.specs.declared.{Interval.Interval, Pin.Pin, Pin.the-variants.Nothing, Pin.the-variants.At, Checkpoint.Checkpoint, Message.Message}
+use Rattle.model.specs.declared.{Disk.Disk, Run.Run}
 use Rattle.model.specs.Words.{mostProcesses, mostUnderWay, mostMessages, mostBlocks, Process, blank, withMessages, withDisk}
-use Rattle.model.specs.Steps.{withProcesses}
-use Rattle.model.specs.Sound.{causeSound, isBlockCount}
-use Rattle.histories.proofs.Run.{Ideal, keeps}
-use Rattle.histories.proofs.Counted.{keptIn}
+use Rattle.model.specs.{Steps.withProcesses, Sound.causeSound, Sound.isBlockCount}
+use Rattle.histories.proofs.{Run.Ideal, Run.keeps, Counted.keptIn}
 
 -- The values at the numbers below a bound that pass a test, in ascending order.
 unfoldable pub passing : {A : Type 0} → ℕ → (ℕ → Bool) → (ℕ → A) → List A

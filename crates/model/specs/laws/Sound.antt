@@ -1,19 +1,8 @@
 -- A sound state taken apart: what each clause of document 01's "A sound state" says, by name. Here alone `sound` is opened.
 -- Assumes nothing.
-use mathlib.Core.Path.{_≡_}
-use mathlib.Core.Bool.{true, _&&_, not}
-use mathlib.Core.List.{[], map}
-use Prim.Native.Nat.{ℕ, _+_, _≤_, _<_}
-use lib.Dec.{eqb, leb}
-use lib.ListN.{getD, drop}
-use borrow.Author.Tests.{ltb-true, leb-true, eqb-true, eqb-false, not-true}
-use Rattle.laws.specs.Lists.{orElse, lastOf}
-use Rattle.laws.specs.Search.{allBelow, all-out}
-use Rattle.laws.specs.Tests.{every}
-use Rattle.laws.specs.Truth.{and-out}
-use Rattle.model.specs.declared.Pin.the-variants.{Nothing}
-use Rattle.model.specs.declared.Message.{Message}
-use Rattle.model.specs.declared.Run.{Run}
+use Rattle.laws.specs.Basics.{_≡_, true, not, _&&_, [], map, ℕ, _+_, _≤_, _<_, eqb, leb, getD, drop, eqb-true, eqb-false, ltb-true, leb-true, not-true}
+use Rattle.laws.specs.{Lists.orElse, Lists.lastOf, Search.allBelow, Search.all-out, Tests.every, Truth.and-out}
+use Rattle.model.specs.declared.{Pin.the-variants.Nothing, Message.Message, Run.Run}
 use Rattle.model.specs.Words.{mostProcesses, mostUnderWay, mostMessages, mostBlocks, entry, lastStored, names, isPinned, noCheckpoint, process, own, underWay}
 use Rattle.model.specs.Sound.{countSound, ownSound, within, vectorsSound, ascending, keptSound, pinSound, pinsSound, messageSound, messagesSound, zeroFrom, unusedCheckpoint, unusedMessage, nothingFrom, rowUnused, unusedSound, recordSound, keptBlocks, diskSound, sound}
 

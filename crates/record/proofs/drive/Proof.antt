@@ -1,11 +1,8 @@
 -- `record::drive` meets its contract: the loop goes through states of the machine, and ends where it stops. Assumes nothing.
-use mathlib.Core.Path.{_≡_, refl, sym, _∙_}
-use native.Mathlib.Omega.{arith}
-use lib.ListN.{length}
+use Rattle.laws.specs.Basics.{_≡_, refl, sym, _∙_, arith, length, needs}
 use Rattle.machine_record.specs.Lent.{stateOf}
 use Rattle.machine_record.proofs.Stepping.{room-kept}
 use Rattle.machine_record.proofs.Driving.{left, Driven, driven-first, driven-next, driven-less, driven-ends}
-use borrow.Author.Needs.{needs}
 use Rattle.record.proofs.drive.Statement.{statement}
 use Rattle.record.proofs.drive.Tie as tie
 

@@ -1,7 +1,6 @@
 -- `record::main` meets its contract: its buffers are large enough. Assumes nothing.
-use Rattle.record.proofs.Rooms.{has-room}
-use borrow.Author.Needs.{needs}
-use Rattle.record.proofs.main.Statement.{statement}
+use Rattle.laws.specs.Basics.{needs}
+use Rattle.record.proofs.{Rooms.has-room, main.Statement.statement}
 use Rattle.record.proofs.main.Tie as tie
 
 drive-requires : tie.Need-drive-requires

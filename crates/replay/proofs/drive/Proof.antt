@@ -1,13 +1,10 @@
 -- `replay::drive` meets its contract: the loop goes through states of the machine, and ends where it stops.
 -- Assumes nothing.
-use mathlib.Core.Path.{_≡_, refl, sym, _∙_}
-use borrow.Author.Needs.{needs}
-use lib.ListN.{length}
+use Rattle.laws.specs.Basics.{_≡_, refl, sym, _∙_, length, needs}
 use Rattle.machine_replay.specs.Standing.{stateOf}
 use Rattle.machine_replay.proofs.Ending.{left}
 use Rattle.machine_replay.proofs.Driving.{Driven, driven-first, driven-next, driven-less, driven-ends, still-from-start}
-use Rattle.replay.proofs.Sizes.{large-enough, stepped-alike, asks-alike}
-use Rattle.replay.proofs.drive.Statement.{statement}
+use Rattle.replay.proofs.{Sizes.large-enough, Sizes.stepped-alike, Sizes.asks-alike, drive.Statement.statement}
 use Rattle.replay.proofs.drive.Tie as tie
 
 abbrev Inv-loop : tie.InvT-loop

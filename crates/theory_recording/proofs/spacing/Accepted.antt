@@ -1,49 +1,24 @@
 -- Note 10: "no step meets a refusal". Each step stores two checkpoints at most and sends one message at most, so a trial of 30,000 steps meets none of the limits
 -- of document 01; what else a call may be refused for, the choice of a step rules out.
 -- Assumes nothing.
-use mathlib.Core.Path.{_≡_, refl, sym, _∙_, ap}
-use mathlib.Core.Bool.{Bool, true, _&&_}
-use mathlib.Core.List.{List, [], _∷_, _++_}
-use mathlib.Core.Option.{Option, none, some}
-use Prim.Native.Nat.{ℕ, zero, suc, _+_, _-_, _*_, _/_, _%_, _≤_, _<_}
+use Rattle.laws.specs.Basics.{_≡_, refl, sym, _∙_, ap, Bool, true, _&&_, List, [], _∷_, _++_, Option, none, some, ℕ, zero, suc, _+_, _-_, _*_, _/_, _%_, _≤_, _<_, arith, eqb, ltb, leb, length, getD, replicate, length-append, length-replicate, getD-replicate, ltb-true, ltb-false, leb-true, by-bool, by-eq}
 use native.Mathlib.Nat.{mod-lt, mod-eq-of-lt, mod-eq-sub-mod, mul-le-mul}
-use native.Mathlib.Omega.{arith}
-use lib.Dec.{eqb, ltb, leb}
-use lib.ListN.{length, getD, replicate, length-append, length-replicate, getD-replicate, List·getD-eq-default}
-use borrow.Author.Tests.{ltb-true, ltb-false, leb-true}
-use Rattle.laws.specs.Choice.{by-bool, by-eq}
-use Rattle.laws.specs.Lists.{select, gather}
-use Rattle.laws.specs.Select.{select-append}
-use Rattle.laws.specs.Sums.{sum-le}
-use Rattle.laws.specs.Tests.{every}
-use Rattle.laws.specs.Truth.{and-left, and-right}
-use Rattle.laws.specs.Update.{upd}
-use Rattle.model.specs.declared.Message.{Message}
-use Rattle.model.specs.declared.Run.{Run}
-use Rattle.model.specs.declared.Event.{Event}
-use Rattle.model.specs.declared.Event.the-variants.{Checkpoint, Send, Deliver}
+use lib.ListN.{List·getD-eq-default}
+use Rattle.laws.specs.{Lists.select, Lists.gather, Select.select-append, Sums.sum-le, Tests.every, Truth.and-left, Truth.and-right, Update.upd}
+use Rattle.model.specs.declared.{Message.Message, Run.Run, Event.Event, Event.the-variants.Checkpoint, Event.the-variants.Send, Event.the-variants.Deliver}
 use Rattle.model.specs.Words.{basic, forced, mostProcesses, mostUnderWay, mostMessages, mostInterval, ones, underWay}
-use Rattle.model.specs.Steps.{startState}
-use Rattle.model.specs.Sound.{isBlockCount}
-use Rattle.model.specs.Refusals.{startRefusal}
-use Rattle.model.specs.Trace.{fits}
-use Rattle.whole_runs.specs.Calls.{call}
-use Rattle.whole_runs.specs.Survival.{Surviving, beginning}
-use Rattle.whole_runs.specs.Listing.{callOf}
-use Rattle.theory_recording.specs.Replay.{stateAfterEvents, EventReply, performed}
+use Rattle.model.specs.{Steps.startState, Sound.isBlockCount, Refusals.startRefusal, Trace.fits}
+use Rattle.whole_runs.specs.{Calls.call, Survival.Surviving, Survival.beginning, Listing.callOf}
+use Rattle.theory_recording.specs.{Replay.stateAfterEvents, Replay.EventReply, Replay.performed, spacing.Trial.Trial}
 use Rattle.histories.proofs.Run.{Ideal, begin, openLedger, because, stores, checkpointed, sending, delivered, forces}
 use Rattle.histories.proofs.Counted.{delivered-ledger-forced, delivered-ledger-plain, counts-delivered}
 use Rattle.histories.proofs.DeliveredViews.{delivered-own-forced, delivered-own-plain, delivered-own-other, delivered-last}
-use Rattle.model.proofs.simulation.View.{messageOf, messagesOf, stateOf}
-use Rattle.model.proofs.simulation.Reads.{underway-is, underWay-is}
-use Rattle.model.proofs.simulation.SoundPassing.{passing-every}
-use Rattle.model.proofs.simulation.Accepted.{start-in}
+use Rattle.model.proofs.{simulation.View.messageOf, simulation.View.messagesOf, simulation.View.stateOf, simulation.SoundPassing.passing-every}
+use Rattle.model.proofs.{simulation.Reads.underway-is, simulation.Reads.underWay-is, simulation.Accepted.start-in}
 use Rattle.model.proofs.simulation.Admitted.{checkpoint-admitted, send-admitted, deliver-admitted}
-use Rattle.whole_runs.proofs.whole.Reached.{Reached, refusal}
-use Rattle.whole_runs.proofs.whole.Runs.{stepped as stepOf}
+use Rattle.whole_runs.proofs.{whole.Reached.Reached, whole.Reached.refusal, whole.Runs.stepped as stepOf}
 use Rattle.whole_runs.proofs.WholeRuns.{started-state, start-reached, accepted-reached}
 use Rattle.theory_recording.proofs.Replay.{Accepts, none-left, one-more, fits-accepted, state-append, performed-append, accepts-append}
-use Rattle.theory_recording.specs.spacing.Trial.{Trial}
 use Rattle.theory_recording.specs.spacing.Spacing.{draw, generated, drawnProcess, drawnNumber, headOf, oldestTo, chosenReceiver, sends, delivers, action, isDue, withCheckpoint, stepEvents, isDelivery, hasValue, deliveriesIn, forcedIn, stepped, trialStart, trialAfter, eventsOf}
 
 -- A run with block counts of 1 starts.

@@ -1,23 +1,12 @@
 -- Note 10: a trial "agrees with replaying the same events".
 -- Assumes nothing.
-use mathlib.Core.Path.{_≡_, refl, sym, _∙_, ap}
-use mathlib.Core.Bool.{false}
-use mathlib.Core.Option.{none}
-use Prim.Native.Nat.{ℕ, zero, suc, _*_, _/_, _%_, _≤_, _<_, max}
+use Rattle.laws.specs.Basics.{_≡_, refl, sym, _∙_, ap, false, none, ℕ, zero, suc, _*_, _/_, _%_, _≤_, _<_, max, arith, eqb, leb, length, eq-eqb, ne-eqb, leb-true, not-false, pick}
 use native.Mathlib.Nat.{mod-lt, div-add-mod'}
-use native.Mathlib.Omega.{arith}
-use lib.Dec.{eqb, leb}
-use lib.ListN.{length}
-use borrow.Author.Tests.{eq-eqb, ne-eqb, leb-true, not-false}
-use Rattle.laws.specs.Choice.{pick}
 use Rattle.laws.specs.Truth.{and-left, and-right}
-use Rattle.model.specs.Words.{mostProcesses, ones}
-use Rattle.model.specs.Steps.{startState}
-use Rattle.model.specs.laws.Refusals.{no-rule}
+use Rattle.model.specs.{Words.mostProcesses, Words.ones, Steps.startState, laws.Refusals.no-rule}
 use Rattle.whole_runs.specs.Listing.{stateAfterRecords}
-use Rattle.theory_recording.proofs.Replay.{replays, lines-replayed, listing-started}
+use Rattle.theory_recording.proofs.{Replay.replays, Replay.lines-replayed, Replay.listing-started, spacing.Accepted.ones-start, spacing.Accepted.tried}
 use Rattle.theory_recording.specs.spacing.Spacing.{deliveriesIn, forcedIn, greatestBelow, mostKept, stepped, trialStart, trialAfter, outOfRange, trialRefusal, quotientOf, remainderOf, figures, simulated, eventsOf, traceOf, replayed, Divides, AgreesWithReplay, TrialsAgree}
-use Rattle.theory_recording.proofs.spacing.Accepted.{ones-start, tried}
 
 -- The most kept after any step.
 greatest-same : (n : ℕ) (f g : ℕ → ℕ) → ((i : ℕ) → i < n → f i ≡ g i) → greatestBelow n f ≡ greatestBelow n g

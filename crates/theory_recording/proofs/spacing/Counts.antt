@@ -1,29 +1,16 @@
 -- For the code: the states of a trial are reached by calls, and the counts of a trial stay small.
 -- Assumes nothing.
-use mathlib.Core.Path.{_≡_, _∙_, ap}
-use mathlib.Core.List.{List, [], _∷_}
-use mathlib.Core.Option.{Option, none, some}
-use Prim.Native.Nat.{ℕ, zero, suc, _+_, _≤_}
-use native.Mathlib.Omega.{arith}
-use lib.Dec.{ltb}
-use lib.ListN.{length, getD, set, replicate, length-set, length-replicate, getD-replicate, List·getD-eq-default}
-use lib.Seq.{getD-set-same, getD-set-other}
-use borrow.Author.Tests.{ltb-true, ltb-false}
-use Rattle.laws.specs.Choice.{by-bool, by-eq}
+use Rattle.laws.specs.Basics.{_≡_, _∙_, ap, List, [], _∷_, Option, none, some, ℕ, zero, suc, _+_, _≤_, arith, ltb, length, getD, set, replicate, length-set, length-replicate, getD-replicate, getD-set-same, getD-set-other, ltb-true, ltb-false, by-bool, by-eq}
+use lib.ListN.{List·getD-eq-default}
 use Rattle.laws.specs.Lists.{select}
-use Rattle.model.specs.declared.Run.{Run}
-use Rattle.model.specs.declared.Event.{Event}
-use Rattle.model.specs.Words.{mostProcesses, ones}
-use Rattle.model.specs.Steps.{startState}
+use Rattle.model.specs.declared.{Run.Run, Event.Event}
+use Rattle.model.specs.{Words.mostProcesses, Words.ones, Steps.startState}
 use Rattle.whole_runs.specs.WholeRuns.{Traced}
-use Rattle.theory_recording.specs.Replay.{EventReply, performed}
+use Rattle.theory_recording.specs.{Replay.EventReply, Replay.performed, spacing.Trial.Trial}
 use Rattle.model.proofs.simulation.Reads.{count-is}
-use Rattle.whole_runs.proofs.WholeRuns.{started-state}
-use Rattle.whole_runs.proofs.Traced.{traced-start}
-use Rattle.theory_recording.proofs.Replay.{traced-events}
-use Rattle.theory_recording.specs.spacing.Trial.{Trial}
+use Rattle.whole_runs.proofs.{WholeRuns.started-state, Traced.traced-start}
+use Rattle.theory_recording.proofs.{Replay.traced-events, spacing.Accepted.Going, spacing.Accepted.ones-start, spacing.Accepted.tried}
 use Rattle.theory_recording.specs.spacing.Spacing.{drawnProcess, drawnNumber, action, isDue, withCheckpoint, stepEvents, isDelivery, hasValue, deliveriesIn, forcedIn, counted, stepped, trialStart, trialAfter, eventsOf}
-use Rattle.theory_recording.proofs.spacing.Accepted.{Going, ones-start, tried}
 
 one-delivery : (s : Run) (k acted p : ℕ) (o : Option Event) → deliveriesIn (performed s (withCheckpoint k acted p o)) ≤ 1
 unfolding withCheckpoint performed deliveriesIn isDelivery select

@@ -1,21 +1,10 @@
 -- Note 10: the first of the messages to p is the oldest, since messages ascend by number.
 -- Assumes nothing.
-use mathlib.Core.Path.{_≡_, refl, sym}
-use mathlib.Core.Bool.{true}
-use mathlib.Core.List.{List, [], _∷_, map, List·Memᴰ, List·Memᴰ·head, List·Memᴰ·tail, List·Memᴰ·cases-cons, List·Memᴰ·not-nil}
-use mathlib.Core.Logic.{inl, inr}
-use mathlib.Core.Option.{Option, none, some}
-use Prim.Native.Nat.{ℕ, suc, _≤_}
-use native.Mathlib.Omega.{arith}
-use lib.Dec.{eqb, leb}
-use borrow.Author.Tests.{eqb-true, eq-eqb, leb-true}
-use Rattle.laws.specs.Choice.{by-bool}
-use Rattle.laws.specs.Lists.{select}
-use Rattle.laws.specs.Truth.{never-both, and-left, and-right}
+use Rattle.laws.specs.Basics.{_≡_, refl, sym, true, List, [], _∷_, map, Option, none, some, inl, inr, ℕ, suc, _≤_, arith, eqb, leb, eq-eqb, eqb-true, leb-true, by-bool}
+use mathlib.Core.List.{List·Memᴰ, List·Memᴰ·head, List·Memᴰ·tail, List·Memᴰ·cases-cons, List·Memᴰ·not-nil}
+use Rattle.laws.specs.{Lists.select, Truth.never-both, Truth.and-left, Truth.and-right}
 use Rattle.model.specs.declared.Message.{Message}
-use Rattle.model.specs.Words.{underWay}
-use Rattle.model.specs.Sound.{ascending}
-use Rattle.model.specs.laws.Sound.{sound-state}
+use Rattle.model.specs.{Words.underWay, Sound.ascending, laws.Sound.sound-state}
 use Rattle.whole_runs.proofs.WholeRuns.{reachable-sound}
 use Rattle.theory_recording.specs.spacing.Spacing.{headOf, oldestTo, OldestDelivered}
 

@@ -1,9 +1,7 @@
 -- Note 10: simulations with their results, as data. Another program, written from the document alone, gave the figures (`oracle --simulate`); proofs/Cases has the
 -- theorem that the definitions give the same.
 -- Assumes nothing.
-use mathlib.Core.Bool.{Bool}
-use mathlib.Core.List.{List, [], _∷_}
-use Prim.Native.Nat.{ℕ}
+use Rattle.laws.specs.Basics.{Bool, List, [], _∷_, ℕ}
 use Rattle.laws.specs.Tests.{same}
 use Rattle.theory_recording.specs.declared.spacing.TrialResult.{TrialResult}
 use Rattle.theory_recording.specs.spacing.Spacing.{trialReport, simulated}

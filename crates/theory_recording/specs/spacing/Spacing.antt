@@ -1,34 +1,17 @@
 -- Document 02, Note 10: "Trying a checkpoint spacing." Each definition stands under the sentence that it says. A trial is one simulation; k is its spacing.
 -- Assumes nothing.
-use mathlib.Core.Path.{_≡_}
-use mathlib.Core.Bool.{Bool, true, false, _&&_, not}
-use mathlib.Core.List.{List, [], _∷_, List·Memᴰ}
-use mathlib.Core.Option.{Option, none, some}
-use Prim.Native.Nat.{ℕ, zero, suc, _+_, _-_, _*_, _/_, _%_, _≤_, _<_, max}
-use lib.Dec.{eqb, ltb, leb}
-use lib.ListN.{length, getD, set, replicate}
-use Rattle.laws.specs.Choice.{pick}
-use Rattle.laws.specs.Lists.{select, gather}
-use Rattle.laws.specs.Tests.{every}
-use Rattle.model.specs.declared.Message.{Message}
-use Rattle.model.specs.declared.Run.{Run}
-use Rattle.model.specs.declared.Event.{Event}
+use Rattle.laws.specs.Basics.{_≡_, Bool, true, false, not, _&&_, List, [], _∷_, Option, none, some, ℕ, zero, suc, _+_, _-_, _*_, _/_, _%_, _≤_, _<_, max, eqb, ltb, leb, length, getD, set, replicate, pick}
+use mathlib.Core.List.{List·Memᴰ}
+use Rattle.laws.specs.{Lists.select, Lists.gather, Tests.every}
+use Rattle.model.specs.declared.{Message.Message, Run.Run, Event.Event, Refusal.Refusal, Refusal.the-variants.TrialOutsideRange}
 use Rattle.model.specs.declared.Event.the-variants.{Checkpoint, Send, Deliver, Lose, Recover}
-use Rattle.model.specs.declared.Refusal.{Refusal}
-use Rattle.model.specs.declared.Refusal.the-variants.{TrialOutsideRange}
-use Rattle.model.specs.Words.{mostProcesses, mostUnderWay, ones, process, underWay}
-use Rattle.model.specs.Steps.{startState}
-use Rattle.model.specs.Refusals.{firstOf}
-use Rattle.model.specs.Trace.{fits}
-use Rattle.whole_runs.specs.Outcomes.{judged, Report, refusing, accepting}
-use Rattle.whole_runs.specs.Calls.{Reply}
-use Rattle.whole_runs.specs.Listing.{stateAfterRecords, listing}
+use Rattle.model.specs.{Words.mostProcesses, Words.mostUnderWay, Words.ones, Words.process, Words.underWay, Steps.startState, Refusals.firstOf, Trace.fits}
+use Rattle.whole_runs.specs.{Outcomes.judged, Outcomes.Report, Outcomes.refusing, Outcomes.accepting, Calls.Reply, Listing.stateAfterRecords, Listing.listing}
 use Rattle.whole_runs.specs.WholeRuns.{Reachable}
 use Rattle.theory_recording.specs.Replay.{recordsOf, stateAfterEvents, EventReply, performed, repliesOf, noneRefused, paired, linesOf}
 use Rattle.theory_recording.specs.spacing.Trial.{Trial}
-use Rattle.theory_recording.specs.declared.spacing.TrialAnswer.{TrialAnswer}
+use Rattle.theory_recording.specs.declared.{spacing.TrialAnswer.TrialAnswer, spacing.TrialResult.TrialResult}
 use Rattle.theory_recording.specs.declared.spacing.TrialAnswer.the-variants as trial-answer
-use Rattle.theory_recording.specs.declared.spacing.TrialResult.{TrialResult}
 
 -- "The generator takes the last value, multiplies by 1,664,525, adds 1,013,904,223 and keeps the low 32 bits": 4,294,967,296 is 2 to the power 32.
 unfoldable pub generated : ℕ → ℕ

@@ -1,8 +1,5 @@
 // The generator, in the form that document 01 names for it: wrapping add with a helper for the product's remainder by two to the 32. And what a step chooses.
-ghost use mathlib.Core.Path.{_≡_};
-ghost use mathlib.Core.Bool.{_&&_};
-ghost use Prim.Native.Nat.{_*_, _%_, _≤_, _<_};
-ghost use lib.Dec.{eqb};
+ghost use Rattle.laws.specs.Basics.{_≡_, _&&_, _*_, _%_, _≤_, _<_, eqb};
 ghost use Rattle.model.specs.Words.{mostProcesses};
 ghost use Rattle.theory_recording.specs.spacing.Spacing.{generated, draw, chosenReceiver, isDue, mostSteps};
 

@@ -1,6 +1,5 @@
 // The numbers of a result.
-ghost use mathlib.Core.Path.{_≡_};
-ghost use Prim.Native.Nat.{_≤_, max};
+ghost use Rattle.laws.specs.Basics.{_≡_, _≤_, max};
 ghost use Rattle.theory_recording.specs.spacing.Spacing.{outOfRange, quotientOf, remainderOf, mostSteps};
 
 // Whether a parameter of a simulation is out of its range.

@@ -1,7 +1,6 @@
 -- `trace::bytes_of` meets its contract, by computation.
 -- Assumes nothing.
-use mathlib.Core.Path.{refl}
-use borrow.Author.Needs.{needs}
+use Rattle.laws.specs.Basics.{refl, needs}
 use Rattle.model.specs.Trace.{bytesOf}
 use Rattle.trace.proofs.bytes_of.Statement.{statement}
 use Rattle.trace.proofs.bytes_of.Tie as tie

@@ -1,8 +1,6 @@
 -- `trace::decode` meets its contract: the test says whether the part has four bytes, and `event_of` the event of its fields.
 -- Assumes nothing.
-use mathlib.Core.Path.{_∙_}
-use borrow.Author.Tests.{eq-eqb, ne-eqb}
-use borrow.Author.Needs.{needs}
+use Rattle.laws.specs.Basics.{_∙_, needs, eq-eqb, ne-eqb}
 use Rattle.model.specs.Trace.{decoded}
 use Rattle.trace.specs.Answers.{eventIn, eventRead}
 use Rattle.trace.proofs.decode.Statement.{statement}

@@ -1,16 +1,8 @@
 -- `trace::encode` meets its contract: the two tests say whether the fields of the event fit, as `fits` does.
 -- Assumes nothing.
-use mathlib.Core.Path.{_≡_, _∙_, ap}
-use mathlib.Core.Bool.{Bool, true, false, _&&_}
-use mathlib.Core.List.{List}
-use Prim.Native.Nat.{ℕ}
-use lib.Dec.{ltb}
-use lib.ListN.{replicate}
-use borrow.Author.Tests.{lt-ltb, le-ltb}
-use borrow.Author.Needs.{needs}
+use Rattle.laws.specs.Basics.{_≡_, _∙_, ap, Bool, true, false, _&&_, List, ℕ, ltb, replicate, needs, lt-ltb, le-ltb}
 use Rattle.laws.specs.Truth.{and-both, and-no-right}
-use Rattle.model.specs.declared.Fields.{Fields}
-use Rattle.model.specs.declared.Event.{Event}
+use Rattle.model.specs.declared.{Fields.Fields, Event.Event}
 use Rattle.model.specs.Trace.{fieldsOf, fits, wordOf, bytesOf, encoded}
 use Rattle.model.proofs.Records.{kind-small}
 use Rattle.trace.specs.Answers.{recordOf}

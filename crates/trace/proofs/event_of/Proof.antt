@@ -1,7 +1,6 @@
 -- `trace::event_of` meets its contract: the arm of the `match` says which case of `eventOf` holds.
 -- Assumes nothing.
-use borrow.Author.Tests.{ne-eqb}
-use borrow.Author.Needs.{needs}
+use Rattle.laws.specs.Basics.{needs, ne-eqb}
 use Rattle.model.specs.Trace.{eventOf}
 use Rattle.trace.specs.Answers.{eventRead}
 use Rattle.trace.proofs.event_of.Statement.{statement}

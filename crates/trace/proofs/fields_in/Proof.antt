@@ -1,6 +1,6 @@
 -- `trace::fields_in` meets its contract: the fields of the word that the bytes are.
 -- Assumes nothing.
-use borrow.Author.Needs.{needs}
+use Rattle.laws.specs.Basics.{needs}
 use Rattle.model.specs.Trace.{fields}
 use Rattle.trace.proofs.fields_in.Statement.{statement}
 use Rattle.trace.proofs.fields_in.Tie as tie

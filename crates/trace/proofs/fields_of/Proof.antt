@@ -1,6 +1,6 @@
 -- `trace::fields_of` meets its contract, by computation in each case.
 -- Assumes nothing.
-use borrow.Author.Needs.{needs}
+use Rattle.laws.specs.Basics.{needs}
 use Rattle.model.specs.Trace.{fieldsOf}
 use Rattle.trace.proofs.fields_of.Statement.{statement}
 use Rattle.trace.proofs.fields_of.Tie as tie

@@ -1,8 +1,6 @@
 -- `trace::if_zero` meets its contract: the test says which case of `ifZero` holds.
 -- Assumes nothing.
-use mathlib.Core.Path.{_≡_, refl, sym}
-use mathlib.Core.Option.{none}
-use Prim.Native.Nat.{ℕ, zero, suc}
+use Rattle.laws.specs.Basics.{_≡_, refl, sym, none, ℕ, zero, suc}
 use Rattle.model.specs.declared.Event.{Event}
 use Rattle.model.specs.Trace.{ifZero}
 use Rattle.trace.specs.Answers.{eventRead}

@@ -1,8 +1,6 @@
 -- `trace::read_fields` meets its contract: the test says whether the part has four bytes.
 -- Assumes nothing.
-use mathlib.Core.Path.{_∙_}
-use borrow.Author.Tests.{eq-eqb, ne-eqb}
-use borrow.Author.Needs.{needs}
+use Rattle.laws.specs.Basics.{_∙_, needs, eq-eqb, ne-eqb}
 use Rattle.trace.specs.Answers.{fieldsRead}
 use Rattle.trace.proofs.read_fields.Statement.{statement}
 use Rattle.trace.proofs.read_fields.Tie as tie

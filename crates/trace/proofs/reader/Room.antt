@@ -1,12 +1,6 @@
 -- Whether a record has room in a trace of n bytes after the first byte and k records: decided without a product that could wrap.
 -- Assumes nothing.
-use mathlib.Core.Path.{_≡_, sym, _∙_}
-use mathlib.Core.Bool.{false}
-use Prim.Native.Nat.{ℕ, _+_, _-_, _*_, _/_, _<_, _≤_}
-use native.Mathlib.Omega.{arith}
-use lib.Dec.{leb}
-use borrow.Author.Tests.{le-leb, lt-leb, leb-true, leb-false}
-use Rattle.laws.specs.Choice.{by-bool}
+use Rattle.laws.specs.Basics.{_≡_, sym, _∙_, false, ℕ, _+_, _-_, _*_, _/_, _≤_, _<_, arith, leb, le-leb, lt-leb, leb-true, leb-false, by-bool}
 
 -- The bytes after k records and the first byte's place among them.
 pub room-counted : (n k : ℕ) → k < n / 4 → leb 5 (n - 4 * k) ≡ leb (1 + 4 * k + 4) n

@@ -1,16 +1,8 @@
 -- A reader hands on the four-byte parts of its trace, in their order, each once, and stops at the left-over bytes.
 -- Assumes nothing.
-use mathlib.Core.Path.{_≡_, refl, sym, _∙_, ap}
-use mathlib.Core.Bool.{Bool, true, false}
-use mathlib.Core.List.{List, [], _∷_, _++_}
-use Prim.Native.Nat.{ℕ, zero, suc, _+_, _*_, _≤_, _<_}
-use native.Mathlib.Omega.{arith}
-use lib.Dec.{eqb}
-use lib.ListN.{length, take, drop, length-drop}
+use Rattle.laws.specs.Basics.{_≡_, refl, sym, _∙_, ap, Bool, true, false, List, [], _∷_, _++_, ℕ, zero, suc, _+_, _*_, _≤_, _<_, arith, eqb, length, take, drop, length-drop, leb-true, leb-false, by-bool}
 use lib.Seq.{drop-drop}
-use borrow.Author.Tests.{leb-true, leb-false}
 use denote.Ref.{RefT, now}
-use Rattle.laws.specs.Choice.{by-bool}
 use Rattle.laws.specs.Tests.{every}
 use Rattle.model.specs.declared.Run.{Run}
 use Rattle.model.specs.Trace.{decoded}

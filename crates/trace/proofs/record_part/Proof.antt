@@ -1,12 +1,7 @@
 -- `trace::record_part` meets its contract: at each `return` the tests that led there say whether four bytes are left.
 -- Assumes nothing.
-use mathlib.Core.Path.{ap}
-use native.Mathlib.Omega.{arith}
+use Rattle.laws.specs.Basics.{ap, ℕ, _+_, arith, length, take, drop, needs, le-leb, lt-leb}
 use native.Mathlib.Nat.{add-sub-cancel-left}
-use Prim.Native.Nat.{ℕ, _+_}
-use lib.ListN.{length, take, drop}
-use borrow.Author.Tests.{le-leb, lt-leb}
-use borrow.Author.Needs.{needs}
 use denote.Ref.{now}
 use Rattle.trace.specs.Answers.{recordAt}
 use Rattle.trace.proofs.record_part.Statement.{statement}

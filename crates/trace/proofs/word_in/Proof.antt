@@ -1,11 +1,6 @@
 -- `trace::word_in` meets its contract: the word of four bytes, written out.
 -- Assumes nothing.
-use mathlib.Core.Path.{_≡_}
-use mathlib.Core.List.{List, [], _∷_}
-use Prim.Native.Nat.{ℕ, _+_, _*_}
-use native.Mathlib.Omega.{arith}
-use lib.ListN.{length, getD}
-use borrow.Author.Needs.{needs}
+use Rattle.laws.specs.Basics.{_≡_, List, [], _∷_, ℕ, _+_, _*_, arith, length, getD, needs}
 use denote.Ref.{now}
 use Rattle.model.specs.Trace.{word}
 use Rattle.trace.proofs.word_in.Statement.{statement}

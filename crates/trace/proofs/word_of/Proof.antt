@@ -1,7 +1,6 @@
 -- `trace::word_of` meets its contract, by computation.
 -- Assumes nothing.
-use mathlib.Core.Path.{refl}
-use borrow.Author.Needs.{needs}
+use Rattle.laws.specs.Basics.{refl, needs}
 use Rattle.model.specs.Trace.{wordOf}
 use Rattle.trace.proofs.word_of.Statement.{statement}
 use Rattle.trace.proofs.word_of.Tie as tie

@@ -1,12 +1,7 @@
 -- What a reader of a trace hands on, and what it is to have read a trace: its records in their order, each once, and the left-over bytes.
 -- Assumes nothing.
-use mathlib.Core.Bool.{Bool}
-use mathlib.Core.List.{List}
-use Prim.Native.Nat.{ℕ, _+_, _*_}
-use lib.Dec.{leb}
-use lib.ListN.{length}
+use Rattle.laws.specs.Basics.{Bool, List, ℕ, _+_, _*_, leb, length, pick}
 use denote.Ref.{RefT, now}
-use Rattle.laws.specs.Choice.{pick}
 use Rattle.trace.specs.Answers.{recordAt}
 use Rattle.trace.specs.declared.reader.Reader.{Reader}
 

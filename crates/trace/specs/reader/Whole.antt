@@ -1,16 +1,9 @@
 -- A whole trace taken record by record: which records a reader hands on, how far it comes, and what this is in the words of the model.
 -- Assumes nothing.
-use mathlib.Core.Bool.{Bool, true}
-use mathlib.Core.List.{List, [], _∷_, _++_}
-use mathlib.Core.Path.{_≡_}
-use Prim.Native.Nat.{ℕ, zero, suc, _+_, _*_, _≤_, _<_}
-use lib.Dec.{eqb, ltb}
-use lib.ListN.{length, drop}
+use Rattle.laws.specs.Basics.{_≡_, Bool, true, List, [], _∷_, _++_, ℕ, zero, suc, _+_, _*_, _≤_, _<_, eqb, ltb, length, drop, pick}
 use denote.Ref.{RefT, now}
-use Rattle.laws.specs.Choice.{pick}
 use Rattle.laws.specs.Tests.{every}
-use Rattle.model.specs.declared.Run.{Run}
-use Rattle.model.specs.declared.Refusal.the-variants.{LeftOverBytes}
+use Rattle.model.specs.declared.{Run.Run, Refusal.the-variants.LeftOverBytes}
 use Rattle.model.specs.Trace.{decoded}
 use Rattle.whole_runs.specs.Listing.{perform, lineText, refusalText, mostRecords, goesOn, records, stateAfterRecords}
 use Rattle.trace.specs.declared.reader.Reader.{Reader}

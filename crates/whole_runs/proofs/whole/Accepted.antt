@@ -1,31 +1,17 @@
 -- An accepted call takes a reached state to a reached state, if its step does what the run as functions does: once for all calls.
 -- Assumes nothing.
-use mathlib.Core.Path.{_≡_, sym, _∙_, ap}
-use mathlib.Core.Option.{none}
-use Prim.Native.Nat.{ℕ, _*_}
-use native.Mathlib.Omega.{arith}
-use lib.ListN.{getD}
-use Rattle.laws.specs.Choice.{by-bool}
+use Rattle.laws.specs.Basics.{_≡_, sym, _∙_, ap, none, ℕ, _*_, arith, getD, by-bool}
 use Rattle.laws.specs.Sums.{sumBelow}
-use Rattle.model.specs.declared.Message.{Message}
-use Rattle.model.specs.declared.Run.{Run}
-use Rattle.model.specs.Words.{process}
-use Rattle.model.specs.Steps.{forces}
+use Rattle.model.specs.declared.{Message.Message, Run.Run}
+use Rattle.model.specs.{Words.process, Steps.forces}
 use Rattle.whole_runs.specs.Outcomes.{checkpointOutcome, sendOutcome, deliverAnswer, deliverOutcome, message, loseOutcome, lineOutcome, recoverOutcome, checkpointReport, sendReport, deliverReport, loseReport, lineReport, recoverReport}
 use Rattle.whole_runs.specs.Calls.{Call, checkpoint, send, deliver, lose, recover, line, Reply, answered, call, earliest}
 use Rattle.whole_runs.specs.Survival.{Surviving, after, accepted, listsAfter, sendsAfter, receiverAfter, underwayAfter, causeOf, storedBy, causeWith, countOf, handedBlocks}
-use Rattle.whole_runs.specs.Earliest.{earliestOutcome}
-use Rattle.whole_runs.specs.Answers.{lentDeletions}
-use Rattle.histories.proofs.Run.{Ideal}
-use Rattle.histories.proofs.Invariant.{Inv}
-use Rattle.histories.proofs.Keeping.{Moved}
-use Rattle.histories.proofs.Memory.{Memory}
-use Rattle.histories.proofs.Counted.{goneIn, newIn, Paid, blocks-over}
+use Rattle.whole_runs.specs.{Earliest.earliestOutcome, Answers.lentDeletions}
+use Rattle.histories.proofs.{Run.Ideal, Invariant.Inv, Keeping.Moved, Memory.Memory, Counted.goneIn, Counted.newIn, Counted.Paid, Counted.blocks-over}
 use Rattle.model.proofs.simulation.View.{stateOf, Limits}
-use Rattle.whole_runs.proofs.whole.Handed.{pairBlocks}
+use Rattle.whole_runs.proofs.{whole.Handed.pairBlocks, whole.Gone.HandsOver, whole.Reached.Reached, whole.Reached.exchange, whole.Reached.refusal}
 use Rattle.whole_runs.proofs.whole.Agreement.{Agrees, Restarted, HandsOut, kept-agrees}
-use Rattle.whole_runs.proofs.whole.Gone.{HandsOver}
-use Rattle.whole_runs.proofs.whole.Reached.{Reached, exchange, refusal}
 
 -- An accepted delivery reports the number 0, whether it forces or not.
 delivery-report : (s : Run) (x : Message) → deliverReport (deliverAnswer s x) .refused ≡ 0

@@ -1,20 +1,10 @@
 -- The surviving history, built from calls and answers alone, agrees with the run as functions: its lists, its sends, whom they named, and which
 -- checkpoints it counts as kept; the block counts, the causes, the blocks written and deleted. Here: what agreement means, and that the checkpoints kept by the pairs handed out stay the pinned ones.
 -- Assumes nothing.
-use mathlib.Core.Path.{_≡_, refl, sym, _∙_, ap}
-use mathlib.Core.Bool.{Bool, true, false, _&&_, _||_, not}
-use Prim.Native.Nat.{ℕ, _+_, _<_}
-use lib.Dec.{ltb, leb}
-use borrow.Author.Tests.{lt-ltb, ltb-true, leb-true, leb-false}
+use Rattle.laws.specs.Basics.{_≡_, refl, sym, _∙_, ap, Bool, true, false, not, _&&_, _||_, ℕ, _+_, _<_, ltb, leb, lt-ltb, ltb-true, leb-true, leb-false}
 use Rattle.histories.specs.History.{Lists, checkpoints}
-use Rattle.whole_runs.specs.Calls.{Reply}
-use Rattle.whole_runs.specs.Survival.{Surviving, handedOut, keptAfter}
-use Rattle.histories.proofs.Run.{Ideal, keeps}
-use Rattle.histories.proofs.Invariant.{Inv}
-use Rattle.histories.proofs.Memory.{Memory}
-use Rattle.histories.proofs.Standing.{Standing}
-use Rattle.histories.proofs.Line.{keeps-below}
-use Rattle.histories.proofs.Keeping.{Moved, moved-new}
+use Rattle.whole_runs.specs.{Calls.Reply, Survival.Surviving, Survival.handedOut, Survival.keptAfter}
+use Rattle.histories.proofs.{Run.Ideal, Run.keeps, Invariant.Inv, Memory.Memory, Standing.Standing, Line.keeps-below, Keeping.Moved, Keeping.moved-new}
 use Rattle.histories.proofs.Counted.{keptIn}
 
 -- The history h tells of the run r what r itself holds.

@@ -1,43 +1,25 @@
 -- Each answer in a transcript is right, judged by the surviving history before it: the clauses of specs/Answers put together, for one call.
 -- Assumes nothing.
-use mathlib.Core.Path.{_≡_, sym, _∙_}
-use mathlib.Core.Bool.{true}
-use mathlib.Core.List.{List, List·Memᴰ}
-use mathlib.Core.Option.{Option, none, some}
-use Prim.Native.Nat.{ℕ, _^_, _<_}
-use native.Mathlib.Omega.{arith}
-use lib.ListN.{length, getD}
-use borrow.Author.Tests.{eqb-false, lt-ltb, ltb-true}
-use Rattle.laws.specs.Front.{getD-written}
-use Rattle.laws.specs.Lists.{table}
-use Rattle.laws.specs.Tables.{length-table, getD-table}
-use Rattle.model.specs.declared.Named.{Named}
-use Rattle.model.specs.declared.Refusal.{Refusal}
+use Rattle.laws.specs.Basics.{_≡_, sym, _∙_, true, List, Option, none, some, ℕ, _^_, _<_, arith, length, getD, eqb-false, lt-ltb, ltb-true}
+use mathlib.Core.List.{List·Memᴰ}
+use Rattle.laws.specs.{Front.getD-written, Lists.table, Tables.length-table, Tables.getD-table}
+use Rattle.model.specs.declared.{Named.Named, Refusal.Refusal}
 use Rattle.histories.specs.History.{Line, Consistent}
-use Rattle.model.specs.Refusals.{number}
-use Rattle.model.specs.laws.Refusals.{by-refusal}
-use Rattle.whole_runs.specs.Earliest.{greatest, someOrdered, earliestRefusal}
+use Rattle.model.specs.{Refusals.number, laws.Refusals.by-refusal}
+use Rattle.whole_runs.specs.{Earliest.greatest, Earliest.someOrdered, Earliest.earliestRefusal, Survival.Surviving, Survival.after}
 use Rattle.whole_runs.specs.Calls.{Call, checkpoint, send, deliver, lose, recover, line, earliest, answered, call}
-use Rattle.whole_runs.specs.Survival.{Surviving, after}
 use Rattle.whole_runs.specs.Answers.{lowest, reasons, failedSet, gonePairs, SentSince, BringsNewsOf, BringsNews, Forces, RightRisen, RightLine, AllKept, SomeOrdered, Through, RightEarliest, NoneThrough, AnswerIsRight}
 use Rattle.whole_runs.specs.WholeRuns.{reported, LineIsRight}
-use Rattle.histories.proofs.Run.{Ideal, forces}
-use Rattle.histories.proofs.Invariant.{Inv}
-use Rattle.histories.proofs.Memory.{Memory}
+use Rattle.histories.proofs.{Run.Ideal, Run.forces, Invariant.Inv, Memory.Memory}
 use Rattle.histories.proofs.Knowledge.{Since, NewsOf, News, newer-news, news-newer, forced-since, forced-news, news-forces}
-use Rattle.model.proofs.simulation.View.{stateOf, Limits}
-use Rattle.model.proofs.simulation.Reads.{count-is}
+use Rattle.model.proofs.{simulation.View.stateOf, simulation.View.Limits, simulation.Reads.count-is}
 use Rattle.model.proofs.simulation.Risen.{rose-small, rose-is, rose-past}
 use Rattle.model.proofs.simulation.SoundCalls.{deliver-run, line-run, recover-run}
-use Rattle.whole_runs.proofs.whole.EarliestLine.{earliest-out}
-use Rattle.whole_runs.proofs.whole.Agreement.{Agrees}
-use Rattle.whole_runs.proofs.whole.Accepted.{Step, accepted-report, step-agrees}
+use Rattle.whole_runs.proofs.{whole.EarliestLine.earliest-out, whole.Agreement.Agrees, whole.Gone.goneAll, whole.Gone.gone-agrees, whole.Runs.stepped}
+use Rattle.whole_runs.proofs.{whole.Accepted.Step, whole.Accepted.accepted-report, whole.Accepted.step-agrees, whole.LineRight.same-line}
 use Rattle.whole_runs.proofs.whole.Earliest.{ordered-in, ordered-out, refused-none, earliest-right}
-use Rattle.whole_runs.proofs.whole.Gone.{goneAll, gone-agrees}
-use Rattle.whole_runs.proofs.whole.LineRight.{same-line}
 use Rattle.whole_runs.proofs.whole.Reached.{exchange, refusal, refused-number, refused-report}
 use Rattle.whole_runs.proofs.whole.Refused.{reports-number, numberOf, forcingOf, orderedOf, number-right}
-use Rattle.whole_runs.proofs.whole.Runs.{stepped}
 use Rattle.whole_runs.proofs.whole.Values.{refused-reply, value-right, deliver-rose, others-rose, line-list-right, earliest-written, earliest-room}
 
 -- A refused call does not report the number 0.

@@ -1,24 +1,14 @@
 -- The reason for the next checkpoint changes nothing else: the state that stands for a run, its limits, the history that agrees with it, and what a step
 -- from it does are as before.
 -- Assumes nothing.
-use mathlib.Core.Path.{_≡_, refl, sym, subst}
-use mathlib.Core.List.{List}
-use mathlib.Core.Option.{none}
-use Prim.Native.Nat.{ℕ}
+use Rattle.laws.specs.Basics.{_≡_, refl, sym, subst, List, none, ℕ}
 use Rattle.model.specs.declared.Run.{Run}
-use Rattle.model.specs.Words.{basic, forced}
-use Rattle.model.specs.Refusals.{checkpointRefusal, deliverRefusal}
-use Rattle.whole_runs.specs.Calls.{Call, checkpoint, deliver}
-use Rattle.whole_runs.specs.Survival.{Surviving}
-use Rattle.histories.proofs.Run.{Ideal, because, keeps, checkpointed, delivered}
-use Rattle.histories.proofs.Invariant.{Inv}
-use Rattle.histories.proofs.Ledger.{ledger-inv}
-use Rattle.histories.proofs.Memory.{Memory}
+use Rattle.model.specs.{Words.basic, Words.forced, Refusals.checkpointRefusal, Refusals.deliverRefusal}
+use Rattle.whole_runs.specs.{Calls.Call, Calls.checkpoint, Calls.deliver, Survival.Surviving}
+use Rattle.histories.proofs.{Run.Ideal, Run.because, Run.keeps, Run.checkpointed, Run.delivered, Invariant.Inv, Ledger.ledger-inv, Memory.Memory}
 use Rattle.histories.proofs.Counted.{keptIn, goneIn, newIn}
 use Rattle.model.proofs.simulation.View.{pinsOf, checkpointOf, keptOf, processOf, messageOf, messagesOf, diskOf, partsOf, stateOf, Fits, Limits}
-use Rattle.whole_runs.proofs.whole.Agreement.{Agrees, HandsOut}
-use Rattle.whole_runs.proofs.whole.Accepted.{Step}
-use Rattle.whole_runs.proofs.whole.Gone.{gonePart, goneAll}
+use Rattle.whole_runs.proofs.{whole.Agreement.Agrees, whole.Agreement.HandsOut, whole.Accepted.Step, whole.Gone.gonePart, whole.Gone.goneAll}
 use Rattle.whole_runs.proofs.whole.Steps.{checkpoint-step, deliver-step}
 
 module _ (why : ℕ) (r : Ideal) where

@@ -1,28 +1,15 @@
 -- The blocks of a reached state are right: what the state carries is what the history says, the sum holds, and each kept checkpoint records its cause and its
 -- process's block count.
 -- Assumes nothing.
-use mathlib.Core.Path.{_≡_, sym, _∙_, ap}
-use mathlib.Core.Bool.{true, _&&_}
-use Prim.Native.Nat.{ℕ, _-_, _*_, _<_}
-use native.Mathlib.Omega.{arith}
-use lib.Dec.{eqb}
-use borrow.Author.Tests.{eq-eqb}
-use Rattle.laws.specs.Counting.{count-same}
-use Rattle.laws.specs.Sums.{sumBelow, sum-same}
-use Rattle.laws.specs.Tests.{countBelow, every}
-use Rattle.laws.specs.Truth.{and-both}
-use Rattle.model.specs.declared.Disk.{Disk}
-use Rattle.model.specs.declared.Run.{Run}
+use Rattle.laws.specs.Basics.{_≡_, sym, _∙_, ap, true, _&&_, ℕ, _-_, _*_, _<_, arith, eqb, eq-eqb}
+use Rattle.laws.specs.{Counting.count-same, Sums.sumBelow, Sums.sum-same, Tests.countBelow, Tests.every, Truth.and-both}
+use Rattle.model.specs.declared.{Disk.Disk, Run.Run}
 use Rattle.model.specs.Words.{process}
 use Rattle.histories.specs.History.{Lists, checkpoints}
-use Rattle.whole_runs.specs.Survival.{Surviving}
-use Rattle.whole_runs.specs.WholeRuns.{BlocksAreRight}
-use Rattle.histories.proofs.Run.{Ideal, keeps}
-use Rattle.histories.proofs.Counted.{keptIn}
-use Rattle.model.proofs.simulation.View.{checkpointOf, diskOf, stateOf, processOf}
-use Rattle.model.proofs.simulation.Reads.{disk-is, process-is}
-use Rattle.model.proofs.simulation.Kept.{kept-every}
-use Rattle.model.proofs.simulation.Billing.{stored-blocks, stored-cause}
+use Rattle.whole_runs.specs.{Survival.Surviving, WholeRuns.BlocksAreRight}
+use Rattle.histories.proofs.{Run.Ideal, Run.keeps, Counted.keptIn}
+use Rattle.model.proofs.{simulation.View.checkpointOf, simulation.View.diskOf, simulation.View.stateOf, simulation.View.processOf, simulation.Kept.kept-every}
+use Rattle.model.proofs.{simulation.Reads.disk-is, simulation.Reads.process-is, simulation.Billing.stored-blocks, simulation.Billing.stored-cause}
 use Rattle.model.proofs.simulation.SoundCalls.{written-is}
 use Rattle.whole_runs.proofs.whole.Reached.{Reached}
 

@@ -1,38 +1,18 @@
 -- Note 8 by the surviving history: which checkpoints are kept, whether one of two comes before the other, the line of an accepted call, and that 20 is given only
 -- where no consistent line passes through all named ones.
 -- Assumes nothing.
-use mathlib.Core.Path.{_≡_, refl, sym, _∙_}
-use mathlib.Core.Bool.{Bool, true, false, not}
-use mathlib.Core.List.{List}
-use mathlib.Core.Option.{Option, none, some}
-use Prim.Native.Nat.{ℕ, _≤_, _<_}
-use native.Mathlib.Omega.{arith}
-use lib.Dec.{ltb, leb}
-use lib.ListN.{length}
-use borrow.Author.Tests.{lt-ltb, ltb-true, leb-false, not-false}
-use Rattle.laws.specs.Choice.{by-bool}
-use Rattle.laws.specs.Members.{some-in, some-out, none-of}
-use Rattle.laws.specs.Tests.{some-of}
-use Rattle.model.specs.declared.Named.{Named}
-use Rattle.model.specs.declared.Refusal.{Refusal}
-use Rattle.model.specs.declared.Refusal.the-variants.{CausallyOrdered}
-use Rattle.model.specs.Words.{mostProcesses, comesBefore, entry}
-use Rattle.model.specs.Refusals.{number}
+use Rattle.laws.specs.Basics.{_≡_, refl, sym, _∙_, Bool, true, false, not, List, Option, none, some, ℕ, _≤_, _<_, arith, ltb, leb, length, lt-ltb, ltb-true, leb-false, not-false, by-bool}
+use Rattle.laws.specs.{Members.some-in, Members.some-out, Members.none-of, Tests.some-of}
+use Rattle.model.specs.declared.{Named.Named, Refusal.Refusal, Refusal.the-variants.CausallyOrdered}
+use Rattle.model.specs.{Words.mostProcesses, Words.comesBefore, Words.entry, Refusals.number}
 use Rattle.whole_runs.specs.Earliest.{namedVector, greatest, someAbsent, unfit, someOrdered, earliestRefusal}
-use Rattle.whole_runs.specs.Calls.{earliest}
-use Rattle.whole_runs.specs.Survival.{Surviving}
+use Rattle.whole_runs.specs.{Calls.earliest, Survival.Surviving, WholeRuns.EarliestIsRight}
 use Rattle.whole_runs.specs.Answers.{lowest, reasons, AllKept, SomeOrdered, Through, RightEarliest, NoneThrough}
-use Rattle.whole_runs.specs.WholeRuns.{EarliestIsRight}
-use Rattle.histories.proofs.Run.{Ideal}
-use Rattle.histories.proofs.Invariant.{Inv}
-use Rattle.histories.proofs.Memory.{Memory}
-use Rattle.histories.proofs.Knowledge.{stored-less, stored-knows}
+use Rattle.histories.proofs.{Run.Ideal, Invariant.Inv, Memory.Memory, Knowledge.stored-less, Knowledge.stored-knows}
 use Rattle.histories.proofs.Earliest.{earliest-within, earliest-through, earliest-consistent, earliest-least, consistent-unordered}
-use Rattle.model.proofs.simulation.View.{stateOf, Limits}
-use Rattle.model.proofs.simulation.Reads.{count-is}
+use Rattle.model.proofs.{simulation.View.stateOf, simulation.View.Limits, simulation.Reads.count-is}
 use Rattle.whole_runs.proofs.whole.EarliestLine.{Stored, earliest-out, named-kept, inside, below, entry-of, Chosen, named-topped}
-use Rattle.whole_runs.proofs.whole.Agreement.{Agrees}
-use Rattle.whole_runs.proofs.whole.Refused.{numberOf, live-is, earliest-number}
+use Rattle.whole_runs.proofs.{whole.Agreement.Agrees, whole.Refused.numberOf, whole.Refused.live-is, whole.Refused.earliest-number}
 
 -- Where 20 is the lowest number, all are processes of the run and kept, and one of two comes before the other.
 lowest-ordered : (n : ℕ) (h : Surviving) (b o : Bool) (l : List Named) (lent : List ℕ) → lowest (reasons n h b o (earliest l lent)) ≡ 20

@@ -1,35 +1,17 @@
 -- Note 8 on the state that stands for a run: what an accepted call for named checkpoints says of the run, and the line that it writes.
 -- Assumes nothing.
-use mathlib.Core.Path.{_≡_, refl, sym, _∙_, ap}
-use mathlib.Core.Bool.{Bool, true, false, _&&_, _||_}
-use mathlib.Core.List.{List, [], _∷_, List·Memᴰ, List·Memᴰ·head, List·Memᴰ·tail, List·Memᴰ·cases-cons, List·Memᴰ·not-nil}
-use mathlib.Core.Logic.{inl, inr}
-use mathlib.Core.Option.{Option, none, some, Option·map}
-use Prim.Native.Nat.{ℕ, _≤_, _<_}
-use native.Mathlib.Omega.{arith}
-use lib.Dec.{eqb, ltb, leb}
-use lib.ListN.{length}
-use borrow.Author.Tests.{eq-eqb, ne-eqb, eqb-false, leb-true, leb-false, ltb-false, not-false}
-use Rattle.laws.specs.Choice.{by-bool}
-use Rattle.laws.specs.Lists.{select, orElse, lastOf}
-use Rattle.laws.specs.Members.{none-of}
-use Rattle.laws.specs.Search.{latest-is}
-use Rattle.laws.specs.Tests.{some-of}
-use Rattle.laws.specs.Truth.{and-both, and-no-right}
-use Rattle.model.specs.declared.Checkpoint.{Checkpoint}
-use Rattle.model.specs.declared.Named.{Named}
-use Rattle.model.specs.declared.Run.{Run}
+use Rattle.laws.specs.Basics.{_≡_, refl, sym, _∙_, ap, Bool, true, false, _&&_, _||_, List, [], _∷_, Option, none, some, inl, inr, ℕ, _≤_, _<_, arith, eqb, ltb, leb, length, eq-eqb, ne-eqb, eqb-false, ltb-false, leb-true, leb-false, not-false, by-bool}
+use mathlib.Core.List.{List·Memᴰ, List·Memᴰ·head, List·Memᴰ·tail, List·Memᴰ·cases-cons, List·Memᴰ·not-nil}
+use mathlib.Core.Option.{Option·map}
+use Rattle.laws.specs.{Lists.select, Lists.orElse, Lists.lastOf, Members.none-of, Search.latest-is, Tests.some-of, Truth.and-both, Truth.and-no-right}
+use Rattle.model.specs.declared.{Checkpoint.Checkpoint, Named.Named, Run.Run}
 use Rattle.model.specs.Words.{mostProcesses, entry, comesBefore, noCheckpoint, Process, process, keepsIn}
 use Rattle.model.specs.laws.Refusals.{no-rule}
 use Rattle.whole_runs.specs.Earliest.{isNamed, namedVector, greatest, someAbsent, repeats, unfit, notKept, someOrdered, earliestRefusal}
-use Rattle.histories.proofs.Run.{Ideal, keeps}
-use Rattle.histories.proofs.Invariant.{Inv}
-use Rattle.histories.proofs.Line.{keeps-below}
-use Rattle.histories.proofs.Earliest.{Topped}
+use Rattle.histories.proofs.{Run.Ideal, Run.keeps, Invariant.Inv, Line.keeps-below, Earliest.Topped}
 use Rattle.model.proofs.simulation.View.{vectorOf, checkpointOf, keptOf, processOf, stateOf}
-use Rattle.model.proofs.simulation.Passing.{select-passing, last-passing}
+use Rattle.model.proofs.{simulation.Passing.select-passing, simulation.Passing.last-passing, simulation.Kept.kept-holds}
 use Rattle.model.proofs.simulation.Reads.{entry-is, count-is, process-is}
-use Rattle.model.proofs.simulation.Kept.{kept-holds}
 
 -- The greatest entry: none is above it, and it is one of them.
 greatest-above : (s : Run) (l : List Named) (c : Named) (p : ℕ) → List·Memᴰ c l → entry (namedVector s c) p .0 ≤ greatest s l p

@@ -1,35 +1,18 @@
 -- The pairs in the deletion list of an accepted call: the checkpoints kept before and not after, by process, then index, each once, the rest as lent.
 -- Assumes nothing.
-use mathlib.Core.Path.{_≡_, refl, sym, _∙_, ap}
-use mathlib.Core.Bool.{Bool, true, false, _&&_, not}
-use mathlib.Core.List.{List, [], _∷_, _++_, append-nil}
-use Prim.Native.Nat.{ℕ, zero, suc, _*_, _≤_, _<_}
-use native.Mathlib.Omega.{arith}
-use lib.ListN.{length}
-use Rattle.laws.specs.Choice.{pick, by-bool, by-eq}
-use Rattle.laws.specs.Front.{written-front}
-use Rattle.laws.specs.Lists.{gather}
-use Rattle.laws.specs.Select.{map-append}
-use Rattle.laws.specs.Tables.{gather-same}
+use Rattle.laws.specs.Basics.{_≡_, refl, sym, _∙_, ap, Bool, true, false, not, _&&_, List, [], _∷_, _++_, append-nil, ℕ, zero, suc, _*_, _≤_, _<_, arith, length, pick, by-bool, by-eq}
+use Rattle.laws.specs.{Front.written-front, Lists.gather, Select.map-append, Tables.gather-same}
 use Rattle.model.specs.Words.{mostProcesses, basic, forced, failed}
 use Rattle.model.specs.Steps.{Deletion, listed, checkpointDeletions, deliverDeletions, recoverDeletions}
 use Rattle.histories.specs.History.{Lists, checkpoints}
-use Rattle.whole_runs.specs.Outcomes.{pairs}
-use Rattle.whole_runs.specs.Calls.{Reply}
-use Rattle.whole_runs.specs.Survival.{Surviving}
-use Rattle.whole_runs.specs.Answers.{liveOf, atFront, gonePairs}
-use Rattle.histories.proofs.Run.{Ideal, keeps, checkpointed, delivered, recovered}
-use Rattle.histories.proofs.Invariant.{Inv}
+use Rattle.whole_runs.specs.{Outcomes.pairs, Calls.Reply, Survival.Surviving, Answers.liveOf, Answers.atFront, Answers.gonePairs}
+use Rattle.histories.proofs.{Run.Ideal, Run.keeps, Run.checkpointed, Run.delivered, Run.recovered, Invariant.Inv}
 use Rattle.histories.proofs.CheckpointedViews.{checkpointed-n, checkpointed-pin-row}
-use Rattle.model.proofs.simulation.View.{passing, checkpointOf, messageOf, stateOf}
-use Rattle.model.proofs.simulation.Rows.{keeps-same}
-use Rattle.model.proofs.simulation.Checkpoint.{checkpoint-deletions}
-use Rattle.model.proofs.simulation.Deliver.{deliver-deletions, deliver-keeps-other}
-use Rattle.model.proofs.simulation.Recover.{recover-deletions}
-use Rattle.model.proofs.simulation.Kept.{kept-most}
-use Rattle.whole_runs.proofs.whole.Pairs.{length-pairs}
+use Rattle.model.proofs.{simulation.View.passing, simulation.View.checkpointOf, simulation.View.messageOf, simulation.View.stateOf, simulation.Rows.keeps-same}
+use Rattle.model.proofs.{simulation.Checkpoint.checkpoint-deletions, simulation.Deliver.deliver-deletions, simulation.Deliver.deliver-keeps-other}
+use Rattle.model.proofs.{simulation.Recover.recover-deletions, simulation.Kept.kept-most}
+use Rattle.whole_runs.proofs.{whole.Pairs.length-pairs, whole.Agreement.Agrees}
 use Rattle.whole_runs.proofs.whole.Handed.{Answers, gone, listed-length, gather-length, room-one}
-use Rattle.whole_runs.proofs.whole.Agreement.{Agrees}
 
 -- Lists in a row of which all are empty, or all but one.
 gather-none : {A : Type 0} (n : ℕ) (f : ℕ → List A) → ((k : ℕ) → k < n → f k ≡ []) → gather n f ≡ []

@@ -1,39 +1,21 @@
 -- What checkpoint, deliver and recover hand out on a state that stands for a run: the checkpoints that were kept and are kept no more.
 -- And the lent list has room for them where each process keeps at most n.
-use mathlib.Core.Path.{_≡_, refl, sym, _∙_, ap}
-use mathlib.Core.Bool.{Bool, false, _&&_, not}
-use mathlib.Core.List.{List, [], _∷_, _++_}
-use Prim.Native.Nat.{ℕ, zero, suc, _+_, _*_, _≤_, _<_}
+use Rattle.laws.specs.Basics.{_≡_, refl, sym, _∙_, ap, Bool, false, not, _&&_, List, [], _∷_, _++_, ℕ, zero, suc, _+_, _*_, _≤_, _<_, arith, eqb, ltb, length, getD, length-append, eq-eqb, ne-eqb, eqb-true, lt-ltb, leb-true, by-bool, by-eq}
 use native.Mathlib.Nat.{add-mul, le-mul-of-pos-right}
-use native.Mathlib.Omega.{arith}
-use lib.Dec.{eqb, ltb}
-use lib.ListN.{length, getD, length-append, length-map}
-use borrow.Author.Tests.{lt-ltb, leb-true, eq-eqb, ne-eqb, eqb-true}
-use Rattle.laws.specs.Choice.{by-bool, by-eq}
-use Rattle.laws.specs.Elements.{same-test}
-use Rattle.laws.specs.Lists.{gather}
-use Rattle.laws.specs.Ranges.{any-only}
-use Rattle.laws.specs.Search.{any-in, any-out}
-use Rattle.laws.specs.Select.{some-map, some-gather}
-use Rattle.laws.specs.Sums.{sumBelow, sum-same}
-use Rattle.laws.specs.Tests.{countBelow, some-of}
+use lib.ListN.{length-map}
+use Rattle.laws.specs.{Elements.same-test, Lists.gather, Ranges.any-only, Search.any-in, Search.any-out, Select.some-map, Select.some-gather}
+use Rattle.laws.specs.{Sums.sumBelow, Sums.sum-same, Tests.countBelow, Tests.some-of}
 use Rattle.laws.specs.Truth.{never-both, and-left, and-right, and-both, and-no-right}
 use Rattle.model.specs.declared.Checkpoint.{Checkpoint}
 use Rattle.model.specs.Words.{basic, forced, mostProcesses, failed}
 use Rattle.model.specs.Steps.{Deletion, listed, checkpointDeletions, deliverDeletions, recoverDeletions}
-use Rattle.whole_runs.specs.Outcomes.{pairs, written}
-use Rattle.whole_runs.specs.Calls.{Reply}
-use Rattle.whole_runs.specs.Survival.{handedOut}
-use Rattle.histories.proofs.Run.{Ideal, keeps, checkpointed, delivered, recovered}
-use Rattle.histories.proofs.Invariant.{Inv}
-use Rattle.histories.proofs.Line.{keeps-below}
+use Rattle.whole_runs.specs.{Outcomes.pairs, Outcomes.written, Calls.Reply, Survival.handedOut}
+use Rattle.histories.proofs.{Run.Ideal, Run.keeps, Run.checkpointed, Run.delivered, Run.recovered, Invariant.Inv, Line.keeps-below}
 use Rattle.histories.proofs.Counted.{goneIn, gone-one}
 use Rattle.model.proofs.simulation.View.{passing, checkpointOf, keptOf, messageOf, stateOf}
-use Rattle.model.proofs.simulation.Passing.{some-passing, length-passing}
-use Rattle.model.proofs.simulation.Kept.{kept-most}
+use Rattle.model.proofs.{simulation.Passing.some-passing, simulation.Passing.length-passing, simulation.Kept.kept-most, simulation.Recover.recover-deletions}
 use Rattle.model.proofs.simulation.Checkpoint.{checkpoint-deletions, checkpoint-keeps-other}
 use Rattle.model.proofs.simulation.Deliver.{deliver-deletions, deliver-keeps-other}
-use Rattle.model.proofs.simulation.Recover.{recover-deletions}
 use Rattle.whole_runs.proofs.whole.Pairs.{deletes, handed-out, weigh, handed-weight}
 
 -- Some deletion of a process's checkpoints that pass a test is the one of k: k is below the bound and passes.

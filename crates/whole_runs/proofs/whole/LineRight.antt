@@ -1,39 +1,16 @@
 -- The reported line of a reached state is right: both calls are accepted and write it; it is consistent by the messages of the surviving history;
 -- nothing later is; its members are live and not failed, or kept.
 -- Assumes nothing.
-use mathlib.Core.Path.{_≡_, refl, sym, _∙_, ap}
-use mathlib.Core.Bool.{true, false, _||_}
-use mathlib.Core.List.{List}
-use mathlib.Core.Logic.{_⊎_, inl, inr}
-use mathlib.Core.Option.{none, some}
-use Prim.Native.Nat.{ℕ, _*_, _^_, _≤_, _<_}
-use native.Mathlib.Omega.{arith}
-use lib.Dec.{ltb}
-use lib.ListN.{length, getD}
-use borrow.Author.Tests.{lt-ltb, ltb-true, ltb-false}
-use Rattle.laws.specs.Choice.{by-bool}
-use Rattle.laws.specs.Front.{getD-written}
-use Rattle.laws.specs.Lists.{table}
-use Rattle.laws.specs.Tables.{length-table, getD-table}
-use Rattle.laws.specs.Truth.{or-left, or-in-right}
-use Rattle.model.specs.declared.Run.{Run}
-use Rattle.model.specs.declared.Refusal.the-variants.{ListTooShort}
-use Rattle.model.specs.Words.{failed}
-use Rattle.model.specs.Steps.{lineOf}
-use Rattle.model.specs.Sound.{sound}
+use Rattle.laws.specs.Basics.{_≡_, refl, sym, _∙_, ap, true, false, _||_, List, none, some, _⊎_, inl, inr, ℕ, _*_, _^_, _≤_, _<_, arith, ltb, length, getD, lt-ltb, ltb-true, ltb-false, by-bool}
+use Rattle.laws.specs.{Front.getD-written, Lists.table, Tables.length-table, Tables.getD-table, Truth.or-left, Truth.or-in-right}
+use Rattle.model.specs.declared.{Run.Run, Refusal.the-variants.ListTooShort}
+use Rattle.model.specs.{Words.failed, Steps.lineOf, Sound.sound, laws.Refusals.refusal-in}
 use Rattle.histories.specs.History.{Lists, Line, checkpoints, Consistent}
 use Rattle.model.specs.Refusals.{shortDeletions, shortLine, noMember, lineRefusal, recoverRefusal}
-use Rattle.model.specs.laws.Refusals.{refusal-in}
-use Rattle.whole_runs.specs.Outcomes.{lineOutcome, recoverOutcome}
-use Rattle.whole_runs.specs.Survival.{Surviving}
-use Rattle.whole_runs.specs.Answers.{RightLine}
+use Rattle.whole_runs.specs.{Outcomes.lineOutcome, Outcomes.recoverOutcome, Survival.Surviving, Answers.RightLine}
 use Rattle.whole_runs.specs.WholeRuns.{reported, LineIsRight}
-use Rattle.histories.proofs.Run.{Ideal, line}
-use Rattle.histories.proofs.Invariant.{Inv}
-use Rattle.histories.proofs.Line.{line-le, line-consistent, failed-back, below-kept}
-use Rattle.histories.proofs.Maximal.{line-maximal}
-use Rattle.model.proofs.Precedence.{rule-by-precedence}
-use Rattle.model.proofs.simulation.Accepted.{line-in, recover-in}
+use Rattle.histories.proofs.{Run.Ideal, Run.line, Invariant.Inv, Line.line-le, Line.line-consistent, Line.failed-back, Line.below-kept, Maximal.line-maximal}
+use Rattle.model.proofs.{Precedence.rule-by-precedence, simulation.Accepted.line-in, simulation.Accepted.recover-in}
 use Rattle.whole_runs.proofs.whole.Agreement.{Agrees}
 
 -- A list that is too short is the first thing that is refused of a sound state.

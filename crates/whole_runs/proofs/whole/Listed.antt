@@ -1,24 +1,13 @@
 -- The lists, the sends and the named receivers of the surviving history after an accepted call are those of the run as functions after its step.
 -- Assumes nothing.
-use mathlib.Core.Path.{_≡_, refl, sym, _∙_, ap, fun-ext}
-use mathlib.Core.Bool.{true, false}
-use mathlib.Core.List.{List}
-use mathlib.Core.Option.{none, some}
-use Prim.Native.Nat.{ℕ, _≤_, _<_}
+use Rattle.laws.specs.Basics.{_≡_, refl, sym, _∙_, ap, fun-ext, true, false, List, none, some, ℕ, _≤_, _<_, arith, ltb, getD, ltb-true, ltb-false, by-bool}
 use native.Mathlib.Numerals.{add-one}
-use native.Mathlib.Omega.{arith}
-use lib.Dec.{ltb}
-use lib.ListN.{getD}
-use borrow.Author.Tests.{ltb-true, ltb-false}
-use Rattle.laws.specs.Choice.{by-bool}
 use Rattle.laws.specs.Update.{upd}
 use Rattle.histories.specs.History.{Lists, checkpoints}
 use Rattle.whole_runs.specs.Calls.{checkpoint, send, deliver, Reply}
 use Rattle.whole_runs.specs.Survival.{Surviving, added, forcedFirst, cut, listsAfter, sendsAfter, receiverAfter, underwayAfter, causeWith, countOf}
 use Rattle.histories.proofs.Run.{Ideal, Failed, stores, checkpointed, sending, forces, takenIn, takenBy, delivered, recovered, rolled, line}
-use Rattle.histories.proofs.Invariant.{Inv}
-use Rattle.histories.proofs.Rule.{safe-in}
-use Rattle.histories.proofs.Line.{line-judged}
+use Rattle.histories.proofs.{Invariant.Inv, Rule.safe-in, Line.line-judged}
 use Rattle.whole_runs.proofs.whole.Agreement.{Agrees}
 
 module _ (n : ℕ) (h : Surviving) (r : Ideal) (g : Agrees h r) where

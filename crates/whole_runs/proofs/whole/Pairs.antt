@@ -1,23 +1,10 @@
 -- Deletions as pairs in a lent list: which pairs an answer hands out, and how many there can be.
 -- Assumes nothing.
-use mathlib.Core.Path.{_≡_, refl, sym, _∙_, ap}
-use mathlib.Core.Bool.{Bool, _&&_}
-use mathlib.Core.List.{List, [], _∷_}
-use Prim.Native.Nat.{ℕ, zero, suc, _+_, _*_, _≤_, _<_}
+use Rattle.laws.specs.Basics.{_≡_, refl, sym, _∙_, ap, Bool, _&&_, List, [], _∷_, ℕ, zero, suc, _+_, _*_, _≤_, _<_, arith, eqb, length, getD}
 use native.Mathlib.Nat.{not-suc-le-zero}
-use native.Mathlib.Omega.{arith}
-use lib.Dec.{eqb}
-use lib.ListN.{length, getD}
-use Rattle.laws.specs.Front.{getD-written}
-use Rattle.laws.specs.Ranges.{any-same}
-use Rattle.laws.specs.Select.{some-table}
-use Rattle.laws.specs.Sums.{sumBelow, sum-same, sum-front}
-use Rattle.laws.specs.Tables.{table-is}
-use Rattle.laws.specs.Tests.{some-of}
+use Rattle.laws.specs.{Front.getD-written, Ranges.any-same, Select.some-table, Sums.sumBelow, Sums.sum-same, Sums.sum-front, Tables.table-is, Tests.some-of}
 use Rattle.model.specs.Steps.{Deletion}
-use Rattle.whole_runs.specs.Outcomes.{pairs, written}
-use Rattle.whole_runs.specs.Calls.{Reply}
-use Rattle.whole_runs.specs.Survival.{handedOut}
+use Rattle.whole_runs.specs.{Outcomes.pairs, Outcomes.written, Calls.Reply, Survival.handedOut}
 
 -- A deletion is that of checkpoint k of process p.
 abbrev pub deletes : ℕ → ℕ → Deletion → Bool

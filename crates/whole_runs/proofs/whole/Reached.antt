@@ -1,24 +1,14 @@
 -- A state and a surviving history that a list of calls from a start reaches: there is a run as functions for which the state stands and with which
 -- the history agrees. Here: the start, and that a refused call changes nothing.
 -- Assumes nothing.
-use mathlib.Core.Path.{_≡_}
-use mathlib.Core.Bool.{false}
-use mathlib.Core.Option.{Option, some}
-use Prim.Native.Nat.{ℕ}
-use native.Mathlib.Omega.{arith}
-use lib.Dec.{eqb}
-use borrow.Author.Tests.{ne-eqb}
-use Rattle.model.specs.declared.Run.{Run}
-use Rattle.model.specs.declared.Refusal.{Refusal}
+use Rattle.laws.specs.Basics.{_≡_, false, Option, some, ℕ, arith, eqb, ne-eqb}
+use Rattle.model.specs.declared.{Run.Run, Refusal.Refusal}
 use Rattle.model.specs.Refusals.{number, checkpointRefusal, sendRefusal, deliverRefusal, loseRefusal, lineRefusal, recoverRefusal}
 use Rattle.model.specs.laws.Refusals.{number-range}
 use Rattle.whole_runs.specs.Outcomes.{checkpointOutcome, sendOutcome, deliverOutcome, loseOutcome, lineOutcome, recoverOutcome, checkpointReport, sendReport, deliverReport, loseReport, lineReport, recoverReport}
-use Rattle.whole_runs.specs.Earliest.{earliestRefusal, earliestOutcome}
+use Rattle.whole_runs.specs.{Earliest.earliestRefusal, Earliest.earliestOutcome, Survival.Surviving, Survival.after}
 use Rattle.whole_runs.specs.Calls.{Call, checkpoint, send, deliver, lose, recover, line, earliest, Exchange, answered, call}
-use Rattle.whole_runs.specs.Survival.{Surviving, after}
-use Rattle.histories.proofs.Run.{Ideal}
-use Rattle.histories.proofs.Invariant.{Inv}
-use Rattle.histories.proofs.Memory.{Memory}
+use Rattle.histories.proofs.{Run.Ideal, Invariant.Inv, Memory.Memory}
 use Rattle.model.proofs.simulation.View.{stateOf, Limits}
 use Rattle.whole_runs.proofs.whole.Agreement.{Agrees, Restarted}
 

@@ -1,37 +1,17 @@
 -- An accepted recover call, as a step of the run as functions.
 -- Assumes nothing.
-use mathlib.Core.Path.{_≡_, sym, _∙_, fun-ext}
-use mathlib.Core.List.{List}
-use mathlib.Core.Option.{none}
-use Prim.Native.Nat.{ℕ, _≤_, _<_}
-use native.Mathlib.Omega.{arith}
-use lib.ListN.{length, getD}
-use Rattle.laws.specs.Front.{getD-written}
-use Rattle.laws.specs.Lists.{table}
-use Rattle.laws.specs.Tables.{length-table, getD-table}
-use Rattle.model.specs.Words.{mostProcesses, failed}
-use Rattle.model.specs.Steps.{recoverDeletions, lineOf}
-use Rattle.model.specs.Refusals.{recoverRefusal}
-use Rattle.whole_runs.specs.Outcomes.{pairs, written, recoverOutcome, recoverReport}
-use Rattle.whole_runs.specs.Calls.{recover, answered, call}
+use Rattle.laws.specs.Basics.{_≡_, sym, _∙_, fun-ext, List, none, ℕ, _≤_, _<_, arith, length, getD}
+use Rattle.laws.specs.{Front.getD-written, Lists.table, Tables.length-table, Tables.getD-table}
+use Rattle.model.specs.{Words.mostProcesses, Words.failed, Steps.recoverDeletions, Steps.lineOf, Refusals.recoverRefusal}
+use Rattle.whole_runs.specs.{Outcomes.pairs, Outcomes.written, Outcomes.recoverOutcome, Outcomes.recoverReport, Calls.recover, Calls.answered, Calls.call}
 use Rattle.whole_runs.specs.Survival.{Surviving, listsAfter, sendsAfter, receiverAfter, underwayAfter, storedBy, causeOf, causeWith, countOf}
 use Rattle.whole_runs.specs.Answers.{lentDeletions}
-use Rattle.histories.proofs.Run.{Ideal, line, recovered}
-use Rattle.histories.proofs.Invariant.{Inv}
-use Rattle.histories.proofs.Memory.{Memory, recovered-memory}
-use Rattle.histories.proofs.Keeping.{recovered-moved}
-use Rattle.histories.proofs.Counted.{goneIn, newIn, recovered-new, recovered-paid}
-use Rattle.histories.proofs.Recovered.{recovered-inv}
-use Rattle.histories.proofs.Outliving.{still-sent}
-use Rattle.model.proofs.simulation.View.{stateOf, Limits}
-use Rattle.model.proofs.simulation.SoundCalls.{recover-run}
-use Rattle.model.proofs.simulation.SoundLimits.{limits-recover}
-use Rattle.model.proofs.simulation.Lines.{line-is}
-use Rattle.model.proofs.simulation.Recover.{recover-is}
-use Rattle.whole_runs.proofs.whole.Handed.{pairBlocks, recover-handed, recover-blocks}
-use Rattle.whole_runs.proofs.whole.Agreement.{Agrees, HandsOut}
-use Rattle.whole_runs.proofs.whole.Gone.{HandsOver, recover-over}
-use Rattle.whole_runs.proofs.whole.Accepted.{Step}
+use Rattle.histories.proofs.{Run.Ideal, Run.line, Run.recovered, Invariant.Inv, Memory.Memory, Memory.recovered-memory, Keeping.recovered-moved}
+use Rattle.histories.proofs.{Counted.goneIn, Counted.newIn, Counted.recovered-new, Counted.recovered-paid, Recovered.recovered-inv, Outliving.still-sent}
+use Rattle.model.proofs.{simulation.View.stateOf, simulation.View.Limits, simulation.SoundCalls.recover-run, simulation.SoundLimits.limits-recover}
+use Rattle.model.proofs.{simulation.Lines.line-is, simulation.Recover.recover-is}
+use Rattle.whole_runs.proofs.{whole.Handed.pairBlocks, whole.Handed.recover-handed, whole.Handed.recover-blocks, whole.Accepted.Step}
+use Rattle.whole_runs.proofs.{whole.Agreement.Agrees, whole.Agreement.HandsOut, whole.Gone.HandsOver, whole.Gone.recover-over}
 use Rattle.whole_runs.proofs.whole.Listed.{recover-lists, none-cause, none-count}
 
 module _ (n : ℕ) (h : Surviving) (r : Ideal) (v : Inv r) (fit : Limits r) (memory : Memory r) (size : r .n ≡ n) (g : Agrees h r) (F : ℕ) (deleted lent : List ℕ) (e : recoverRefusal (stateOf r) F deleted lent ≡ none) where

@@ -1,47 +1,22 @@
 -- The number that a call on a reached state is refused with, by the surviving history and the call's arguments alone.
 -- Assumes nothing.
-use mathlib.Core.Path.{_≡_, refl, sym, _∙_, ap}
-use mathlib.Core.Bool.{Bool, true, false, _&&_, _||_, not}
-use mathlib.Core.List.{List, [], _∷_}
-use mathlib.Core.Option.{Option, none, some}
-use Prim.Native.Nat.{ℕ, _+_, _*_, _^_, _<_}
-use native.Mathlib.Omega.{arith}
-use lib.Dec.{ltb, leb}
-use lib.ListN.{length, getD}
-use borrow.Author.Tests.{leb-false, le-leb, lt-leb, ltb-true, ltb-false, not-false}
-use Rattle.laws.specs.Choice.{by-bool}
-use Rattle.laws.specs.Ranges.{any-same}
-use Rattle.laws.specs.Members.{some-same}
-use Rattle.laws.specs.Search.{anyBelow, any-out}
-use Rattle.laws.specs.Tests.{some-of}
-use Rattle.laws.specs.Truth.{never-both}
-use Rattle.model.specs.declared.Named.{Named}
-use Rattle.model.specs.declared.Run.{Run}
-use Rattle.model.specs.declared.Refusal.{Refusal}
-use Rattle.model.specs.Words.{mostBlocks, own}
-use Rattle.model.specs.Steps.{found, latestAllowed}
-use Rattle.model.specs.Sound.{isBlockCount, sound}
+use Rattle.laws.specs.Basics.{_≡_, refl, sym, _∙_, ap, Bool, true, false, not, _&&_, _||_, List, [], _∷_, Option, none, some, ℕ, _+_, _*_, _^_, _<_, arith, ltb, leb, length, getD, ltb-true, ltb-false, le-leb, lt-leb, leb-false, not-false, by-bool}
+use Rattle.laws.specs.{Ranges.any-same, Members.some-same, Search.anyBelow, Search.any-out, Tests.some-of, Truth.never-both}
+use Rattle.model.specs.declared.{Named.Named, Run.Run, Refusal.Refusal}
+use Rattle.model.specs.{Words.mostBlocks, Words.own, Steps.found, Steps.latestAllowed, Sound.isBlockCount, Sound.sound}
 use Rattle.histories.specs.History.{Lists, checkpoints}
 use Rattle.model.specs.Refusals.{number, Rule, firstOf, startRefusal, shortDeletions, shortLine, absent, atLastInterval, pastBlocks, outside, checkpointRefusal, sendRefusal, missing, forcesPast, forcesOver, deliverRefusal, loseRefusal, noMember, lineRefusal, recoverRefusal}
 use Rattle.model.specs.laws.Refusals.{refusal-in, skipped, by-refusal}
-use Rattle.whole_runs.specs.Earliest.{someAbsent, unfit, notKept, someOrdered, earliestRefusal}
+use Rattle.whole_runs.specs.{Earliest.someAbsent, Earliest.unfit, Earliest.notKept, Earliest.someOrdered, Earliest.earliestRefusal, Survival.Surviving}
 use Rattle.whole_runs.specs.Calls.{Call, checkpoint, send, deliver, lose, recover, line, earliest, call}
-use Rattle.whole_runs.specs.Survival.{Surviving}
 use Rattle.whole_runs.specs.Answers.{Reason, lowest, countUnderWay, tooShort, pastBound, startReasons, reasons}
-use Rattle.histories.proofs.Run.{Ideal, forces}
-use Rattle.histories.proofs.Invariant.{Inv}
-use Rattle.histories.proofs.Messages.{underway-proper}
-use Rattle.model.proofs.simulation.View.{messageOf, messagesOf, stateOf, Limits}
+use Rattle.histories.proofs.{Run.Ideal, Run.forces, Invariant.Inv, Messages.underway-proper}
+use Rattle.model.proofs.{simulation.View.messageOf, simulation.View.messagesOf, simulation.View.stateOf, simulation.View.Limits, simulation.Sound.state-sound}
 use Rattle.model.proofs.simulation.Reads.{count-is, last-is, underway-is, own-is}
-use Rattle.model.proofs.simulation.Messages.{used-number, found-is, found-none}
-use Rattle.model.proofs.simulation.Deliver.{deliver-forces}
-use Rattle.model.proofs.simulation.Lines.{latest-allowed}
-use Rattle.model.proofs.simulation.Sound.{state-sound}
-use Rattle.model.proofs.simulation.SoundCalls.{written-is, count-is-of}
+use Rattle.model.proofs.{simulation.Messages.used-number, simulation.Messages.found-is, simulation.Messages.found-none, simulation.Deliver.deliver-forces}
+use Rattle.model.proofs.{simulation.Lines.latest-allowed, simulation.SoundCalls.written-is, simulation.SoundCalls.count-is-of}
 use Rattle.model.proofs.simulation.SoundLimits.{messages-count}
-use Rattle.whole_runs.proofs.whole.EarliestLine.{all-present, named-kept}
-use Rattle.whole_runs.proofs.whole.Agreement.{Agrees}
-use Rattle.whole_runs.proofs.whole.Accepted.{accepted-report}
+use Rattle.whole_runs.proofs.{whole.EarliestLine.all-present, whole.EarliestLine.named-kept, whole.Agreement.Agrees, whole.Accepted.accepted-report}
 use Rattle.whole_runs.proofs.whole.Reached.{refusal, refused-report}
 
 -- The number of a refusal, 0 where there is none.

@@ -1,35 +1,20 @@
 -- Each accepted call keeps what the history remembers of the run when it last started or recovered. By it and the run now it is known which pins name a
 -- checkpoint, and so what is kept is what the history needs.
 -- Assumes nothing.
-use mathlib.Core.Path.{_≡_, refl, sym, _∙_, ap}
-use mathlib.Core.Bool.{true}
-use mathlib.Core.List.{List}
-use mathlib.Core.Logic.{inl, inr}
-use mathlib.Core.Option.{none, some}
-use Prim.Native.Nat.{ℕ, suc, _-_, _<_}
-use native.Mathlib.Omega.{arith}
+use Rattle.laws.specs.Basics.{_≡_, refl, sym, _∙_, ap, true, List, none, some, inl, inr, ℕ, suc, _-_, _<_, arith}
 use Rattle.laws.specs.Rows.{by-lt}
 use Rattle.model.specs.Words.{basic, forced, failed}
 use Rattle.histories.specs.History.{Lists, checkpoints, beforeCheckpoint, ComesBefore}
 use Rattle.whole_runs.specs.Calls.{Call, checkpoint, send, deliver, lose, recover, line, earliest, call}
 use Rattle.whole_runs.specs.Survival.{Surviving, beginning, after, accepted, listsAfter, restartAfter}
 use Rattle.whole_runs.specs.Needed.{KnewLess, PinStands, PinNames, Needed}
-use Rattle.histories.proofs.Run.{Ideal, because, begin, begun, keeps, checkpointed, delivered, recovered}
-use Rattle.histories.proofs.Invariant.{Inv}
-use Rattle.histories.proofs.Ledger.{ledger-inv}
-use Rattle.histories.proofs.Rule.{keeps-in, keeps-out}
-use Rattle.histories.proofs.Line.{rising}
-use Rattle.histories.proofs.Messages.{underway-proper}
-use Rattle.histories.proofs.Memory.{Memory, begin-memory}
-use Rattle.histories.proofs.Begin.{begin-inv}
-use Rattle.histories.proofs.Knowledge.{live-less, live-knows, stored-less, stored-knows}
+use Rattle.histories.proofs.{Run.Ideal, Run.because, Run.begin, Run.begun, Run.keeps, Run.checkpointed, Run.delivered, Run.recovered, Invariant.Inv}
+use Rattle.histories.proofs.{Ledger.ledger-inv, Rule.keeps-in, Rule.keeps-out, Line.rising, Messages.underway-proper, Memory.Memory, Memory.begin-memory}
+use Rattle.histories.proofs.{Begin.begin-inv, Knowledge.live-less, Knowledge.live-knows, Knowledge.stored-less, Knowledge.stored-knows}
 use Rattle.histories.proofs.Standing.{row, Learns, same-learns, sending-learns, lost-learns, checkpointed-learns, delivered-learns, Current, next-standing, begin-standing, recovered-standing}
-use Rattle.model.proofs.simulation.View.{stateOf, Limits}
-use Rattle.model.proofs.simulation.SoundCalls.{deliver-run}
-use Rattle.whole_runs.proofs.whole.Agreement.{Agrees, Restarted}
-use Rattle.whole_runs.proofs.whole.Accepted.{Step, accepted-history}
-use Rattle.whole_runs.proofs.whole.Reached.{exchange, refusal}
-use Rattle.whole_runs.proofs.whole.Runs.{stepped}
+use Rattle.model.proofs.{simulation.View.stateOf, simulation.View.Limits, simulation.SoundCalls.deliver-run}
+use Rattle.whole_runs.proofs.{whole.Agreement.Agrees, whole.Agreement.Restarted, whole.Accepted.Step, whole.Accepted.accepted-history}
+use Rattle.whole_runs.proofs.{whole.Reached.exchange, whole.Reached.refusal, whole.Runs.stepped}
 
 -- The start.
 pub begin-restarted : (n : ℕ) (blockCounts : List ℕ) → Restarted (beginning n blockCounts) (begun n blockCounts)

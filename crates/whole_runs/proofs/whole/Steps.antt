@@ -1,50 +1,30 @@
 -- Each accepted call, as a step of the run as functions: checkpoint, send, deliver, lose, line and the earliest line. Recover has a file of its own.
 -- Assumes nothing.
-use mathlib.Core.Path.{_≡_, refl, sym, _∙_, ap, fun-ext}
-use mathlib.Core.Bool.{Bool, true, false, _&&_, not}
-use mathlib.Core.List.{List, []}
-use mathlib.Core.Logic.{inl}
-use mathlib.Core.Option.{none, some}
-use Prim.Native.Nat.{ℕ, _*_, _≤_, _<_}
-use native.Mathlib.Omega.{arith}
-use lib.ListN.{length, getD}
-use Rattle.laws.specs.Choice.{by-bool}
-use Rattle.laws.specs.Search.{anyBelow}
-use Rattle.laws.specs.Sums.{sumBelow}
-use Rattle.model.specs.Words.{mostProcesses, basic, forced, process, live}
+use Rattle.laws.specs.Basics.{_≡_, refl, sym, _∙_, ap, fun-ext, Bool, true, false, not, _&&_, List, [], none, some, inl, ℕ, _*_, _≤_, _<_, arith, length, getD, by-bool}
+use Rattle.laws.specs.{Search.anyBelow, Sums.sumBelow}
+use Rattle.model.specs.{Words.mostProcesses, Words.basic, Words.forced, Words.process, Words.live, Steps.checkpointDeletions, Steps.deliverDeletions}
 use Rattle.model.specs.declared.Named.{Named}
 use Rattle.histories.specs.History.{Lists}
-use Rattle.model.specs.Steps.{checkpointDeletions, deliverDeletions}
-use Rattle.model.specs.Steps as steps
 use Rattle.model.specs.Refusals.{checkpointRefusal, sendRefusal, deliverRefusal, loseRefusal, lineRefusal}
 use Rattle.whole_runs.specs.Outcomes.{pairs, written, checkpointOutcome, checkpointReport, sendOutcome, sendReport, message, deliverAnswer, deliverOutcome, deliverReport, loseOutcome, loseReport, lineOutcome, lineReport}
 use Rattle.whole_runs.specs.Calls.{Call, checkpoint, send, deliver, lose, line, earliest, Reply, answered, call}
-use Rattle.whole_runs.specs.Earliest.{earliestRefusal, earliestOutcome}
+use Rattle.whole_runs.specs.{Earliest.earliestRefusal, Earliest.earliestOutcome, Answers.lentDeletions}
 use Rattle.whole_runs.specs.Survival.{Surviving, handedOut, listsAfter, sendsAfter, receiverAfter, underwayAfter, forcedAt, storedBy, causeOf, causeWith, countOf}
-use Rattle.whole_runs.specs.Answers.{lentDeletions}
-use Rattle.histories.proofs.Run.{Ideal, Ledger, keeps, checkpointed, sending, forces, delivered, lost}
+use Rattle.histories.proofs.{Run.Ideal, Run.Ledger, Run.keeps, Run.checkpointed, Run.sending, Run.forces, Run.delivered, Run.lost, Invariant.Inv}
 use Rattle.histories.proofs.Counted.{goneIn, newIn, gone-none, still-new, checkpointed-new, checkpointed-paid, sending-new, sending-paid, lost-new, lost-paid, delivered-new-forced, delivered-new-plain, delivered-ledger-forced, delivered-ledger-plain, delivered-paid}
-use Rattle.histories.proofs.Invariant.{Inv}
-use Rattle.histories.proofs.Messages.{underway-proper}
+use Rattle.histories.proofs.{Messages.underway-proper, Keeping.checkpointed-moved, Keeping.sending-moved, Keeping.lost-moved, Keeping.delivered-moved}
 use Rattle.histories.proofs.Memory.{Memory, checkpointed-memory, sending-memory, lost-memory, delivered-memory}
-use Rattle.histories.proofs.Keeping.{checkpointed-moved, sending-moved, lost-moved, delivered-moved}
-use Rattle.histories.proofs.CheckpointedViews.{checkpointed-last}
-use Rattle.histories.proofs.Checkpointed.{checkpointed-inv}
-use Rattle.histories.proofs.Sending.{sending-inv, sending-keeps}
-use Rattle.histories.proofs.Lost.{lost-inv, lost-keeps}
-use Rattle.histories.proofs.Delivered.{delivered-inv}
-use Rattle.histories.proofs.DeliveredViews.{delivered-last, delivered-receiver}
-use Rattle.model.proofs.simulation.View.{messageOf, stateOf, Limits}
+use Rattle.histories.proofs.{CheckpointedViews.checkpointed-last, Checkpointed.checkpointed-inv, Sending.sending-inv, Sending.sending-keeps}
+use Rattle.histories.proofs.{Lost.lost-inv, Lost.lost-keeps, Delivered.delivered-inv, DeliveredViews.delivered-last, DeliveredViews.delivered-receiver}
+use Rattle.model.proofs.{simulation.View.messageOf, simulation.View.stateOf, simulation.View.Limits, simulation.Checkpoint.checkpoint-is}
 use Rattle.model.proofs.simulation.SoundCalls.{checkpoint-run, send-run, deliver-run}
 use Rattle.model.proofs.simulation.SoundLimits.{fits-checkpoint, limits-checkpoint, fits-deliver, limits-deliver, limits-lose}
-use Rattle.model.proofs.simulation.Checkpoint.{checkpoint-is}
-use Rattle.model.proofs.simulation.Messages.{send-is, lose-is}
-use Rattle.model.proofs.simulation.Deliver.{deliver-is, deliver-forces}
+use Rattle.model.proofs.{simulation.Messages.send-is, simulation.Messages.lose-is, simulation.Deliver.deliver-is, simulation.Deliver.deliver-forces}
 use Rattle.whole_runs.proofs.whole.Handed.{pairBlocks, checkpoint-handed, checkpoint-blocks, deliver-handed, deliver-blocks}
-use Rattle.whole_runs.proofs.whole.Agreement.{Agrees, HandsOut}
+use Rattle.whole_runs.proofs.{whole.Agreement.Agrees, whole.Agreement.HandsOut, whole.Accepted.Step}
 use Rattle.whole_runs.proofs.whole.Gone.{HandsOver, nothing-over, checkpoint-over, deliver-over}
-use Rattle.whole_runs.proofs.whole.Accepted.{Step}
 use Rattle.whole_runs.proofs.whole.Listed.{checkpoint-lists, send-lists, send-sends, send-receiver, send-underway, deliver-underway, deliver-forced, deliver-plain, stored-cause, stored-count, none-cause, none-count}
+use Rattle.model.specs.Steps as steps
 
 -- An answer without deletions hands out nothing, and nothing may be gone.
 no-change : (b : Bool) → (b && not b) ≡ false

@@ -1,49 +1,25 @@
 -- What a reply holds besides its number and its pairs: of a refused call nothing new; of an accepted one its value and its line list, by the
 -- surviving history, and the set of entries that rose.
 -- Assumes nothing.
-use mathlib.Core.Path.{_≡_, refl, sym, _∙_, ap}
-use mathlib.Core.List.{List}
-use mathlib.Core.Option.{none, some}
-use Prim.Native.Nat.{ℕ, _+_, _≤_, _<_}
-use native.Mathlib.Omega.{arith}
-use lib.Dec.{ltb}
-use lib.ListN.{length, getD}
-use Rattle.laws.specs.Choice.{by-bool}
-use Rattle.laws.specs.Counting.{count-same}
-use Rattle.laws.specs.Front.{getD-written, written-front}
-use Rattle.laws.specs.Lists.{table}
-use Rattle.laws.specs.Tables.{length-table, getD-table, table-same}
+use Rattle.laws.specs.Basics.{_≡_, refl, sym, _∙_, ap, List, none, some, ℕ, _+_, _≤_, _<_, arith, ltb, length, getD, by-bool}
+use Rattle.laws.specs.{Counting.count-same, Front.getD-written, Front.written-front, Lists.table, Tables.length-table, Tables.getD-table, Tables.table-same}
 use Rattle.laws.specs.Tests.{countBelow}
-use Rattle.model.specs.declared.Named.{Named}
-use Rattle.model.specs.declared.Run.{Run}
-use Rattle.model.specs.declared.Refusal.{Refusal}
-use Rattle.model.specs.Words.{mostProcesses, failed, own}
-use Rattle.model.specs.Steps.{deliverRisen, rolledBack, rolledBackCount}
+use Rattle.model.specs.declared.{Named.Named, Run.Run, Refusal.Refusal}
+use Rattle.model.specs.{Words.mostProcesses, Words.failed, Words.own, Steps.deliverRisen, Steps.rolledBack, Steps.rolledBackCount, laws.Refusals.by-refusal}
 use Rattle.histories.specs.History.{Line}
 use Rattle.model.specs.Refusals.{checkpointRefusal, sendRefusal, deliverRefusal, loseRefusal, lineRefusal, recoverRefusal}
-use Rattle.model.specs.laws.Refusals.{by-refusal}
 use Rattle.whole_runs.specs.Outcomes.{written, checkpointOutcome, sendOutcome, deliverOutcome, loseOutcome, lineOutcome, recoverOutcome, checkpointReport, sendReport, deliverReport, loseReport, lineReport, recoverReport}
-use Rattle.whole_runs.specs.Earliest.{greatest, earliestLine, earliestRefusal, earliestOutcome}
+use Rattle.whole_runs.specs.{Earliest.greatest, Earliest.earliestLine, Earliest.earliestRefusal, Earliest.earliestOutcome, Survival.Surviving}
 use Rattle.whole_runs.specs.Calls.{Call, checkpoint, send, deliver, lose, recover, line, earliest, answered, call}
-use Rattle.whole_runs.specs.Survival.{Surviving}
 use Rattle.whole_runs.specs.Answers.{valueOf, lentDeletions, lentLine, atFront, indexesOf}
-use Rattle.histories.proofs.Run as ideal
-use Rattle.histories.proofs.Run.{Ideal, forces}
-use Rattle.histories.proofs.Invariant.{Inv}
-use Rattle.histories.proofs.Memory.{Memory}
-use Rattle.histories.proofs.Messages.{underway-proper}
-use Rattle.model.proofs.simulation.View.{messageOf, stateOf, Limits}
-use Rattle.model.proofs.simulation.Reads.{count-is, last-is, own-is}
-use Rattle.model.proofs.simulation.Checkpoint.{checkpoint-index}
-use Rattle.model.proofs.simulation.Deliver.{deliver-index}
+use Rattle.histories.proofs.{Run.Ideal, Run.forces, Invariant.Inv, Memory.Memory, Messages.underway-proper}
+use Rattle.model.proofs.{simulation.View.messageOf, simulation.View.stateOf, simulation.View.Limits, simulation.Checkpoint.checkpoint-index}
+use Rattle.model.proofs.{simulation.Reads.count-is, simulation.Reads.last-is, simulation.Reads.own-is, simulation.Deliver.deliver-index}
 use Rattle.model.proofs.simulation.Lines.{member-index, line-is}
 use Rattle.model.proofs.simulation.SoundCalls.{checkpoint-run, deliver-run, line-run, recover-run}
-use Rattle.whole_runs.proofs.whole.EarliestLine.{earliest-out}
-use Rattle.whole_runs.proofs.whole.Agreement.{Agrees}
-use Rattle.whole_runs.proofs.whole.Reached.{refusal}
-use Rattle.whole_runs.proofs.whole.Refused.{live-is, forcingOf}
-use Rattle.whole_runs.proofs.whole.Steps.{value-forced, value-plain}
-use Rattle.whole_runs.proofs.whole.Recovers.{written-line}
+use Rattle.whole_runs.proofs.{whole.EarliestLine.earliest-out, whole.Agreement.Agrees, whole.Reached.refusal, whole.Recovers.written-line}
+use Rattle.whole_runs.proofs.{whole.Refused.live-is, whole.Refused.forcingOf, whole.Steps.value-forced, whole.Steps.value-plain}
+use Rattle.histories.proofs.Run as ideal
 
 -- A refused call reports no value and no deletion, its lent lists keep every entry, and no entry rose.
 pub refused-reply : (s : Run) (c : Call) (x : Refusal) → refusal s c ≡ some x

@@ -1,23 +1,12 @@
 -- A message put after those under way.
 -- Assumes nothing.
-use mathlib.Core.Path.{_≡_, refl, sym, _∙_, ap}
-use mathlib.Core.Bool.{Bool, true, false, not, _&&_, _||_}
-use mathlib.Core.List.{List, [], _∷_, _++_}
-use Prim.Native.Nat.{ℕ, zero, suc, _+_, _*_, _-_, _≤_, _<_}
+use Rattle.laws.specs.Basics.{_≡_, refl, sym, _∙_, ap, Bool, true, false, not, _&&_, _||_, List, [], _∷_, _++_, ℕ, zero, suc, _+_, _-_, _*_, _≤_, _<_, arith, eqb, leb, length, le-leb}
 use native.Mathlib.Numerals.{add-one}
-use native.Mathlib.Omega.{arith}
-use lib.Dec.{eqb, leb}
-use lib.ListN.{length}
-use borrow.Author.Tests.{le-leb}
-use Rattle.laws.specs.Lists.{select, table}
-use Rattle.laws.specs.Tables.{table-same}
-use Rattle.laws.specs.Truth.{and-both, or-in-right}
+use Rattle.laws.specs.{Lists.select, Lists.table, Tables.table-same, Truth.and-both, Truth.or-in-right}
 use Rattle.model.specs.declared.Message.{Message}
 use Rattle.words.specs.Layout.{stateSize, word, endOf, lowAt, highAt, senderAt, receiverAt, carriedAt, messageIn, isMessage, messagesIn, endFits}
-use Rattle.words.specs.Puts.{Put, puts, one}
-use Rattle.words.proofs.Reading.{puts-length, untouched, touched}
-use Rattle.words.specs.messages.Places.{messagePuts, putLast}
-use Rattle.words.proofs.messages.Selected.{select-more}
+use Rattle.words.specs.{Puts.Put, Puts.puts, Puts.one, messages.Places.messagePuts, messages.Places.putLast}
+use Rattle.words.proofs.{Reading.puts-length, Reading.untouched, Reading.touched, messages.Selected.select-more}
 use Rattle.words.proofs.messages.Placed.{message-stays, message-put, message-elsewhere}
 
 module _ (w : List ℕ) (long : length w ≡ stateSize) (room : endOf w < 64) (x : Message) (whole : length (x .vector) ≡ 16) (is : isMessage x ≡ true) where

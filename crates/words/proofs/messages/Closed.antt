@@ -1,24 +1,12 @@
 -- The used places closed up: the same messages under way, in the first places.
 -- Assumes nothing.
-use mathlib.Core.Path.{_≡_, refl, sym, _∙_, ap}
-use mathlib.Core.Bool.{Bool, true, false, not, _&&_, _||_}
-use mathlib.Core.List.{List, [], _∷_, _++_}
-use Prim.Native.Nat.{ℕ, zero, suc, _+_, _*_, _-_, _≤_, _<_}
-use native.Mathlib.Omega.{arith}
-use lib.Dec.{eqb, leb}
-use lib.ListN.{length}
-use borrow.Author.Tests.{le-leb}
-use Rattle.laws.specs.Choice.{pick, by-bool, by-eq}
-use Rattle.laws.specs.Elements.{every-table}
-use Rattle.laws.specs.Lists.{select, table}
-use Rattle.laws.specs.Select.{all-chosen}
-use Rattle.laws.specs.Tables.{table-same, length-table}
+use Rattle.laws.specs.Basics.{_≡_, refl, sym, _∙_, ap, Bool, true, false, not, _&&_, _||_, List, [], _∷_, _++_, ℕ, zero, suc, _+_, _-_, _*_, _≤_, _<_, arith, eqb, leb, length, le-leb, pick, by-bool, by-eq}
+use Rattle.laws.specs.{Elements.every-table, Lists.select, Lists.table, Select.all-chosen, Tables.table-same, Tables.length-table}
 use Rattle.laws.specs.Truth.{and-both, or-in-right}
 use Rattle.model.specs.declared.Message.{Message}
 use Rattle.words.specs.Layout.{stateSize, word, endOf, lowAt, highAt, senderAt, receiverAt, carriedAt, messageIn, isMessage, messagesIn, endFits}
 use Rattle.words.specs.Puts.{Put, puts, one}
-use Rattle.words.proofs.Reading.{puts-length, untouched, touched}
-use Rattle.words.proofs.Same.{vector-length}
+use Rattle.words.proofs.{Reading.puts-length, Reading.untouched, Reading.touched, Same.vector-length}
 use Rattle.words.specs.messages.Places.{Closing, messagePuts, clearPuts, cleared, movedTo, closeStep, closing, clearedFrom, closedUp}
 use Rattle.words.proofs.messages.Selected.{select-more, select-less}
 use Rattle.words.proofs.messages.Placed.{message-stays, message-put, message-elsewhere, cleared-elsewhere, cleared-length}

@@ -1,13 +1,6 @@
 -- A message that was put into its place is read there; the messages in other places stay; a place that was cleared is unused.
 -- Assumes nothing.
-use mathlib.Core.Path.{_≡_, refl, sym, _∙_, ap}
-use mathlib.Core.Bool.{Bool, true, false, not}
-use mathlib.Core.List.{List, [], _∷_, _++_}
-use Prim.Native.Nat.{ℕ, zero, suc, _+_, _*_, _-_, _/_, _%_, _≤_, _<_}
-use native.Mathlib.Omega.{arith}
-use lib.Dec.{eqb}
-use lib.ListN.{length}
-use Rattle.laws.specs.Choice.{pick}
+use Rattle.laws.specs.Basics.{_≡_, refl, sym, _∙_, ap, Bool, true, false, not, List, [], _∷_, _++_, ℕ, zero, suc, _+_, _-_, _*_, _/_, _%_, _≤_, _<_, arith, eqb, length, pick}
 use Rattle.model.specs.declared.Message.{Message}
 use Rattle.model.specs.Words.{noMessage}
 use Rattle.words.specs.Layout.{stateSize, word, endOf, lowAt, highAt, senderAt, receiverAt, carriedAt, messageIn, isMessage}

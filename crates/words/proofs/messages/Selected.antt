@@ -1,19 +1,9 @@
 -- The used ones of two tables of messages agree; and which of them has a number.
 -- Assumes nothing.
-use mathlib.Core.Path.{_≡_, refl, sym, _∙_, ap}
-use mathlib.Core.Bool.{Bool, true, false, not, _&&_}
-use mathlib.Core.List.{List, [], _∷_, _++_, append-nil}
-use mathlib.Core.Option.{Option, none, some}
-use Prim.Native.Nat.{ℕ, zero, suc, _+_, _≤_, _<_}
-use native.Mathlib.Omega.{arith}
-use lib.Dec.{eqb}
-use borrow.Author.Tests.{eqb-true, ne-eqb, eq-eqb}
-use Rattle.laws.specs.Choice.{pick, by-bool, by-eq}
-use Rattle.laws.specs.Lists.{select, lastOf, table}
-use Rattle.laws.specs.Select.{select-append, select-select, lastOf-snoc}
+use Rattle.laws.specs.Basics.{_≡_, refl, sym, _∙_, ap, Bool, true, false, not, _&&_, List, [], _∷_, _++_, append-nil, Option, none, some, ℕ, zero, suc, _+_, _≤_, _<_, arith, eqb, eq-eqb, ne-eqb, eqb-true, pick, by-bool, by-eq}
+use Rattle.laws.specs.{Lists.select, Lists.lastOf, Lists.table, Select.select-append, Select.select-select, Select.lastOf-snoc}
 use Rattle.model.specs.declared.Message.{Message}
-use Rattle.words.specs.Layout.{messageIn, isMessage}
-use Rattle.words.specs.messages.Places.{placeBelow, endBelow}
+use Rattle.words.specs.{Layout.messageIn, Layout.isMessage, messages.Places.placeBelow, messages.Places.endBelow}
 
 -- Two tables of which the same entries pass, and those agree.
 pub select-tables : {A : Type 0} (n : ℕ) (f g : ℕ → A) (s t : A → Bool) → ((j : ℕ) → j < n → s (f j) ≡ t (g j)) → ((j : ℕ) → j < n → s (f j) ≡ true → f j ≡ g j)

@@ -1,18 +1,7 @@
 -- What is left of the messages under way where one is taken out.
 -- Assumes nothing.
-use mathlib.Core.Path.{_≡_, refl, sym, _∙_, ap}
-use mathlib.Core.Bool.{Bool, true, false, not, _&&_, _||_}
-use mathlib.Core.List.{List, [], _∷_, _++_}
-use Prim.Native.Nat.{ℕ, zero, suc, _+_, _*_, _-_, _≤_, _<_}
-use native.Mathlib.Omega.{arith}
-use lib.Dec.{eqb, leb}
-use lib.ListN.{length, length-append}
-use borrow.Author.Tests.{eqb-true, eq-eqb, ne-eqb, le-leb, not-true}
-use Rattle.laws.specs.Choice.{pick, by-bool, by-eq}
-use Rattle.laws.specs.Lists.{select, table}
-use Rattle.laws.specs.Select.{select-select}
-use Rattle.laws.specs.Tables.{table-same}
-use Rattle.laws.specs.Truth.{never-both, and-both, or-in-right, or-left}
+use Rattle.laws.specs.Basics.{_≡_, refl, sym, _∙_, ap, Bool, true, false, not, _&&_, _||_, List, [], _∷_, _++_, ℕ, zero, suc, _+_, _-_, _*_, _≤_, _<_, arith, eqb, leb, length, length-append, eq-eqb, ne-eqb, eqb-true, le-leb, not-true, pick, by-bool, by-eq}
+use Rattle.laws.specs.{Lists.select, Lists.table, Select.select-select, Tables.table-same, Truth.never-both, Truth.and-both, Truth.or-in-right, Truth.or-left}
 use Rattle.model.specs.declared.Message.{Message}
 use Rattle.words.specs.Layout.{stateSize, word, endOf, lowAt, highAt, senderAt, receiverAt, carriedAt, messageIn, isMessage, messagesIn, endFits}
 use Rattle.words.specs.Puts.{Put, puts, one}

@@ -1,11 +1,8 @@
 -- `words::pin_of` meets its contract. Assumes nothing.
-use borrow.Author.Needs.{needs}
-use mathlib.Core.Path.{sym, _∙_, ap}
-use native.Mathlib.Omega.{arith}
+use Rattle.laws.specs.Basics.{sym, _∙_, ap, arith, needs}
 use Rattle.model.specs.declared.Pin.the-variants.{At}
 use Rattle.words.specs.Layout.{pinOf}
-use Rattle.words.proofs.Reading.{pin-some}
-use Rattle.words.proofs.pin_of.Statement.{statement}
+use Rattle.words.proofs.{Reading.pin-some, pin_of.Statement.statement}
 use Rattle.words.proofs.pin_of.Tie as tie
 
 returns-2 : tie.Need-returns-2

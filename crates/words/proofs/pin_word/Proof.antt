@@ -1,8 +1,6 @@
 -- `words::pin_word` meets its contract. Assumes nothing.
-use borrow.Author.Needs.{needs}
-use mathlib.Core.Path.{refl}
-use Rattle.words.proofs.Reading.{pin-back, index-back}
-use Rattle.words.proofs.pin_word.Statement.{statement}
+use Rattle.laws.specs.Basics.{refl, needs}
+use Rattle.words.proofs.{Reading.pin-back, Reading.index-back, pin_word.Statement.statement}
 use Rattle.words.proofs.pin_word.Tie as tie
 
 returns : tie.Need-returns

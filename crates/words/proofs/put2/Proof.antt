@@ -1,9 +1,6 @@
 -- `words::put2` meets its contract. Assumes nothing.
-use native.Mathlib.Omega.{arith}
-use lib.ListN.{length-set}
-use borrow.Author.Needs.{needs}
-use Rattle.words.proofs.Reading.{set-is-put}
-use Rattle.words.proofs.put2.Statement.{statement}
+use Rattle.laws.specs.Basics.{arith, length-set, needs}
+use Rattle.words.proofs.{Reading.set-is-put, put2.Statement.statement}
 use Rattle.words.proofs.put2.Tie as tie
 
 pub put2-spec : {M : Type 1} → statement M

@@ -1,9 +1,6 @@
 -- `words::put4` meets its contract. Assumes nothing.
-use native.Mathlib.Omega.{arith}
-use lib.ListN.{length-set}
-use borrow.Author.Needs.{needs}
-use Rattle.words.proofs.Reading.{set-is-put}
-use Rattle.words.proofs.put4.Statement.{statement}
+use Rattle.laws.specs.Basics.{arith, length-set, needs}
+use Rattle.words.proofs.{Reading.set-is-put, put4.Statement.statement}
 use Rattle.words.proofs.put4.Tie as tie
 
 pub put4-spec : {M : Type 1} → statement M

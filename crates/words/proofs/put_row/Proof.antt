@@ -1,12 +1,7 @@
 -- `words::put_row` meets its contract. Assumes nothing.
-use Prim.Native.Nat.{_≤_, _-_}
-use mathlib.Core.Path.{_≡_, refl}
-use native.Mathlib.Omega.{arith}
-use lib.ListN.{length, getD, length-set}
-use borrow.Author.Needs.{needs}
+use Rattle.laws.specs.Basics.{_≡_, refl, _-_, _≤_, arith, length, getD, length-set, needs}
 use Rattle.words.specs.Puts.{putFrom}
-use Rattle.words.proofs.Reading.{put-none, put-step}
-use Rattle.words.proofs.put_row.Statement.{statement}
+use Rattle.words.proofs.{Reading.put-none, Reading.put-step, put_row.Statement.statement}
 use Rattle.words.proofs.put_row.Tie as tie
 
 abbrev Inv-loop : tie.InvT-loop

@@ -1,13 +1,8 @@
 -- `words::put_vector` meets its contract. Assumes nothing.
-use Prim.Native.Nat.{_≤_, _-_}
-use mathlib.Core.Path.{_≡_, refl}
-use native.Mathlib.Omega.{arith}
-use lib.ListN.{length, length-set}
-use borrow.Author.Needs.{needs}
+use Rattle.laws.specs.Basics.{_≡_, refl, _-_, _≤_, arith, length, length-set, needs}
 use Rattle.model.specs.Words.{entry}
 use Rattle.words.specs.Puts.{putFrom}
-use Rattle.words.proofs.Reading.{put-none, put-step}
-use Rattle.words.proofs.put_vector.Statement.{statement}
+use Rattle.words.proofs.{Reading.put-none, Reading.put-step, put_vector.Statement.statement}
 use Rattle.words.proofs.put_vector.Tie as tie
 
 abbrev Inv-loop : tie.InvT-loop

@@ -1,8 +1,5 @@
 -- `words::vector_at` meets its contract. Assumes nothing.
-use Prim.Native.Nat.{_≤_, _-_, _+_}
-use mathlib.Core.Path.{_≡_, refl, _∙_}
-use native.Mathlib.Omega.{arith}
-use borrow.Author.Needs.{needs}
+use Rattle.laws.specs.Basics.{_≡_, refl, _∙_, _+_, _-_, _≤_, arith, needs}
 use Rattle.laws.specs.Loops.{setBelow, below-none, step-set, below-all}
 use Rattle.words.specs.Layout.{word, intervalOf, vectorIn}
 use Rattle.words.proofs.vector_at.Statement.{statement}

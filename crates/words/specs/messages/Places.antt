@@ -1,16 +1,10 @@
 -- The messages under way in their places of the words: where one is, one taken out, one put after the others, the used places closed up.
 -- Assumes nothing.
-use mathlib.Core.Bool.{Bool}
-use mathlib.Core.List.{List, [], _∷_, _++_}
-use Prim.Native.Nat.{ℕ, zero, suc, _+_, _-_, _%_, _/_}
-use lib.Dec.{eqb}
-use Rattle.laws.specs.Choice.{pick}
-use Rattle.model.specs.declared.Interval.{Interval}
-use Rattle.model.specs.declared.Message.{Message}
+use Rattle.laws.specs.Basics.{Bool, List, [], _∷_, _++_, ℕ, zero, suc, _+_, _-_, _/_, _%_, eqb, pick}
+use Rattle.model.specs.declared.{Interval.Interval, Message.Message}
 use Rattle.model.specs.Words.{mostUnderWay}
 use Rattle.words.specs.Layout.{word, endOf, lowAt, highAt, senderAt, receiverAt, carriedAt, messageIn, isMessage}
-use Rattle.words.specs.declared.messages.Found.{Found}
-use Rattle.words.specs.declared.messages.Found.the-variants.{Nothing, At}
+use Rattle.words.specs.declared.{messages.Found.Found, messages.Found.the-variants.Nothing, messages.Found.the-variants.At}
 use Rattle.words.specs.Puts.{Put, puts, one, vectorPut, zeroPut}
 
 -- The place of message m among the first ones, and one more; 0 where it is in none of them.

@@ -3,7 +3,7 @@ use model::Checkpoint;
 use model::CheckpointIndex;
 use model::Interval;
 use model::PROCESSES;
-ghost use mathlib.Core.Path.{_≡_};
+ghost use Rattle.laws.specs.Basics.{_≡_};
 
 // Its cause is why it is stored (0 initial, 1 basic, 2 forced), `blocks` its process's block count.
 pub fn stored(

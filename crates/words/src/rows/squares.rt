@@ -6,7 +6,7 @@ use model::PROCESSES;
 use model::Pin;
 use model::Pins;
 use model::Vectors;
-ghost use mathlib.Core.Path.{_≡_};
+ghost use Rattle.laws.specs.Basics.{_≡_};
 
 // Row p: the current vector of process p.
 pub fn vector_rows(v: Vectors) -> [[Interval; PROCESSES]; PROCESSES]

@@ -4,11 +4,8 @@ use model::CheckpointIndex;
 use model::Interval;
 use model::PROCESSES;
 use model::Pin;
-ghost use mathlib.Core.Path.{_≡_};
-ghost use mathlib.Core.List.{List};
-ghost use Prim.Native.Nat.{ℕ, _<_};
-ghost use Rattle.model.specs.Words.{zeroVector, noPins, noCheckpoint, mostProcesses};
-ghost use Rattle.model.specs.Steps.{started};
+ghost use Rattle.laws.specs.Basics.{_≡_, List, ℕ, _<_};
+ghost use Rattle.model.specs.{Words.zeroVector, Words.noPins, Words.noCheckpoint, Words.mostProcesses, Steps.started};
 
 pub fn zero_vector() -> [Interval; PROCESSES]
     ensures { λ r. ⌜ r ≡ zeroVector ⌝ }

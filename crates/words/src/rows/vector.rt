@@ -2,9 +2,7 @@
 use model::CheckpointIndex;
 use model::Interval;
 use model::PROCESSES;
-ghost use mathlib.Core.Path.{_≡_};
-ghost use Prim.Native.Nat.{_+_, _<_, _≤_};
-ghost use Rattle.laws.specs.Choice.{pick};
+ghost use Rattle.laws.specs.Basics.{_≡_, _+_, _≤_, _<_, pick};
 ghost use Rattle.model.specs.declared.Interval.{Interval};
 ghost use Rattle.model.specs.Words.{entry, below, lastStored, liveIndex, mostProcesses, mostInterval};
 ghost use Rattle.model.specs.Steps.{advanced, newer, takenVector};

@@ -1,17 +1,9 @@
 -- Which refusal the call gives, up to number 18.
 -- Assumes nothing.
-use mathlib.Core.Path.{_≡_, refl}
-use mathlib.Core.Bool.{true, false}
-use mathlib.Core.List.{List}
-use mathlib.Core.Option.{some}
-use Prim.Native.Nat.{ℕ, _≤_, _<_}
-use lib.ListN.{length}
-use borrow.Author.Tests.{lt-ltb, le-ltb}
-use Rattle.model.specs.declared.Named.{Named}
-use Rattle.model.specs.declared.Run.{Run}
+use Rattle.laws.specs.Basics.{_≡_, refl, true, false, List, some, ℕ, _≤_, _<_, length, lt-ltb, le-ltb}
+use Rattle.model.specs.declared.{Named.Named, Run.Run}
 use Rattle.model.specs.declared.Refusal.the-variants.{ListTooShort, NoSuchProcess, UnfitNamedList}
-use Rattle.model.specs.Sound.{sound}
-use Rattle.model.specs.laws.Refusals.{refusal-in}
+use Rattle.model.specs.{Sound.sound, laws.Refusals.refusal-in}
 use Rattle.whole_runs.specs.Earliest.{someAbsent, unfit, earliestRefusal}
 
 -- The rules, in their order: each is asked where those before it do not hold.

@@ -1,24 +1,10 @@
 -- The copy of a list of named checkpoints: how many they are, the greatest process, and the elements where there is room.
 -- Assumes nothing.
-use mathlib.Core.Path.{_≡_, refl, sym, _∙_, ap}
-use mathlib.Core.Bool.{Bool, true, false, _||_}
-use mathlib.Core.List.{List, [], _∷_, _++_}
-use Prim.Native.Nat.{ℕ, zero, suc, _+_, _<_, _≤_, max}
+use Rattle.laws.specs.Basics.{_≡_, refl, sym, _∙_, ap, Bool, true, false, _||_, List, [], _∷_, _++_, ℕ, zero, suc, _+_, _≤_, _<_, max, arith, eqb, ltb, leb, length, getD, take, eq-eqb, ne-eqb, eqb-true, eqb-false, lt-ltb, ltb-false, le-leb, lt-leb, leb-true, leb-false, by-bool}
 use native.Mathlib.Numerals.{add-one}
-use native.Mathlib.Omega.{arith}
-use lib.Dec.{eqb, ltb, leb}
-use lib.ListN.{length, getD, take}
 use lib.Seq.{take-all}
-use borrow.Author.Tests.{eq-eqb, ne-eqb, eqb-true, eqb-false, lt-ltb, ltb-false, le-leb, lt-leb, leb-true, leb-false}
-use Rattle.laws.specs.Choice.{by-bool}
-use Rattle.laws.specs.Copied.{copied}
-use Rattle.laws.specs.Lists.{placed}
-use Rattle.laws.specs.Loops.{any-yes, any-no}
-use Rattle.laws.specs.Prefixes.{take-more, placed-none}
-use Rattle.laws.specs.Search.{anyBelow}
-use Rattle.laws.specs.Select.{some-append, some-one}
-use Rattle.laws.specs.Tables.{take-placed}
-use Rattle.laws.specs.Tests.{some-of}
+use Rattle.laws.specs.{Copied.copied, Lists.placed, Loops.any-yes, Loops.any-no, Prefixes.take-more, Prefixes.placed-none, Search.anyBelow, Tables.take-placed}
+use Rattle.laws.specs.{Select.some-append, Select.some-one, Tests.some-of}
 use Rattle.model.specs.declared.Named.{Named}
 use Rattle.whole_runs.specs.Earliest.{someAbsent, repeats, unfit}
 use Rattle.words_line.specs.declared.earliest.list.Copied.{Copied}

@@ -1,38 +1,16 @@
 -- The pairs of a list that was copied: the call says the same of both.
 -- Assumes nothing.
-use mathlib.Core.Path.{_≡_, refl, sym, _∙_, ap}
-use mathlib.Core.Bool.{Bool, true, false, _&&_, _||_}
-use mathlib.Core.List.{List, []}
-use mathlib.Core.Logic.{_⊎_, inl, inr}
-use mathlib.Core.Option.{some}
-use Prim.Native.Nat.{ℕ, zero, suc, _+_, _*_, _/_, _%_, _≤_, _<_}
-use native.Mathlib.Omega.{arith}
-use lib.Dec.{eqb, ltb, leb}
-use lib.ListN.{length, getD, set, take, replicate, length-set}
-use lib.Seq.{getD-take, getD-set-same, getD-set-other, length-take-le}
-use borrow.Author.Tests.{lt-ltb, le-ltb, le-leb, lt-leb, leb-true, leb-false, ltb-true, ltb-false, ne-eqb}
-use Rattle.laws.specs.Choice.{pick, by-bool, by-eq}
-use Rattle.laws.specs.Lists.{table}
-use Rattle.laws.specs.Rows.{by-lt, some-at}
-use Rattle.laws.specs.Loops.{either}
-use Rattle.laws.specs.Search.{anyBelow, any-in, any-out}
+use Rattle.laws.specs.Basics.{_≡_, refl, sym, _∙_, ap, Bool, true, false, _&&_, _||_, List, [], some, _⊎_, inl, inr, ℕ, zero, suc, _+_, _*_, _/_, _%_, _≤_, _<_, arith, eqb, ltb, leb, length, getD, take, set, replicate, length-set, getD-set-same, getD-set-other, length-take-le, ne-eqb, lt-ltb, le-ltb, ltb-true, ltb-false, le-leb, lt-leb, leb-true, leb-false, pick, by-bool, by-eq}
+use lib.Seq.{getD-take}
+use Rattle.laws.specs.{Lists.table, Rows.by-lt, Rows.some-at, Loops.either, Search.anyBelow, Search.any-in, Search.any-out, Truth.never-both}
 use Rattle.laws.specs.Tables.{length-table, getD-table, table-same, table-is, table-replicate}
-use Rattle.laws.specs.Truth.{never-both}
-use Rattle.model.specs.declared.Named.{Named}
-use Rattle.model.specs.declared.Run.{Run}
-use Rattle.model.specs.declared.Refusal.{Refusal}
-use Rattle.model.specs.declared.LineAnswer.{LineAnswer}
-use Rattle.model.specs.declared.LineAnswer.the-variants.{Refused}
-use Rattle.model.specs.Sound.{sound}
-use Rattle.model.specs.laws.Sound.{sound-state}
-use Rattle.whole_runs.specs.Earliest.{someAbsent, unfit, earliestRefusal, earliestOutcome}
-use Rattle.whole_runs.specs.Outcomes.{Outcome}
-use Rattle.words_line.specs.Through.{pairCount, processOf, indexOf, namedAt, namedIn}
-use Rattle.words_line.proofs.Reaching.{absent-is, unfit-is}
+use Rattle.model.specs.declared.{Named.Named, Run.Run, Refusal.Refusal, LineAnswer.LineAnswer, LineAnswer.the-variants.Refused}
+use Rattle.model.specs.{Sound.sound, laws.Sound.sound-state}
+use Rattle.whole_runs.specs.{Earliest.someAbsent, Earliest.unfit, Earliest.earliestRefusal, Earliest.earliestOutcome, Outcomes.Outcome}
+use Rattle.words_line.specs.{Through.pairCount, Through.processOf, Through.indexOf, Through.namedAt, Through.namedIn, earliest.Pairs.SameLine}
+use Rattle.words_line.proofs.{Reaching.absent-is, Reaching.unfit-is, earliest.Lists.copy-length, earliest.Lists.copy-process, earliest.Lists.copy-taken}
 use Rattle.words_line.specs.declared.earliest.list.Copied.{Copied}
 use Rattle.words_line.specs.earliest.Copying.{noNamed, copyOf, IsCopy}
-use Rattle.words_line.specs.earliest.Pairs.{SameLine}
-use Rattle.words_line.proofs.earliest.Lists.{copy-length, copy-process, copy-taken}
 use Rattle.words_line.proofs.earliest.Calling.{gives-short, gives-absent, gives-unfit}
 
 -- The numbers of m pairs are m pairs.

@@ -1,11 +1,6 @@
 -- What is copied out of a list of named checkpoints: its first 16 elements, how many elements it has, and the greatest process that one of them names.
 -- Assumes nothing.
-use mathlib.Core.List.{List}
-use mathlib.Core.Path.{_≡_}
-use Prim.Native.Nat.{ℕ, zero, suc, _+_, max}
-use lib.Dec.{ltb}
-use lib.ListN.{length, getD, set, replicate}
-use Rattle.laws.specs.Choice.{pick}
+use Rattle.laws.specs.Basics.{_≡_, List, ℕ, zero, suc, _+_, max, ltb, length, getD, set, replicate, pick}
 use Rattle.model.specs.declared.Named.{Named}
 use Rattle.model.specs.Words.{mostProcesses}
 use Rattle.words_line.specs.declared.earliest.list.Copied.{Copied}

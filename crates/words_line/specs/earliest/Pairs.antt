@@ -1,11 +1,7 @@
 -- Named checkpoints as pairs of numbers, for the call in place.
 -- Assumes nothing.
-use mathlib.Core.Path.{_≡_}
-use mathlib.Core.Bool.{true}
-use mathlib.Core.List.{List}
-use Prim.Native.Nat.{ℕ}
-use Rattle.model.specs.declared.Named.{Named}
-use Rattle.model.specs.declared.Run.{Run}
+use Rattle.laws.specs.Basics.{_≡_, true, List, ℕ}
+use Rattle.model.specs.declared.{Named.Named, Run.Run}
 use Rattle.model.specs.Sound.{sound}
 use Rattle.whole_runs.specs.Earliest.{earliestOutcome}
 

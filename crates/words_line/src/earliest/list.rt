@@ -3,11 +3,7 @@
 use model::CheckpointIndex;
 use model::Named;
 use model::PROCESSES;
-ghost use mathlib.Core.Path.{_≡_};
-ghost use Prim.Native.Nat.{_+_, _<_, _≤_, _^_, max};
-ghost use lib.Dec.{ltb};
-ghost use lib.ListN.{length, getD, set, take};
-ghost use Rattle.laws.specs.Choice.{pick};
+ghost use Rattle.laws.specs.Basics.{_≡_, _+_, _^_, _≤_, _<_, max, ltb, length, getD, take, set, pick};
 ghost use Rattle.model.specs.Words.{mostProcesses};
 ghost use Rattle.words_line.specs.earliest.Copying.{noNamed, nothingCopied, withElement, copyOf};
 

@@ -2,16 +2,10 @@
 use crate::earliest::list::Copied;
 use model::Named;
 use model::PROCESSES;
-ghost use mathlib.Core.Path.{_≡_};
-ghost use mathlib.Core.List.{List};
-ghost use Prim.Native.Nat.{ℕ, _≤_, _<_};
-ghost use lib.Dec.{ltb};
-ghost use lib.ListN.{length, getD, take};
-ghost use Rattle.laws.specs.Choice.{pick};
+ghost use Rattle.laws.specs.Basics.{_≡_, List, ℕ, _≤_, _<_, ltb, length, getD, take, pick};
 ghost use Rattle.model.specs.declared.Named.{Named};
 ghost use Rattle.model.specs.Words.{mostProcesses};
-ghost use Rattle.words_line.specs.Through.{namedAt, namedIn};
-ghost use Rattle.words_line.specs.earliest.Copying.{noNamed, copyOf, IsCopy};
+ghost use Rattle.words_line.specs.{Through.namedAt, Through.namedIn, earliest.Copying.noNamed, earliest.Copying.copyOf, earliest.Copying.IsCopy};
 ghost use Rattle.words_line.specs.earliest.Pairs.{SameLine};
 
 // Two numbers for each of 17 elements: one more than a list may have.

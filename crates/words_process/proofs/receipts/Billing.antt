@@ -1,22 +1,10 @@
 -- The blocks of checkpoints of one process of a sound state, which all have its count; the bounds of the blocks written and deleted.
 -- Assumes nothing.
-use mathlib.Core.Path.{_≡_, refl}
-use mathlib.Core.Bool.{Bool, true, _&&_}
-use mathlib.Core.List.{List, [], _∷_}
-use Prim.Native.Nat.{ℕ, _+_, _*_, _<_}
-use native.Mathlib.Omega.{arith}
-use lib.Dec.{eqb}
-use lib.ListN.{length}
-use Rattle.laws.specs.Lists.{select}
-use Rattle.laws.specs.Tests.{every}
-use Rattle.laws.specs.Truth.{and-out, and-both}
-use Rattle.model.specs.declared.Checkpoint.{Checkpoint}
-use Rattle.model.specs.declared.Disk.{Disk}
-use Rattle.model.specs.declared.Run.{Run}
-use Rattle.model.specs.Words.{Process, blocksOf, blockCount, process}
-use Rattle.model.specs.Steps.{billed}
+use Rattle.laws.specs.Basics.{_≡_, refl, Bool, true, _&&_, List, [], _∷_, ℕ, _+_, _*_, _<_, arith, eqb, length}
+use Rattle.laws.specs.{Lists.select, Tests.every, Truth.and-out, Truth.and-both}
+use Rattle.model.specs.declared.{Checkpoint.Checkpoint, Disk.Disk, Run.Run}
+use Rattle.model.specs.{Words.Process, Words.blocksOf, Words.blockCount, Words.process, Steps.billed, laws.Sound.sound-state}
 use Rattle.model.specs.Sound.{causeSound, isBlockCount, recordSound, sound}
-use Rattle.model.specs.laws.Sound.{sound-state}
 use Rattle.words_process.proofs.receipts.Blocks.{blocks-equal, equal-selected}
 
 counts-same : (P : Process) (l : List Checkpoint) → every (recordSound P) l ≡ true → every (λ c. eqb (c .blocks) (blockCount P)) l ≡ true

@@ -1,17 +1,7 @@
 -- The blocks of checkpoints that all have the same count.
 -- Assumes nothing.
-use mathlib.Core.Path.{_≡_, refl}
-use mathlib.Core.Bool.{Bool, true}
-use mathlib.Core.List.{List, [], _∷_}
-use Prim.Native.Nat.{ℕ, _*_}
-use native.Mathlib.Omega.{arith}
-use lib.Dec.{eqb}
-use lib.ListN.{length}
-use borrow.Author.Tests.{eqb-true}
-use Rattle.laws.specs.Choice.{by-bool}
-use Rattle.laws.specs.Lists.{select}
-use Rattle.laws.specs.Tests.{every}
-use Rattle.laws.specs.Truth.{and-out}
+use Rattle.laws.specs.Basics.{_≡_, refl, Bool, true, List, [], _∷_, ℕ, _*_, arith, eqb, length, eqb-true, by-bool}
+use Rattle.laws.specs.{Lists.select, Tests.every, Truth.and-out}
 use Rattle.model.specs.declared.Checkpoint.{Checkpoint}
 use Rattle.model.specs.Words.{blocksOf}
 

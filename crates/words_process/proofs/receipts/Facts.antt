@@ -1,14 +1,8 @@
 -- What follows from the clauses of a sound state: places for what it holds, and the live state after the kept checkpoints.
 -- Assumes nothing.
-use mathlib.Core.Path.{_≡_}
-use mathlib.Core.Bool.{true}
-use Prim.Native.Nat.{ℕ, _≤_, _<_}
-use native.Mathlib.Omega.{arith}
-use lib.ListN.{getD}
+use Rattle.laws.specs.Basics.{_≡_, true, ℕ, _≤_, _<_, arith, getD}
 use Rattle.model.specs.declared.Run.{Run}
-use Rattle.model.specs.Words.{mostProcesses}
-use Rattle.model.specs.Sound.{sound}
-use Rattle.model.specs.laws.Sound.{sound-state}
+use Rattle.model.specs.{Words.mostProcesses, Sound.sound, laws.Sound.sound-state}
 
 module _ (s : Run) (h : sound s ≡ true) where
   -- there is a place for each process of the run

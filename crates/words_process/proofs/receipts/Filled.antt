@@ -1,24 +1,13 @@
 -- A sound state is full up to what it holds: after the messages under way and after the kept checkpoints of a process, each place is the unused one.
 -- So a table of the state is its own used front laid into a table, and one process's part put back into the state changes nothing.
 -- Assumes nothing.
-use mathlib.Core.Path.{_≡_, refl, ap, _∙_}
-use mathlib.Core.Bool.{Bool, true}
-use mathlib.Core.List.{List, [], _∷_}
-use Prim.Native.Nat.{ℕ, zero, suc, _-_, _<_}
+use Rattle.laws.specs.Basics.{_≡_, refl, _∙_, ap, Bool, true, List, [], _∷_, ℕ, zero, suc, _-_, _<_, arith, eqb, length, getD, take, drop, replicate, eqb-true}
 use native.Mathlib.Nat.{min-eq-left}
-use native.Mathlib.Omega.{arith}
-use borrow.Author.Tests.{eqb-true}
-use lib.Dec.{eqb}
-use lib.ListN.{length, getD, take, drop, replicate, length-take}
-use Rattle.laws.specs.Lists.{placed}
-use Rattle.laws.specs.Tests.{every}
-use Rattle.laws.specs.Truth.{and-left, and-right, and-out}
-use Rattle.model.specs.declared.Interval.{Interval}
-use Rattle.model.specs.declared.Checkpoint.{Checkpoint}
-use Rattle.model.specs.declared.Run.{Run}
-use Rattle.model.specs.Words.{mostProcesses, zeroVector, noCheckpoint, process, underWay}
+use lib.ListN.{length-take}
+use Rattle.laws.specs.{Lists.placed, Tests.every, Truth.and-left, Truth.and-right, Truth.and-out}
+use Rattle.model.specs.declared.{Interval.Interval, Checkpoint.Checkpoint, Run.Run}
+use Rattle.model.specs.{Words.mostProcesses, Words.zeroVector, Words.noCheckpoint, Words.process, Words.underWay, laws.Sound.sound-state}
 use Rattle.model.specs.Sound.{zeroFrom, unusedCheckpoint, sound}
-use Rattle.model.specs.laws.Sound.{sound-state}
 use Rattle.words_process.specs.receipts.Sized.{Sized}
 use Rattle.words_process.proofs.receipts.Facts.{place, kept-count-places}
 

@@ -1,18 +1,10 @@
 -- A sound state with the part of one of its processes put back, and with another sent mark.
 -- Assumes nothing.
-use mathlib.Core.Path.{_≡_, sym, _∙_, ap}
-use mathlib.Core.Bool.{Bool, true, false}
-use mathlib.Core.List.{List, []}
-use Prim.Native.Nat.{ℕ, _<_}
-use lib.ListN.{length, getD, set}
+use Rattle.laws.specs.Basics.{_≡_, sym, _∙_, ap, Bool, true, false, List, [], ℕ, _<_, length, getD, set}
 use lib.Seq.{set-getD}
 use Rattle.laws.specs.Lists.{placed}
-use Rattle.model.specs.declared.Interval.{Interval}
-use Rattle.model.specs.declared.Pin.{Pin}
-use Rattle.model.specs.declared.Checkpoint.{Checkpoint}
-use Rattle.model.specs.declared.Run.{Run}
-use Rattle.model.specs.Words.{mostProcesses, noCheckpoint, process, withProcess}
-use Rattle.model.specs.Sound.{sound}
+use Rattle.model.specs.declared.{Interval.Interval, Pin.Pin, Checkpoint.Checkpoint, Run.Run}
+use Rattle.model.specs.{Words.mostProcesses, Words.noCheckpoint, Words.process, Words.withProcess, Sound.sound}
 use Rattle.words_process.specs.receipts.Sized.{Sized}
 use Rattle.words_process.proofs.receipts.Filled.{row-filled, row-many}
 

@@ -1,21 +1,11 @@
 -- A receipt is what a checkpoint and a delivery do to the part of their process: the checkpoint is stored if there is one, then the carried vector is taken in,
 -- then what no pin names is deleted. Collecting before storing, as the functions do, leaves the same.
 -- Assumes nothing.
-use mathlib.Core.Path.{_≡_, refl, ap, _∙_}
-use mathlib.Core.Bool.{Bool, true, false, not}
-use mathlib.Core.List.{List}
-use Prim.Native.Nat.{ℕ, _<_}
-use native.Mathlib.Omega.{arith}
-use lib.ListN.{length, getD, set}
-use Rattle.laws.specs.Choice.{pick}
+use Rattle.laws.specs.Basics.{_≡_, refl, _∙_, ap, Bool, true, false, not, List, ℕ, _<_, arith, length, getD, set, pick}
 use Rattle.laws.specs.Lists.{select, orElse, lastOf}
-use Rattle.model.specs.declared.Interval.{Interval}
-use Rattle.model.specs.declared.Pin.{Pin}
-use Rattle.model.specs.declared.Pin.the-variants.{Nothing, At}
-use Rattle.model.specs.declared.Checkpoint.{Checkpoint}
-use Rattle.model.specs.Words.{entry, liveIndex, isPinned, noCheckpoint, Process}
+use Rattle.model.specs.declared.{Interval.Interval, Pin.Pin, Pin.the-variants.Nothing, Pin.the-variants.At, Checkpoint.Checkpoint}
+use Rattle.model.specs.{Words.entry, Words.liveIndex, Words.isPinned, Words.noCheckpoint, Words.Process, Sound.ascending}
 use Rattle.model.specs.Steps.{settled, gone, storing, checkpointed, takenIn}
-use Rattle.model.specs.Sound.{ascending}
 use Rattle.words_process.specs.receipts.Receipt.{vectorFirst, pinsFirst, vectorThen, pinsThen, keptThen}
 use Rattle.words_process.proofs.receipts.Settling.{indexes, room-after, stays-after, deleted-before, moved-own, taken-own, taken-length}
 

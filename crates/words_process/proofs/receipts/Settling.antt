@@ -1,31 +1,12 @@
 -- A checkpoint is stored after the kept ones, once the own pin has moved to it: it stays, nothing else changes by its being there, and one of the 16
 -- places of the row is free for it. So a function may collect the kept ones first and store the new one then.
 -- Assumes nothing.
-use mathlib.Core.Path.{_≡_, refl, ap, _∙_}
-use mathlib.Core.Bool.{true, not}
-use mathlib.Core.List.{List, [], _∷_, _++_, append-nil, map}
-use Prim.Native.Nat.{ℕ, zero, suc, _<_, _≤_}
-use native.Mathlib.Omega.{arith}
-use borrow.Author.Tests.{eq-eqb, ne-eqb, eqb-true, leb-true}
-use lib.Dec.{eqb, leb}
-use lib.ListN.{length, getD, set}
-use lib.Seq.{getD-set-same}
-use Rattle.laws.specs.Choice.{pick-same, by-bool}
-use Rattle.laws.specs.Lists.{select, lastOf, orElse}
-use Rattle.laws.specs.Prefixes.{select-none, select-or}
-use Rattle.laws.specs.Rows.{some-at}
-use Rattle.laws.specs.Select.{select-append}
-use Rattle.laws.specs.Tables.{getD-table, length-table}
-use Rattle.laws.specs.Tests.{some-of}
-use Rattle.laws.specs.Truth.{and-left, and-right}
-use Rattle.model.specs.declared.Interval.{Interval}
-use Rattle.model.specs.declared.CheckpointIndex.{CheckpointIndex}
-use Rattle.model.specs.declared.Pin.{Pin}
-use Rattle.model.specs.declared.Pin.the-variants.{Nothing, At}
+use Rattle.laws.specs.Basics.{_≡_, refl, _∙_, ap, true, not, List, [], _∷_, _++_, map, append-nil, ℕ, zero, suc, _≤_, _<_, arith, eqb, leb, length, getD, set, getD-set-same, eq-eqb, ne-eqb, eqb-true, leb-true, by-bool}
+use Rattle.laws.specs.{Choice.pick-same, Lists.select, Lists.lastOf, Lists.orElse, Prefixes.select-none, Prefixes.select-or, Rows.some-at, Select.select-append}
+use Rattle.laws.specs.{Tables.getD-table, Tables.length-table, Tests.some-of, Truth.and-left, Truth.and-right}
+use Rattle.model.specs.declared.{Interval.Interval, CheckpointIndex.CheckpointIndex, Pin.Pin, Pin.the-variants.Nothing, Pin.the-variants.At}
 use Rattle.model.specs.declared.Checkpoint.{Checkpoint}
-use Rattle.model.specs.Words.{entry, below, names, isPinned}
-use Rattle.model.specs.Steps.{takenPin, takenPins}
-use Rattle.model.specs.Sound.{ascending}
+use Rattle.model.specs.{Words.entry, Words.below, Words.names, Words.isPinned, Steps.takenPin, Steps.takenPins, Sound.ascending}
 
 -- the kept ones that a pin names
 abbrev pub pinnedBy : Pin → List Checkpoint → List Checkpoint

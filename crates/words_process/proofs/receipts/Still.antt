@@ -1,24 +1,10 @@
 -- Rows that nothing carried is newer than: taking the carried vector in changes no entry and moves no pin, so no checkpoint of a sound state is deleted.
 -- Assumes nothing.
-use mathlib.Core.Path.{_≡_, sym, ap}
-use mathlib.Core.Bool.{Bool, true, false}
-use mathlib.Core.List.{List, []}
-use Prim.Native.Nat.{ℕ, _<_}
-use lib.ListN.{length, getD}
-use Rattle.laws.specs.Choice.{pick}
-use Rattle.laws.specs.Search.{any-none}
-use Rattle.laws.specs.Select.{all-chosen, none-chosen}
-use Rattle.laws.specs.Tables.{table-is}
-use Rattle.laws.specs.Tests.{every}
-use Rattle.model.specs.declared.Interval.{Interval}
-use Rattle.model.specs.declared.Pin.{Pin}
-use Rattle.model.specs.declared.Pin.the-variants.{Nothing}
-use Rattle.model.specs.declared.Checkpoint.{Checkpoint}
-use Rattle.model.specs.declared.Run.{Run}
-use Rattle.model.specs.Words.{entry, below, isPinned, Process, process}
+use Rattle.laws.specs.Basics.{_≡_, sym, ap, Bool, true, false, List, [], ℕ, _<_, length, getD, pick}
+use Rattle.laws.specs.{Search.any-none, Select.all-chosen, Select.none-chosen, Tables.table-is, Tests.every}
+use Rattle.model.specs.declared.{Interval.Interval, Pin.Pin, Pin.the-variants.Nothing, Checkpoint.Checkpoint, Run.Run}
+use Rattle.model.specs.{Words.entry, Words.below, Words.isPinned, Words.Process, Words.process, Sound.sound, laws.Sound.sound-state}
 use Rattle.model.specs.Steps.{settled, gone, newer, takenEntry, takenVector, takenPin, takenPins, takenIn}
-use Rattle.model.specs.Sound.{sound}
-use Rattle.model.specs.laws.Sound.{sound-state}
 
 -- No entry is below the carried one.
 abbrev pub NoneBelow : List Interval → List Interval → Type 0

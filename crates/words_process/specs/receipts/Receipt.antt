@@ -1,19 +1,10 @@
 -- A receipt on the rows of its process, in the order in which the functions compute it: `stores` says whether a checkpoint is stored first, as by a delivery that
 -- forces one.
 -- Assumes nothing.
-use mathlib.Core.Bool.{Bool}
-use mathlib.Core.List.{List, [], _∷_, _++_}
-use Prim.Native.Nat.{ℕ}
-use lib.ListN.{set}
-use Rattle.laws.specs.Choice.{pick}
+use Rattle.laws.specs.Basics.{Bool, List, [], _∷_, _++_, ℕ, set, pick}
 use Rattle.laws.specs.Lists.{select}
-use Rattle.model.specs.declared.Interval.{Interval}
-use Rattle.model.specs.declared.CheckpointIndex.{CheckpointIndex}
-use Rattle.model.specs.declared.Pin.{Pin}
-use Rattle.model.specs.declared.Pin.the-variants.{At}
-use Rattle.model.specs.declared.Checkpoint.{Checkpoint}
-use Rattle.model.specs.Words.{isPinned}
-use Rattle.model.specs.Steps.{advanced, takenVector, takenPins}
+use Rattle.model.specs.declared.{Interval.Interval, CheckpointIndex.CheckpointIndex, Pin.Pin, Pin.the-variants.At, Checkpoint.Checkpoint}
+use Rattle.model.specs.{Words.isPinned, Steps.advanced, Steps.takenVector, Steps.takenPins}
 
 -- the vector and the pins once the checkpoint is stored
 unfoldable pub vectorFirst : Bool → ℕ → List Interval → List Interval

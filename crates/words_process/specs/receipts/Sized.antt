@@ -1,9 +1,6 @@
 -- The sizes of the arrays of a state, which its type fixes and a definition over lists does not say: 16 rows of 16 places, 64 messages, each vector of 16.
 -- Assumes nothing.
-use mathlib.Core.Path.{_≡_}
-use mathlib.Core.List.{[]}
-use Prim.Native.Nat.{ℕ, _<_}
-use lib.ListN.{length, getD}
+use Rattle.laws.specs.Basics.{_≡_, [], ℕ, _<_, length, getD}
 use Rattle.model.specs.declared.Run.{Run}
 use Rattle.model.specs.Words.{mostProcesses, mostUnderWay, noCheckpoint, noMessage}
 

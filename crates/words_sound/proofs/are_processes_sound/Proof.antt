@@ -1,7 +1,5 @@
 -- `words_sound::are_processes_sound` meets its contract. Assumes nothing.
-use borrow.Author.Needs.{needs}
-use Prim.Native.Nat.{_-_}
-use native.Mathlib.Omega.{arith}
+use Rattle.laws.specs.Basics.{_-_, arith, needs}
 use Rattle.words_sound.proofs.Judging.{Passed, none-passed, one-passed, process-fails, all-passed, kept-count-few}
 use Rattle.words_sound.proofs.are_processes_sound.Statement.{statement}
 use Rattle.words_sound.proofs.are_processes_sound.Tie as tie

@@ -1,9 +1,6 @@
 -- `words_sound::blocks_kept` meets its contract. Assumes nothing.
-use borrow.Author.Needs.{needs}
-use Prim.Native.Nat.{_-_, _*_, _≤_}
-use native.Mathlib.Omega.{arith}
-use Rattle.words_sound.proofs.Judging.{blocks-are, product-few}
-use Rattle.words_sound.proofs.blocks_kept.Statement.{statement}
+use Rattle.laws.specs.Basics.{_-_, _*_, _≤_, arith, needs}
+use Rattle.words_sound.proofs.{Judging.blocks-are, Judging.product-few, blocks_kept.Statement.statement}
 use Rattle.words_sound.proofs.blocks_kept.Tie as tie
 
 few : (c : tie.After-wide2) → c .before .before .before .wide .result * c .wide2 .result ≤ 1048560

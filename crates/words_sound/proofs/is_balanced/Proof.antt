@@ -1,8 +1,7 @@
 -- `words_sound::is_balanced` meets its contract. Assumes nothing.
-use borrow.Author.Needs.{needs}
+use Rattle.laws.specs.Basics.{needs}
 use Rattle.words.specs.Layout.{wide4}
-use Rattle.words_sound.proofs.Judging.{past, too-few, balanced-are}
-use Rattle.words_sound.proofs.is_balanced.Statement.{statement}
+use Rattle.words_sound.proofs.{Judging.past, Judging.too-few, Judging.balanced-are, is_balanced.Statement.statement}
 use Rattle.words_sound.proofs.is_balanced.Tie as tie
 
 returns : tie.Need-returns

@@ -1,7 +1,5 @@
 -- `words_sound::is_sound` meets its contract: where a test fails the words are not sound, and where all hold they are. Assumes nothing.
-use borrow.Author.Needs.{needs}
-use Prim.Native.Nat.{ℕ, _-_, _≤_}
-use native.Mathlib.Omega.{arith}
+use Rattle.laws.specs.Basics.{ℕ, _-_, _≤_, arith, needs}
 use Rattle.words.specs.Layout.{word}
 use Rattle.words_sound.proofs.Judging.{size-off, count-low, count-high, processes-off, words-whole}
 use Rattle.words_sound.proofs.is_sound.Statement.{statement}

@@ -1,13 +1,9 @@
 -- `words_sound::own_entries` meets its contract. Assumes nothing.
-use borrow.Author.Needs.{needs}
-use Prim.Native.Nat.{_-_, _≤_}
-use native.Mathlib.Omega.{arith}
-use mathlib.Core.Path.{_≡_, _∙_}
+use Rattle.laws.specs.Basics.{_≡_, _∙_, _-_, _≤_, arith, needs}
 use Rattle.words.specs.Layout.{countOf, intervalOf}
 use Rattle.laws.specs.Loops.{setBelow, below-none, step-set}
 use Rattle.words_sound.specs.Test.{ownIn}
-use Rattle.words_sound.proofs.Judging.{limits-gathered}
-use Rattle.words_sound.proofs.own_entries.Statement.{statement}
+use Rattle.words_sound.proofs.{Judging.limits-gathered, own_entries.Statement.statement}
 use Rattle.words_sound.proofs.own_entries.Tie as tie
 
 abbrev Inv-loop : tie.InvT-loop

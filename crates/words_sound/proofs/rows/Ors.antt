@@ -1,18 +1,9 @@
 -- Tests gathered in the bits of a word: it is 0 exactly if each part was.
 -- Assumes nothing.
-use mathlib.Core.Path.{_≡_, refl, _∙_}
-use mathlib.Core.Bool.{Bool, true, false, _&&_, _||_, not}
-use Prim.Native.Nat.{ℕ, _+_, _-_}
+use Rattle.laws.specs.Basics.{_≡_, refl, _∙_, Bool, true, false, not, _&&_, _||_, ℕ, _+_, _-_, arith, eqb, leb, eq-eqb, eqb-true, le-leb, leb-true, pick}
 use native.Mathlib.Numerals.{add-one}
-use native.Mathlib.Omega.{arith}
 use lib.Bits.{bitOr, or-add-and, and-le-l, and-le-r}
-use lib.Dec.{eqb, leb}
-use borrow.Author.Tests.{eq-eqb, eqb-true, le-leb, leb-true}
-use Rattle.laws.specs.Below.{all-and}
-use Rattle.laws.specs.Choice.{pick}
-use Rattle.laws.specs.Elements.{same-test}
-use Rattle.laws.specs.Search.{allBelow, anyBelow}
-use Rattle.laws.specs.Truth.{and-out, and-both}
+use Rattle.laws.specs.{Below.all-and, Elements.same-test, Search.allBelow, Search.anyBelow, Truth.and-out, Truth.and-both}
 
 pub or-zero : (a b : ℕ) → eqb (bitOr a b) 0 ≡ (eqb a 0 && eqb b 0)
 or-zero a b = same-test _ _

@@ -1,6 +1,5 @@
 -- `bench_by_value::by_value::apply` meets its contract. Assumes nothing.
-use mathlib.Core.Path.{refl}
-use borrow.Author.Needs.{needs}
+use Rattle.laws.specs.Basics.{refl, needs}
 use Rattle.model.specs.Refusals.{number}
 use Rattle.whole_runs.specs.Listing.{perform}
 use Rattle.trace.specs.Answers.{eventRead}

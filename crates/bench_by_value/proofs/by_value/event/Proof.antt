@@ -1,5 +1,5 @@
 -- `bench_by_value::by_value::event` meets its contract. Assumes nothing.
-use borrow.Author.Needs.{needs}
+use Rattle.laws.specs.Basics.{needs}
 use Rattle.bench_by_value.proofs.ByValue.{checkpoint-does, send-does, deliver-does, lose-does}
 use Rattle.bench_by_value.proofs.by_value.event.Statement.{statement}
 use Rattle.bench_by_value.proofs.by_value.event.Tie as tie

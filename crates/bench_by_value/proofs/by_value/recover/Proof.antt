@@ -1,7 +1,6 @@
 -- `bench_by_value::by_value::recover` meets its contract. Assumes nothing.
-use borrow.Author.Needs.{needs}
-use Rattle.bench_by_value.proofs.ByValue.{recover-does, set-too-large}
-use Rattle.bench_by_value.proofs.by_value.recover.Statement.{statement}
+use Rattle.laws.specs.Basics.{needs}
+use Rattle.bench_by_value.proofs.{ByValue.recover-does, ByValue.set-too-large, by_value.recover.Statement.statement}
 use Rattle.bench_by_value.proofs.by_value.recover.Tie as tie
 
 returns : tie.Need-returns

@@ -1,8 +1,5 @@
 -- `exam::act::recover` meets its contract. Assumes nothing.
-use mathlib.Core.Path.{sym, ap, _∙_}
-use lib.Seq.{length-take-le}
-use lib.ListN.{replicate}
-use borrow.Author.Needs.{needs}
+use Rattle.laws.specs.Basics.{sym, _∙_, ap, replicate, length-take-le, needs}
 use Rattle.model.specs.declared.RecoverAnswer.{RecoverAnswer}
 use Rattle.whole_runs.specs.Outcomes.{Report, recoverReport}
 use Rattle.listing.specs.Summarised.{reportIn}

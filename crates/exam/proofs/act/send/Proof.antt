@@ -1,6 +1,5 @@
 -- `exam::act::send` meets its contract. Assumes nothing.
-use mathlib.Core.Path.{ap, _∙_}
-use borrow.Author.Needs.{needs}
+use Rattle.laws.specs.Basics.{_∙_, ap, needs}
 use Rattle.model.specs.declared.SendAnswer.{SendAnswer}
 use Rattle.whole_runs.specs.Outcomes.{Report, sendReport}
 use Rattle.listing.specs.Summarised.{reportIn}

@@ -1,6 +1,5 @@
 -- `exam::act::start_with` meets its contract. Assumes nothing.
-use mathlib.Core.Path.{ap, _∙_}
-use borrow.Author.Needs.{needs}
+use Rattle.laws.specs.Basics.{_∙_, ap, needs}
 use Rattle.model.specs.declared.StartAnswer.{StartAnswer}
 use Rattle.whole_runs.specs.Outcomes.{Report, startReport}
 use Rattle.listing.specs.Summarised.{reportIn}

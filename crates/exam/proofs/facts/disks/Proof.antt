@@ -1,6 +1,5 @@
 -- `exam::facts::disks` meets its contract. Assumes nothing.
-use Prim.Native.Nat.{_-_, _≤_}
-use borrow.Author.Needs.{needs}
+use Rattle.laws.specs.Basics.{_-_, _≤_, needs}
 use Rattle.exam.proofs.facts.disks.Statement.{statement}
 use Rattle.exam.proofs.facts.disks.Tie as tie
 

@@ -1,6 +1,5 @@
 -- `exam::facts::lines` meets its contract. Assumes nothing.
-use Prim.Native.Nat.{_-_}
-use borrow.Author.Needs.{needs}
+use Rattle.laws.specs.Basics.{_-_, needs}
 use Rattle.exam.proofs.facts.lines.Statement.{statement}
 use Rattle.exam.proofs.facts.lines.Tie as tie
 

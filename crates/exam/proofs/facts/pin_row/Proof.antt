@@ -1,6 +1,5 @@
 -- `exam::facts::named` meets its contract. Assumes nothing.
-use Prim.Native.Nat.{_-_}
-use borrow.Author.Needs.{needs}
+use Rattle.laws.specs.Basics.{_-_, needs}
 use Rattle.exam.proofs.facts.pin_row.Statement.{statement}
 use Rattle.exam.proofs.facts.pin_row.Tie as tie
 

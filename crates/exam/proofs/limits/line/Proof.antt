@@ -1,8 +1,5 @@
 -- `exam::limits::line` meets its contract. Assumes nothing.
-use mathlib.Core.Path.{sym}
-use lib.Seq.{length-take-le}
-use lib.ListN.{replicate}
-use borrow.Author.Needs.{needs}
+use Rattle.laws.specs.Basics.{sym, replicate, length-take-le, needs}
 use Rattle.exam.proofs.limits.line.Statement.{statement}
 use Rattle.exam.proofs.limits.line.Tie as tie
 

@@ -1,6 +1,5 @@
 -- `exam::limits::sends` meets its contract. Assumes nothing.
-use Prim.Native.Nat.{_-_}
-use borrow.Author.Needs.{needs}
+use Rattle.laws.specs.Basics.{_-_, needs}
 use Rattle.exam.proofs.limits.sends.Statement.{statement}
 use Rattle.exam.proofs.limits.sends.Tie as tie
 

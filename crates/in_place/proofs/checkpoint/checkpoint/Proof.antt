@@ -1,11 +1,8 @@
 -- `in_place::checkpoint::checkpoint` meets its contract. Assumes nothing.
-use mathlib.Core.Path.{refl}
+use Rattle.laws.specs.Basics.{refl, needs}
 use Rattle.words.specs.Layout.{runOf}
-use Rattle.whole_runs.proofs.Unsound.{is-sound, is-unsound, checkpoint-unsound}
-use Rattle.whole_runs.proofs.WholeRuns.{checkpoint-promise}
-use Rattle.in_place.proofs.Leaving.{same-words}
-use borrow.Author.Needs.{needs}
-use Rattle.in_place.proofs.checkpoint.checkpoint.Statement.{statement}
+use Rattle.whole_runs.proofs.{Unsound.is-sound, Unsound.is-unsound, Unsound.checkpoint-unsound, WholeRuns.checkpoint-promise}
+use Rattle.in_place.proofs.{Leaving.same-words, checkpoint.checkpoint.Statement.statement}
 use Rattle.in_place.proofs.checkpoint.checkpoint.Tie as tie
 
 returns : tie.Need-returns

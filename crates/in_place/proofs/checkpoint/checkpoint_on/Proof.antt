@@ -1,12 +1,9 @@
 -- `in_place::checkpoint::checkpoint_on` meets its contract. Assumes nothing.
-use mathlib.Core.Path.{sym, _∙_, ap}
-use native.Mathlib.Omega.{arith}
-use borrow.Author.Tests.{ltb-false}
+use Rattle.laws.specs.Basics.{sym, _∙_, ap, arith, needs, ltb-false}
 use Rattle.model.specs.declared.Interval.{Interval}
 use Rattle.model.specs.Words.{liveIndex}
 use Rattle.words.proofs.ViewSound.{sound-words, sound-part}
 use Rattle.in_place.proofs.Checkpointing.{list-short, no-process, not-stored, stored, accepted-own}
-use borrow.Author.Needs.{needs}
 use Rattle.in_place.proofs.checkpoint.checkpoint_on.Statement.{statement}
 use Rattle.in_place.proofs.checkpoint.checkpoint_on.Tie as tie
 

@@ -1,17 +1,10 @@
 -- `in_place::checkpoint::storing_admission` meets its contract. Assumes nothing.
-use mathlib.Core.Path.{_≡_, sym, _∙_, ap}
-use native.Mathlib.Omega.{arith}
-use mathlib.Core.Bool.{true, false}
-use Prim.Native.Nat.{ℕ, _<_}
-use lib.Dec.{leb}
-use lib.ListN.{length}
+use Rattle.laws.specs.Basics.{_≡_, sym, _∙_, ap, true, false, ℕ, _<_, arith, leb, length, needs}
 use Rattle.model.specs.declared.Interval.{Interval}
 use Rattle.admissions.specs.Admissions.{pastMost}
 use Rattle.words.specs.Layout.{word, blocksAt}
 use Rattle.words.proofs.ViewSound.{sound-words}
-use Rattle.in_place.proofs.Checkpointing.{admission-last, admission-past}
-use borrow.Author.Needs.{needs}
-use Rattle.in_place.proofs.checkpoint.storing_admission.Statement.{statement}
+use Rattle.in_place.proofs.{Checkpointing.admission-last, Checkpointing.admission-past, checkpoint.storing_admission.Statement.statement}
 use Rattle.in_place.proofs.checkpoint.storing_admission.Tie as tie
 
 known : (c : tie.Start) → (length (c .args .w .now) ≡ 6464) × (c .args .i < 16)

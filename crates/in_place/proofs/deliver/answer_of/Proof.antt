@@ -1,6 +1,6 @@
 -- `in_place::deliver::answer_of` meets its contract, by whether a checkpoint is forced.
 -- Assumes nothing.
-use borrow.Author.Needs.{needs}
+use Rattle.laws.specs.Basics.{needs}
 use Rattle.in_place.proofs.deliver.answer_of.Statement.{statement}
 use Rattle.in_place.proofs.deliver.answer_of.Tie as tie
 

@@ -1,13 +1,10 @@
 -- `in_place::deliver::deliver` meets its contract: words that stand for no sound state are refused with 2, on others the step does it. Demand 3 is the theorem of
 -- `whole_runs`.
 -- Assumes nothing.
-use mathlib.Core.Path.{refl}
-use borrow.Author.Needs.{needs}
+use Rattle.laws.specs.Basics.{refl, needs}
 use Rattle.words.specs.Layout.{runOf}
-use Rattle.whole_runs.proofs.Unsound.{is-sound, is-unsound, deliver-unsound}
-use Rattle.whole_runs.proofs.WholeRuns.{deliver-promise}
-use Rattle.in_place.proofs.Leaving.{same-words}
-use Rattle.in_place.proofs.deliver.deliver.Statement.{statement}
+use Rattle.whole_runs.proofs.{Unsound.is-sound, Unsound.is-unsound, Unsound.deliver-unsound, WholeRuns.deliver-promise}
+use Rattle.in_place.proofs.{Leaving.same-words, deliver.deliver.Statement.statement}
 use Rattle.in_place.proofs.deliver.deliver.Tie as tie
 
 returns : tie.Need-returns

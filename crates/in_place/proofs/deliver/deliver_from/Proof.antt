@@ -1,16 +1,9 @@
 -- `in_place::deliver::deliver_from` meets its contract, by whether the message brings something new. Assumes nothing.
-use mathlib.Core.Path.{_≡_, refl, sym, _∙_, ap}
-use Prim.Native.Nat.{_<_}
-use native.Mathlib.Omega.{arith}
-use lib.ListN.{length}
-use borrow.Author.Needs.{needs}
-use borrow.Author.Tests.{not-true, not-false}
-use Rattle.model.specs.Words.{process}
-use Rattle.model.specs.Steps.{newer, forces}
+use Rattle.laws.specs.Basics.{_≡_, refl, sym, _∙_, ap, _<_, arith, length, needs, not-true, not-false}
+use Rattle.model.specs.{Words.process, Steps.newer, Steps.forces}
 use Rattle.words.specs.Layout.{word, partAt, receiverAt, vectorIn, messageIn, runOf}
 use Rattle.words.proofs.ViewSound.{sound-words}
-use Rattle.in_place.proofs.Losing.{one-there}
-use Rattle.in_place.proofs.Receiving.{place-there, still-out, forces-marked, not-taken}
+use Rattle.in_place.proofs.{Losing.one-there, Receiving.place-there, Receiving.still-out, Receiving.forces-marked, Receiving.not-taken}
 use Rattle.in_place.proofs.deliver.deliver_from.Statement.{statement}
 use Rattle.in_place.proofs.deliver.deliver_from.Tie as tie
 

@@ -1,17 +1,8 @@
 -- `in_place::deliver::deliver_on` meets its contract. Assumes nothing.
-use mathlib.Core.Path.{_≡_, sym, _∙_, ap}
-use mathlib.Core.Bool.{false}
-use Prim.Native.Nat.{_*_}
-use native.Mathlib.Omega.{arith}
-use lib.Dec.{ltb}
-use lib.ListN.{length}
-use borrow.Author.Needs.{needs}
-use borrow.Author.Tests.{ltb-false}
-use Rattle.words.specs.Layout.{countOf}
+use Rattle.laws.specs.Basics.{_≡_, sym, _∙_, ap, false, _*_, arith, ltb, length, needs, ltb-false}
+use Rattle.words.specs.{Layout.countOf, messages.Places.placeOf}
 use Rattle.words.proofs.ViewSound.{sound-words}
-use Rattle.words.specs.messages.Places.{placeOf}
-use Rattle.in_place.proofs.Losing.{nothing, there, its-number}
-use Rattle.in_place.proofs.Receiving.{list-short, not-under-way, renumbered}
+use Rattle.in_place.proofs.{Losing.nothing, Losing.there, Losing.its-number, Receiving.list-short, Receiving.not-under-way, Receiving.renumbered}
 use Rattle.in_place.proofs.deliver.deliver_on.Statement.{statement}
 use Rattle.in_place.proofs.deliver.deliver_on.Tie as tie
 

@@ -1,7 +1,5 @@
 -- `in_place::deliver::has_sent` meets its contract. Assumes nothing.
-use mathlib.Core.Path.{refl}
-use native.Mathlib.Omega.{arith}
-use borrow.Author.Needs.{needs}
+use Rattle.laws.specs.Basics.{refl, arith, needs}
 use Rattle.words.specs.Layout.{markIn}
 use Rattle.in_place.proofs.deliver.has_sent.Statement.{statement}
 use Rattle.in_place.proofs.deliver.has_sent.Tie as tie

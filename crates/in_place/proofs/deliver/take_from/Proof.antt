@@ -1,17 +1,10 @@
 -- `in_place::deliver::take_from` meets its contract. Assumes nothing.
-use mathlib.Core.Path.{_∙_, ap}
-use Prim.Native.Nat.{_<_}
-use native.Mathlib.Omega.{arith}
-use borrow.Author.Needs.{needs}
-use Rattle.laws.specs.Choice.{pick}
-use Rattle.model.specs.declared.Interval.{Interval}
-use Rattle.model.specs.declared.DeliverAnswer.the-variants.{Received, Forced}
+use Rattle.laws.specs.Basics.{_∙_, ap, _<_, arith, needs, pick}
+use Rattle.model.specs.declared.{Interval.Interval, DeliverAnswer.the-variants.Received, DeliverAnswer.the-variants.Forced}
 use Rattle.model.specs.Words.{liveIndex}
 use Rattle.words.specs.Layout.{countOf, messageIn}
 use Rattle.words.proofs.ViewSound.{sound-words, sound-part}
-use Rattle.in_place.proofs.Delivering.{receiver-in}
-use Rattle.in_place.proofs.Receiving.{taken-at, own-early, out-there}
-use Rattle.in_place.proofs.deliver.take_from.Statement.{statement}
+use Rattle.in_place.proofs.{Delivering.receiver-in, Receiving.taken-at, Receiving.own-early, Receiving.out-there, deliver.take_from.Statement.statement}
 use Rattle.in_place.proofs.deliver.take_from.Tie as tie
 
 -- the receiver is in the run

@@ -1,11 +1,9 @@
 -- `in_place::line::line` meets its contract: words that stand for no sound state are refused with 2, on others the step does it. Demand 3 and Note 4 are theorems of
 -- `whole_runs`.
 -- Assumes nothing.
-use borrow.Author.Needs.{needs}
+use Rattle.laws.specs.Basics.{needs}
 use Rattle.words.specs.Layout.{runOf}
-use Rattle.whole_runs.proofs.Sweep.{empty-line-promise}
-use Rattle.whole_runs.proofs.Unsound.{is-sound, is-unsound, line-unsound}
-use Rattle.whole_runs.proofs.WholeRuns.{line-promise}
+use Rattle.whole_runs.proofs.{Sweep.empty-line-promise, Unsound.is-sound, Unsound.is-unsound, Unsound.line-unsound, WholeRuns.line-promise}
 use Rattle.in_place.proofs.line.line.Statement.{statement}
 use Rattle.in_place.proofs.line.line.Tie as tie
 

@@ -1,19 +1,10 @@
 -- `in_place::line::line_on` meets its contract: the list's length, the verdict on the failed set, then the line. Assumes nothing.
-use mathlib.Core.Path.{_≡_, refl, sym, _∙_, ap}
-use mathlib.Core.Bool.{true, false}
-use mathlib.Core.List.{List}
-use Prim.Native.Nat.{ℕ, _≤_}
-use native.Mathlib.Omega.{arith}
-use lib.Dec.{ltb}
-use lib.ListN.{length}
-use borrow.Author.Needs.{needs}
-use borrow.Author.Tests.{ltb-false}
+use Rattle.laws.specs.Basics.{_≡_, refl, sym, _∙_, ap, true, false, List, ℕ, _≤_, arith, ltb, length, needs, ltb-false}
 use Rattle.admissions.specs.declared.Admission.the-variants.{Accepted}
 use Rattle.admissions.specs.Admissions.{recoveryAdmission}
 use Rattle.words.specs.Layout.{countOf}
 use Rattle.words.proofs.ViewSound.{sound-words}
-use Rattle.in_place.proofs.Lining.{refused, line-short, line-refused, line-passed}
-use Rattle.in_place.proofs.line.line_on.Statement.{statement}
+use Rattle.in_place.proofs.{Lining.refused, Lining.line-short, Lining.line-refused, Lining.line-passed, line.line_on.Statement.statement}
 use Rattle.in_place.proofs.line.line_on.Tie as tie
 
 abbrev start : tie.Else1 → tie.Start

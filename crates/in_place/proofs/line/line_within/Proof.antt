@@ -1,12 +1,5 @@
 -- `in_place::line::line_within` meets its contract, by whether each process has a member. Assumes nothing.
-use mathlib.Core.Path.{_≡_, refl, ap, _∙_}
-use mathlib.Core.Bool.{false}
-use mathlib.Core.List.{List}
-use Prim.Native.Nat.{ℕ}
-use native.Mathlib.Omega.{arith}
-use lib.Seq.{sets}
-use borrow.Author.Needs.{needs}
-use borrow.Author.Tests.{not-true, not-false}
+use Rattle.laws.specs.Basics.{_≡_, refl, _∙_, ap, false, List, ℕ, arith, sets, needs, not-true, not-false}
 use Rattle.model.specs.Refusals.{noMember}
 use Rattle.words.specs.Layout.{runOf}
 use Rattle.words.proofs.ViewSound.{sound-words}

@@ -1,12 +1,7 @@
 -- `in_place::line::write_line` meets its contract. The loop's invariant: the indexes passed so far are written, and nothing else in the lent list has changed.
 -- Assumes nothing.
-use Prim.Native.Nat.{_≤_, _-_}
-use mathlib.Core.Path.{_≡_, refl, _∙_}
-use native.Mathlib.Omega.{arith}
-use lib.ListN.{length, length-set, getD}
-use borrow.Author.Needs.{needs}
-use Rattle.laws.specs.Below.{below-written}
-use Rattle.laws.specs.Loops.{setBelow, below-none, step-set}
+use Rattle.laws.specs.Basics.{_≡_, refl, _∙_, _-_, _≤_, arith, length, getD, length-set, needs}
+use Rattle.laws.specs.{Below.below-written, Loops.setBelow, Loops.below-none, Loops.step-set}
 use Rattle.in_place.proofs.line.write_line.Statement.{statement}
 use Rattle.in_place.proofs.line.write_line.Tie as tie
 

@@ -1,21 +1,13 @@
 -- `in_place::lose::lose_on` meets its contract. Assumes nothing.
-use mathlib.Core.Path.{_≡_, refl, sym, _∙_}
-use mathlib.Core.Bool.{true}
-use mathlib.Core.List.{List}
-use Prim.Native.Nat.{ℕ, suc}
-use native.Mathlib.Omega.{arith}
-use borrow.Author.Needs.{needs}
-use Rattle.model.specs.declared.Refusal.{Refusal}
-use Rattle.model.specs.declared.LoseAnswer.the-variants.{Refused, Lost}
+use Rattle.laws.specs.Basics.{_≡_, refl, sym, _∙_, true, List, ℕ, suc, arith, needs}
+use Rattle.model.specs.declared.{Refusal.Refusal, LoseAnswer.the-variants.Refused, LoseAnswer.the-variants.Lost}
 use Rattle.model.specs.Sound.{sound}
 use Rattle.whole_runs.specs.Outcomes.{loseOutcome}
-use Rattle.words.specs.Layout.{runOf}
+use Rattle.words.specs.{Layout.runOf, messages.Places.placeOf, messages.Places.takenOut}
 use Rattle.in_place.specs.Left.{Leaves}
 use Rattle.words.proofs.ViewSound.{sound-words}
-use Rattle.words.specs.messages.Places.{placeOf, takenOut}
-use Rattle.in_place.proofs.Leaving.{same-words}
+use Rattle.in_place.proofs.{Leaving.same-words, lose.lose_on.Statement.statement}
 use Rattle.in_place.proofs.Losing.{nothing, there, lose-refused, lose-accepted, place-in, one-there, taken-leaves}
-use Rattle.in_place.proofs.lose.lose_on.Statement.{statement}
 use Rattle.in_place.proofs.lose.lose_on.Tie as tie
 
 -- What the words then are, put together.

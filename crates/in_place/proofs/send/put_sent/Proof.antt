@@ -1,20 +1,11 @@
 -- `in_place::send::put_sent` meets its contract. Assumes nothing.
-use mathlib.Core.Path.{_≡_, refl, sym, _∙_, ap}
-use mathlib.Core.List.{List, [], _∷_, _++_}
-use Prim.Native.Nat.{ℕ, _+_, _*_, _≤_, _<_}
-use native.Mathlib.Omega.{arith}
-use lib.ListN.{length, set, length-set}
-use borrow.Author.Needs.{needs}
-use Rattle.model.specs.declared.Interval.{Interval}
-use Rattle.model.specs.declared.Message.{Message}
-use Rattle.words.specs.Layout.{word, wide2, markAt, partAt, vectorIn}
-use Rattle.words.specs.Puts.{puts, one, puts2}
-use Rattle.words.proofs.Reading.{set-is-put}
-use Rattle.words.proofs.ViewSound.{sound-words}
+use Rattle.laws.specs.Basics.{_≡_, refl, sym, _∙_, ap, List, [], _∷_, _++_, ℕ, _+_, _*_, _≤_, _<_, arith, length, set, length-set, needs}
+use Rattle.model.specs.declared.{Interval.Interval, Message.Message}
+use Rattle.words.specs.{Layout.word, Layout.wide2, Layout.markAt, Layout.partAt, Layout.vectorIn, Puts.puts, Puts.one, Puts.puts2}
+use Rattle.words.proofs.{Reading.set-is-put, ViewSound.sound-words}
 use Rattle.words.specs.messages.Places.{withRoom, putLast}
 use Rattle.in_place.specs.Sending.{sentIn, sentWords}
-use Rattle.in_place.proofs.Sending.{EnoughRoom, with-room}
-use Rattle.in_place.proofs.send.put_sent.Statement.{statement}
+use Rattle.in_place.proofs.{Sending.EnoughRoom, Sending.with-room, send.put_sent.Statement.statement}
 use Rattle.in_place.proofs.send.put_sent.Tie as tie
 
 -- There is a place for the message.

@@ -1,22 +1,14 @@
 -- `in_place::send::send_on` meets its contract. Assumes nothing.
-use mathlib.Core.Path.{_≡_, refl, sym, _∙_, ap}
-use mathlib.Core.Bool.{true}
-use mathlib.Core.List.{List}
-use Prim.Native.Nat.{ℕ, _+_}
-use native.Mathlib.Omega.{arith}
-use borrow.Author.Needs.{needs}
+use Rattle.laws.specs.Basics.{_≡_, refl, sym, _∙_, ap, true, List, ℕ, _+_, arith, needs}
 use Rattle.admissions.specs.declared.Admission.the-variants.{Accepted}
 use Rattle.admissions.specs.Admissions.{sendAdmission}
-use Rattle.model.specs.declared.Refusal.{Refusal}
-use Rattle.model.specs.declared.SendAnswer.the-variants.{Refused, Sent}
+use Rattle.model.specs.declared.{Refusal.Refusal, SendAnswer.the-variants.Refused, SendAnswer.the-variants.Sent}
 use Rattle.model.specs.Sound.{sound}
 use Rattle.whole_runs.specs.Outcomes.{sendOutcome}
 use Rattle.words.specs.Layout.{word, wide2, countOf, runOf}
-use Rattle.in_place.specs.Left.{Leaves}
-use Rattle.in_place.specs.Sending.{sentWords}
-use Rattle.in_place.proofs.Leaving.{same-words}
+use Rattle.in_place.specs.{Left.Leaves, Sending.sentWords}
+use Rattle.in_place.proofs.{Leaving.same-words, Sending.send-refused, Sending.send-places, Sending.send-accepted, Sending.sent-leaves}
 use Rattle.words.proofs.ViewSound.{sound-words}
-use Rattle.in_place.proofs.Sending.{send-refused, send-places, send-accepted, sent-leaves}
 use Rattle.in_place.proofs.send.send_on.Statement.{statement}
 use Rattle.in_place.proofs.send.send_on.Tie as tie
 

@@ -1,8 +1,5 @@
 -- `in_place::start::answer_of` meets its contract. Assumes nothing.
-use mathlib.Core.Path.{_≡_, refl, sym, _∙_}
-use native.Mathlib.Omega.{arith}
-use borrow.Author.Tests.{not-true, not-false}
-use borrow.Author.Needs.{needs}
+use Rattle.laws.specs.Basics.{_≡_, refl, sym, _∙_, arith, needs, not-true, not-false}
 use Rattle.in_place.proofs.Judging.{few, many-processes, other-size, short-counts, outside, fine}
 use Rattle.in_place.proofs.start.answer_of.Statement.{statement}
 use Rattle.in_place.proofs.start.answer_of.Tie as tie

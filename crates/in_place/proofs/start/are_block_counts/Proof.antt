@@ -1,13 +1,6 @@
 -- `in_place::start::are_block_counts` meets its contract. Assumes nothing.
-use mathlib.Core.Path.{_≡_, ap, _∙_}
-use mathlib.Core.Bool.{Bool, _&&_}
-use Prim.Native.Nat.{_≤_, _-_}
-use native.Mathlib.Omega.{arith}
-use lib.ListN.{getD}
-use borrow.Author.Needs.{needs}
-use Rattle.laws.specs.Loops.{all-zero}
-use Rattle.laws.specs.Rows.{all-step}
-use Rattle.laws.specs.Search.{allBelow}
+use Rattle.laws.specs.Basics.{_≡_, _∙_, ap, Bool, _&&_, _-_, _≤_, arith, getD, needs}
+use Rattle.laws.specs.{Loops.all-zero, Rows.all-step, Search.allBelow}
 use Rattle.model.specs.Sound.{isBlockCount}
 use Rattle.in_place.proofs.start.are_block_counts.Statement.{statement}
 use Rattle.in_place.proofs.start.are_block_counts.Tie as tie

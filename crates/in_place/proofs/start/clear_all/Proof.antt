@@ -1,11 +1,6 @@
 -- `in_place::start::clear_all` meets its contract. Assumes nothing.
-use Prim.Native.Nat.{ℕ, _≤_, _-_, _+_}
-use mathlib.Core.Path.{_≡_, refl, sym, _∙_, ap}
-use native.Mathlib.Omega.{arith}
-use lib.ListN.{length, length-set}
-use borrow.Author.Needs.{needs}
-use Rattle.laws.specs.Loops.{setBelow, below-none, step-set, below-all}
-use Rattle.laws.specs.Tables.{table-replicate}
+use Rattle.laws.specs.Basics.{_≡_, refl, sym, _∙_, ap, ℕ, _+_, _-_, _≤_, arith, length, length-set, needs}
+use Rattle.laws.specs.{Loops.setBelow, Loops.below-none, Loops.step-set, Loops.below-all, Tables.table-replicate}
 use Rattle.words.specs.Layout.{stateSize}
 use Rattle.in_place.specs.Starting.{zeros}
 use Rattle.in_place.proofs.start.clear_all.Statement.{statement}

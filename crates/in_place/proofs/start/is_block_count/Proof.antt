@@ -1,5 +1,5 @@
 -- `in_place::start::is_block_count` meets its contract. Assumes nothing.
-use mathlib.Core.Path.{refl}
+use Rattle.laws.specs.Basics.{refl}
 use Rattle.model.specs.Sound.{isBlockCount}
 use Rattle.in_place.proofs.start.is_block_count.Statement.{statement}
 use Rattle.in_place.proofs.start.is_block_count.Tie as tie

@@ -1,16 +1,7 @@
 -- `in_place::start::put_counts` meets its contract. Assumes nothing.
-use mathlib.Core.Path.{_≡_, refl, sym, ap, _∙_}
-use mathlib.Core.Bool.{true}
-use mathlib.Core.List.{List}
-use Prim.Native.Nat.{ℕ, _≤_, _<_, _-_, _+_}
+use Rattle.laws.specs.Basics.{_≡_, refl, sym, _∙_, ap, true, List, ℕ, _+_, _-_, _≤_, _<_, arith, leb, length, getD, set, length-set, needs, leb-true}
 use native.Mathlib.Numerals.{add-one}
-use native.Mathlib.Omega.{arith}
-use lib.Dec.{leb}
-use lib.ListN.{length, getD, set, length-set}
-use borrow.Author.Needs.{needs}
-use borrow.Author.Tests.{leb-true}
-use Rattle.laws.specs.Search.{all-out}
-use Rattle.laws.specs.Truth.{and-right}
+use Rattle.laws.specs.{Search.all-out, Truth.and-right}
 use Rattle.model.specs.Sound.{isBlockCount}
 use Rattle.words.specs.Layout.{blocksAt}
 use Rattle.words.proofs.Reading.{set-is-put}

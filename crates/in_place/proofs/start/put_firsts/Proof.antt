@@ -1,11 +1,6 @@
 -- `in_place::start::put_firsts` meets its contract. Assumes nothing.
-use mathlib.Core.Path.{_≡_, refl, sym, ap, _∙_}
-use mathlib.Core.List.{List}
-use Prim.Native.Nat.{ℕ, _≤_, _<_, _-_, _+_, _*_}
+use Rattle.laws.specs.Basics.{_≡_, refl, sym, _∙_, ap, List, ℕ, _+_, _-_, _*_, _≤_, _<_, arith, length, getD, set, length-set, needs}
 use native.Mathlib.Numerals.{add-one}
-use native.Mathlib.Omega.{arith}
-use lib.ListN.{length, getD, set, length-set}
-use borrow.Author.Needs.{needs}
 use Rattle.words.specs.Layout.{keptCountAt, partAt, pinsAt, indexAt}
 use Rattle.words.proofs.Reading.{set-is-put}
 use Rattle.in_place.specs.Starting.{withFirsts}

@@ -1,16 +1,10 @@
 -- `in_place::start::put_started` meets its contract. Assumes nothing.
-use mathlib.Core.Path.{_≡_, refl, sym, ap, _∙_}
-use mathlib.Core.List.{List, [], _∷_}
-use Prim.Native.Nat.{ℕ, _≤_, _<_, _+_}
-use native.Mathlib.Omega.{arith}
-use lib.ListN.{length, getD, set, length-set}
-use borrow.Author.Needs.{needs}
+use Rattle.laws.specs.Basics.{_≡_, refl, sym, _∙_, ap, List, [], _∷_, ℕ, _+_, _≤_, _<_, arith, length, getD, set, length-set, needs}
 use Rattle.laws.specs.Sums.{sumBelow}
 use Rattle.words.specs.Puts.{puts, puts4}
 use Rattle.words.proofs.Reading.{set-is-put}
 use Rattle.in_place.specs.Starting.{zeros, withCounts, counted, withFirsts, begun, startedWords}
-use Rattle.in_place.proofs.Starting.{zeros-length}
-use Rattle.in_place.proofs.start.put_started.Statement.{statement}
+use Rattle.in_place.proofs.{Starting.zeros-length, start.put_started.Statement.statement}
 use Rattle.in_place.proofs.start.put_started.Tie as tie
 
 long : (c : tie.Start) → length (c .args .w .now) ≡ 6464

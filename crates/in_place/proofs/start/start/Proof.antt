@@ -1,28 +1,13 @@
 -- `in_place::start::start` meets its contract. Assumes nothing.
-use mathlib.Core.Path.{_≡_, refl, sym, ap, _∙_}
-use mathlib.Core.Bool.{true}
-use mathlib.Core.List.{List, []}
-use mathlib.Core.Option.{Option, none, some}
-use Prim.Native.Nat.{ℕ, _≤_}
-use native.Mathlib.Omega.{arith}
-use lib.Dec.{eqb, ltb}
-use lib.ListN.{length, getD}
-use borrow.Author.Needs.{needs}
-use borrow.Author.Tests.{eq-eqb, ne-eqb}
-use Rattle.laws.specs.Choice.{pick}
+use Rattle.laws.specs.Basics.{_≡_, refl, sym, _∙_, ap, true, List, [], Option, none, some, ℕ, _≤_, arith, eqb, ltb, length, getD, needs, eq-eqb, ne-eqb, pick}
 use Rattle.laws.specs.Search.{allBelow}
-use Rattle.model.specs.declared.Refusal.{Refusal}
-use Rattle.model.specs.declared.StartAnswer.{StartAnswer}
-use Rattle.model.specs.declared.StartAnswer.the-variants.{Refused, Started}
-use Rattle.model.specs.Sound.{isBlockCount}
-use Rattle.model.specs.laws.Refusals.{by-refusal}
+use Rattle.model.specs.declared.{Refusal.Refusal, StartAnswer.StartAnswer, StartAnswer.the-variants.Refused, StartAnswer.the-variants.Started}
+use Rattle.model.specs.{Sound.isBlockCount, laws.Refusals.by-refusal}
 use Rattle.whole_runs.specs.WholeRuns.{StartPromise}
-use Rattle.words.specs.Layout.{stateSize, runOf}
-use Rattle.words.specs.Clean.{Clean}
+use Rattle.words.specs.{Layout.stateSize, Layout.runOf, Clean.Clean}
 use Rattle.in_place.specs.Starting.{zeros, startedWords, startRefusalIn, startOutcomeIn, startWords}
-use Rattle.in_place.proofs.Judging.{by-answer, started-promise}
+use Rattle.in_place.proofs.{Judging.by-answer, Judging.started-promise, start.start.Statement.statement}
 use Rattle.in_place.proofs.Starting.{zeros-length, start-run, start-clean, accepted-few, accepted-size, accepted-long, accepted-counts}
-use Rattle.in_place.proofs.start.start.Statement.{statement}
 use Rattle.in_place.proofs.start.start.Tie as tie
 
 by-refused : (many n : ℕ) (blockCounts : List ℕ) (why : Refusal) → startOutcomeIn many n blockCounts .answer ≡ Refused why → startRefusalIn many n blockCounts ≡ some why

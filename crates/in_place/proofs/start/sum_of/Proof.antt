@@ -1,10 +1,6 @@
 -- `in_place::start::sum_of` meets its contract. Assumes nothing.
-use mathlib.Core.Path.{_≡_, refl, ap, _∙_}
-use Prim.Native.Nat.{ℕ, _≤_, _-_, _+_, _*_}
+use Rattle.laws.specs.Basics.{_≡_, refl, _∙_, ap, ℕ, _+_, _-_, _*_, _≤_, arith, getD, needs}
 use native.Mathlib.Numerals.{add-one}
-use native.Mathlib.Omega.{arith}
-use lib.ListN.{getD}
-use borrow.Author.Needs.{needs}
 use Rattle.laws.specs.Sums.{sumBelow}
 use Rattle.in_place.proofs.start.sum_of.Statement.{statement}
 use Rattle.in_place.proofs.start.sum_of.Tie as tie

@@ -1,10 +1,9 @@
 -- `in_place::through::earliest` meets its contract: words that stand for no sound state are refused with 2, on others the step does it. Note 8 is the theorem of
 -- `whole_runs`.
 -- Assumes nothing.
-use borrow.Author.Needs.{needs}
+use Rattle.laws.specs.Basics.{needs}
 use Rattle.words.specs.Layout.{runOf}
-use Rattle.whole_runs.proofs.Unsound.{is-sound, is-unsound, earliest-unsound}
-use Rattle.whole_runs.proofs.WholeRuns.{earliest-promise}
+use Rattle.whole_runs.proofs.{Unsound.is-sound, Unsound.is-unsound, Unsound.earliest-unsound, WholeRuns.earliest-promise}
 use Rattle.words_line.specs.Through.{namedIn}
 use Rattle.in_place.proofs.through.earliest.Statement.{statement}
 use Rattle.in_place.proofs.through.earliest.Tie as tie

@@ -1,12 +1,5 @@
 -- `in_place::through::earliest_on` meets its contract: its tests in their order, then the line. Assumes nothing.
-use mathlib.Core.Path.{_≡_, refl, sym, _∙_, ap}
-use mathlib.Core.Bool.{Bool, true, false, _||_}
-use Prim.Native.Nat.{ℕ, _*_, _≤_}
-use native.Mathlib.Omega.{arith}
-use lib.Dec.{eqb, ltb, leb}
-use lib.ListN.{length}
-use borrow.Author.Needs.{needs}
-use borrow.Author.Tests.{ltb-false}
+use Rattle.laws.specs.Basics.{_≡_, refl, sym, _∙_, ap, Bool, true, false, _||_, ℕ, _*_, _≤_, arith, eqb, ltb, leb, length, needs, ltb-false}
 use Rattle.laws.specs.Search.{anyBelow}
 use Rattle.whole_runs.specs.Earliest.{someAbsent, unfit}
 use Rattle.words.specs.Layout.{countOf}

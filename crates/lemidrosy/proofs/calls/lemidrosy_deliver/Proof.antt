@@ -1,6 +1,5 @@
 -- `lemidrosy::calls::lemidrosy_deliver` meets its contract. Assumes nothing.
-use mathlib.Core.Path.{_≡_, _∙_}
-use borrow.Author.Needs.{needs}
+use Rattle.laws.specs.Basics.{_≡_, _∙_, needs}
 use Rattle.listing.specs.answers.Codes.{deliverCode}
 use Rattle.listing.proofs.answers.Fit.{deliver-fits}
 use Rattle.words.specs.Layout.{runOf}

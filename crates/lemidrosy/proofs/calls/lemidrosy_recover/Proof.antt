@@ -1,6 +1,5 @@
 -- `lemidrosy::calls::lemidrosy_recover` meets its contract. Assumes nothing.
-use mathlib.Core.Path.{refl, _∙_, ap}
-use borrow.Author.Needs.{needs}
+use Rattle.laws.specs.Basics.{refl, _∙_, ap, needs}
 use Rattle.listing.specs.answers.Codes.{recoverCode}
 use Rattle.listing.proofs.answers.Fit.{recover-fits}
 use Rattle.whole_runs.proofs.Sweep.{sweep-promise}

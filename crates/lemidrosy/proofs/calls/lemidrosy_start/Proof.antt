@@ -1,10 +1,7 @@
 -- `lemidrosy::calls::lemidrosy_start` meets its contract. Assumes nothing.
-use mathlib.Core.Path.{_≡_, _∙_, ap}
-use lib.ListN.{length}
-use borrow.Author.Needs.{needs}
+use Rattle.laws.specs.Basics.{_≡_, _∙_, ap, length, needs}
 use Rattle.listing.specs.answers.Codes.{startCode}
-use Rattle.lemidrosy.proofs.Starting.{start-fits}
-use Rattle.lemidrosy.proofs.calls.lemidrosy_start.Statement.{statement}
+use Rattle.lemidrosy.proofs.{Starting.start-fits, calls.lemidrosy_start.Statement.statement}
 use Rattle.lemidrosy.proofs.calls.lemidrosy_start.Tie as tie
 
 of-start-requires : tie.Need-of-start-requires

@@ -1,10 +1,8 @@
 -- `lemidrosy::console::lemidrosy_console_checkpoint` meets its contract. Assumes nothing.
-use mathlib.Core.Path.{_≡_, _∙_, ap}
-use borrow.Author.Needs.{needs}
+use Rattle.laws.specs.Basics.{_≡_, _∙_, ap, needs}
 use Rattle.listing.specs.answers.Codes.{checkpointCode}
 use Rattle.words.specs.Layout.{runOf}
-use Rattle.lemidrosy.proofs.Consoles.{checkpoint-as-fits}
-use Rattle.lemidrosy.proofs.console.lemidrosy_console_checkpoint.Statement.{statement}
+use Rattle.lemidrosy.proofs.{Consoles.checkpoint-as-fits, console.lemidrosy_console_checkpoint.Statement.statement}
 use Rattle.lemidrosy.proofs.console.lemidrosy_console_checkpoint.Tie as tie
 
 of-checkpoint-requires : tie.Need-of-checkpoint-requires

@@ -1,10 +1,8 @@
 -- `lemidrosy::console::lemidrosy_console_deliver` meets its contract. Assumes nothing.
-use mathlib.Core.Path.{_≡_, _∙_, ap}
-use borrow.Author.Needs.{needs}
+use Rattle.laws.specs.Basics.{_≡_, _∙_, ap, needs}
 use Rattle.listing.specs.answers.Codes.{deliverCode}
 use Rattle.words.specs.Layout.{runOf}
-use Rattle.lemidrosy.proofs.Consoles.{deliver-as-fits}
-use Rattle.lemidrosy.proofs.console.lemidrosy_console_deliver.Statement.{statement}
+use Rattle.lemidrosy.proofs.{Consoles.deliver-as-fits, console.lemidrosy_console_deliver.Statement.statement}
 use Rattle.lemidrosy.proofs.console.lemidrosy_console_deliver.Tie as tie
 
 of-deliver-requires : tie.Need-of-deliver-requires

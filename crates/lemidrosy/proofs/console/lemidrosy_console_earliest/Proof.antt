@@ -1,11 +1,9 @@
 -- `lemidrosy::console::lemidrosy_console_earliest` meets its contract. Assumes nothing.
-use mathlib.Core.Path.{_≡_, _∙_, ap}
-use borrow.Author.Needs.{needs}
+use Rattle.laws.specs.Basics.{_≡_, _∙_, ap, needs}
 use Rattle.listing.specs.answers.Codes.{lineCode}
 use Rattle.words.specs.Layout.{runOf}
 use Rattle.words_line.specs.Through.{namedIn}
-use Rattle.lemidrosy.proofs.Consoles.{earliest-as-fits}
-use Rattle.lemidrosy.proofs.console.lemidrosy_console_earliest.Statement.{statement}
+use Rattle.lemidrosy.proofs.{Consoles.earliest-as-fits, console.lemidrosy_console_earliest.Statement.statement}
 use Rattle.lemidrosy.proofs.console.lemidrosy_console_earliest.Tie as tie
 
 of-line-requires : tie.Need-of-line-requires

@@ -1,10 +1,8 @@
 -- `lemidrosy::console::lemidrosy_console_line` meets its contract. Assumes nothing.
-use mathlib.Core.Path.{_≡_, _∙_, ap}
-use borrow.Author.Needs.{needs}
+use Rattle.laws.specs.Basics.{_≡_, _∙_, ap, needs}
 use Rattle.listing.specs.answers.Codes.{lineCode}
 use Rattle.words.specs.Layout.{runOf}
-use Rattle.lemidrosy.proofs.Consoles.{line-as-fits}
-use Rattle.lemidrosy.proofs.console.lemidrosy_console_line.Statement.{statement}
+use Rattle.lemidrosy.proofs.{Consoles.line-as-fits, console.lemidrosy_console_line.Statement.statement}
 use Rattle.lemidrosy.proofs.console.lemidrosy_console_line.Tie as tie
 
 of-line-requires : tie.Need-of-line-requires

@@ -1,10 +1,8 @@
 -- `lemidrosy::console::lemidrosy_console_list` meets its contract. Assumes nothing.
-use mathlib.Core.Path.{_≡_, _∙_, ap}
-use borrow.Author.Needs.{needs}
+use Rattle.laws.specs.Basics.{_≡_, _∙_, ap, needs}
 use Rattle.lemidrosy.specs.Console.{listCode}
 use Rattle.words.specs.Layout.{runOf}
-use Rattle.lemidrosy.proofs.Consoles.{list-as-fits}
-use Rattle.lemidrosy.proofs.console.lemidrosy_console_list.Statement.{statement}
+use Rattle.lemidrosy.proofs.{Consoles.list-as-fits, console.lemidrosy_console_list.Statement.statement}
 use Rattle.lemidrosy.proofs.console.lemidrosy_console_list.Tie as tie
 
 of-list-requires : tie.Need-of-list-requires

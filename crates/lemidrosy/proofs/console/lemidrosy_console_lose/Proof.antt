@@ -1,10 +1,8 @@
 -- `lemidrosy::console::lemidrosy_console_lose` meets its contract. Assumes nothing.
-use mathlib.Core.Path.{_≡_, _∙_, ap}
-use borrow.Author.Needs.{needs}
+use Rattle.laws.specs.Basics.{_≡_, _∙_, ap, needs}
 use Rattle.listing.specs.answers.Codes.{loseCode}
 use Rattle.words.specs.Layout.{runOf}
-use Rattle.lemidrosy.proofs.Consoles.{lose-as-fits}
-use Rattle.lemidrosy.proofs.console.lemidrosy_console_lose.Statement.{statement}
+use Rattle.lemidrosy.proofs.{Consoles.lose-as-fits, console.lemidrosy_console_lose.Statement.statement}
 use Rattle.lemidrosy.proofs.console.lemidrosy_console_lose.Tie as tie
 
 of-lose-requires : tie.Need-of-lose-requires

@@ -1,10 +1,8 @@
 -- `lemidrosy::console::lemidrosy_console_recover` meets its contract. Assumes nothing.
-use mathlib.Core.Path.{_≡_, _∙_, ap}
-use borrow.Author.Needs.{needs}
+use Rattle.laws.specs.Basics.{_≡_, _∙_, ap, needs}
 use Rattle.listing.specs.answers.Codes.{recoverCode}
 use Rattle.words.specs.Layout.{runOf}
-use Rattle.lemidrosy.proofs.Consoles.{recover-as-fits}
-use Rattle.lemidrosy.proofs.console.lemidrosy_console_recover.Statement.{statement}
+use Rattle.lemidrosy.proofs.{Consoles.recover-as-fits, console.lemidrosy_console_recover.Statement.statement}
 use Rattle.lemidrosy.proofs.console.lemidrosy_console_recover.Tie as tie
 
 -- The call, and what it is handed.

@@ -1,10 +1,8 @@
 -- `lemidrosy::console::lemidrosy_console_send` meets its contract. Assumes nothing.
-use mathlib.Core.Path.{_≡_, _∙_, ap}
-use borrow.Author.Needs.{needs}
+use Rattle.laws.specs.Basics.{_≡_, _∙_, ap, needs}
 use Rattle.listing.specs.answers.Codes.{sendCode}
 use Rattle.words.specs.Layout.{runOf}
-use Rattle.lemidrosy.proofs.Consoles.{send-as-fits}
-use Rattle.lemidrosy.proofs.console.lemidrosy_console_send.Statement.{statement}
+use Rattle.lemidrosy.proofs.{Consoles.send-as-fits, console.lemidrosy_console_send.Statement.statement}
 use Rattle.lemidrosy.proofs.console.lemidrosy_console_send.Tie as tie
 
 of-send-requires : tie.Need-of-send-requires

@@ -1,9 +1,7 @@
 -- `lemidrosy::console::lemidrosy_console_start` meets its contract. Assumes nothing.
-use mathlib.Core.Path.{_≡_, _∙_, ap}
-use borrow.Author.Needs.{needs}
+use Rattle.laws.specs.Basics.{_≡_, _∙_, ap, needs}
 use Rattle.listing.specs.answers.Codes.{startCode}
-use Rattle.lemidrosy.proofs.Consoles.{start-as-fits}
-use Rattle.lemidrosy.proofs.console.lemidrosy_console_start.Statement.{statement}
+use Rattle.lemidrosy.proofs.{Consoles.start-as-fits, console.lemidrosy_console_start.Statement.statement}
 use Rattle.lemidrosy.proofs.console.lemidrosy_console_start.Tie as tie
 
 of-start-requires : tie.Need-of-start-requires

@@ -1,6 +1,5 @@
 -- `lemidrosy::console::of_list` meets its contract, by the cases of the answer. Assumes nothing.
-use mathlib.Core.Path.{_≡_, refl}
-use borrow.Author.Needs.{needs}
+use Rattle.laws.specs.Basics.{_≡_, refl, needs}
 use Rattle.theory_roles.specs.Console.{listReport}
 use Rattle.lemidrosy.proofs.console.of_list.Statement.{statement}
 use Rattle.lemidrosy.proofs.console.of_list.Tie as tie

@@ -1,9 +1,7 @@
 -- `lemidrosy_console_begin` meets its contract. Assumes nothing.
-use mathlib.Core.Path.{sym, _∙_}
-use borrow.Author.Tests.{not-true, not-false}
+use Rattle.laws.specs.Basics.{sym, _∙_, needs, not-true, not-false}
 use denote.Ref.{now}
 use Rattle.lemidrosy.proofs.ConsoleStepped.{begun-lacking, begun-short, begun-done}
-use borrow.Author.Needs.{needs}
 use Rattle.lemidrosy.proofs.consoling.lemidrosy_console_begin.Statement.{statement}
 use Rattle.lemidrosy.proofs.consoling.lemidrosy_console_begin.Tie as tie
 

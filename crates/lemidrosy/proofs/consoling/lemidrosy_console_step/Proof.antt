@@ -1,8 +1,7 @@
 -- `lemidrosy_console_step` meets its contract. Assumes nothing.
+use Rattle.laws.specs.Basics.{needs}
 use denote.Ref.{now}
-use Rattle.lemidrosy.proofs.ConsoleStepped.{stepped-short, stepped-done}
-use borrow.Author.Needs.{needs}
-use Rattle.lemidrosy.proofs.consoling.lemidrosy_console_step.Statement.{statement}
+use Rattle.lemidrosy.proofs.{ConsoleStepped.stepped-short, ConsoleStepped.stepped-done, consoling.lemidrosy_console_step.Statement.statement}
 use Rattle.lemidrosy.proofs.consoling.lemidrosy_console_step.Tie as tie
 
 returns : tie.Need-returns

@@ -1,9 +1,7 @@
 -- `lemidrosy::programs::lemidrosy_judge` meets its contract. Assumes nothing.
-use mathlib.Core.Path.{_∙_, ap}
-use borrow.Author.Needs.{needs}
+use Rattle.laws.specs.Basics.{_∙_, ap, needs}
 use Rattle.lemidrosy.specs.Programs.{judgeCode}
-use Rattle.lemidrosy.proofs.Verdicts.{pair-fits}
-use Rattle.lemidrosy.proofs.programs.lemidrosy_judge.Statement.{statement}
+use Rattle.lemidrosy.proofs.{Verdicts.pair-fits, programs.lemidrosy_judge.Statement.statement}
 use Rattle.lemidrosy.proofs.programs.lemidrosy_judge.Tie as tie
 
 verdict-code-requires : tie.Need-verdict-code-requires

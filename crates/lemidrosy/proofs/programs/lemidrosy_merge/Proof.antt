@@ -1,9 +1,7 @@
 -- `lemidrosy::programs::lemidrosy_merge` meets its contract. Assumes nothing.
-use mathlib.Core.Path.{_≡_, _∙_, ap}
-use borrow.Author.Needs.{needs}
+use Rattle.laws.specs.Basics.{_≡_, _∙_, ap, needs}
 use Rattle.lemidrosy.specs.Programs.{mergeCode}
-use Rattle.lemidrosy.proofs.Merging.{merge-fits}
-use Rattle.lemidrosy.proofs.programs.lemidrosy_merge.Statement.{statement}
+use Rattle.lemidrosy.proofs.{Merging.merge-fits, programs.lemidrosy_merge.Statement.statement}
 use Rattle.lemidrosy.proofs.programs.lemidrosy_merge.Tie as tie
 
 merge-code-requires : tie.Need-merge-code-requires

@@ -1,11 +1,6 @@
 -- `lemidrosy::programs::lemidrosy_simulate` meets its contract: the list's length, then the simulation. Note 10 is a theorem of `spacing`.
 -- Assumes nothing.
-use mathlib.Core.Path.{_≡_, refl, sym, _∙_, ap}
-use mathlib.Core.List.{List}
-use Prim.Native.Nat.{ℕ, _≤_, _<_}
-use lib.ListN.{length}
-use borrow.Author.Needs.{needs}
-use borrow.Author.Tests.{lt-ltb, le-ltb}
+use Rattle.laws.specs.Basics.{_≡_, refl, sym, _∙_, ap, List, ℕ, _≤_, _<_, length, needs, lt-ltb, le-ltb}
 use Rattle.model.specs.Refusals.{number}
 use Rattle.listing.specs.answers.Codes.{coded, valueCode}
 use Rattle.theory_recording.specs.declared.spacing.TrialResult.{TrialResult}

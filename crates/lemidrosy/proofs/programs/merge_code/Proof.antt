@@ -1,10 +1,6 @@
 -- `lemidrosy::programs::merge_code` meets its contract, by the cases of the answer. Assumes nothing.
-use mathlib.Core.Path.{_≡_, refl}
-use native.Mathlib.Omega.{arith}
-use borrow.Author.Needs.{needs}
-use Rattle.listing.specs.Lines.{valueIn}
-use Rattle.listing.specs.Summarised.{reportIn}
-use Rattle.listing.specs.answers.Codes.{coded, valueCode}
+use Rattle.laws.specs.Basics.{_≡_, refl, arith, needs}
+use Rattle.listing.specs.{Lines.valueIn, Summarised.reportIn, answers.Codes.coded, answers.Codes.valueCode}
 use Rattle.theory_merges.specs.Merge.{mergeReport}
 use Rattle.lemidrosy.proofs.programs.merge_code.Statement.{statement}
 use Rattle.lemidrosy.proofs.programs.merge_code.Tie as tie

@@ -1,12 +1,8 @@
 -- `lemidrosy::programs::verdict_code` meets its contract, by the cases of the verdict.
 -- Assumes nothing.
-use mathlib.Core.Path.{_≡_, refl}
-use Prim.Native.Nat.{ℕ, _<_}
-use native.Mathlib.Omega.{arith}
-use borrow.Author.Needs.{needs}
+use Rattle.laws.specs.Basics.{_≡_, refl, ℕ, _<_, arith, needs}
 use Rattle.model.specs.declared.CheckpointIndex.{CheckpointIndex}
-use Rattle.theory_patterns.specs.declared.Verdict.{Verdict}
-use Rattle.theory_patterns.specs.declared.Verdict.the-variants.{Breaks}
+use Rattle.theory_patterns.specs.declared.{Verdict.Verdict, Verdict.the-variants.Breaks}
 use Rattle.theory_patterns.specs.Verdicts.{judgeReport}
 use Rattle.lemidrosy.specs.Programs.{pairCode, judgeCoded, PairFits}
 use Rattle.lemidrosy.proofs.programs.verdict_code.Statement.{statement}

@@ -1,8 +1,7 @@
 -- `lemidrosy::readings::lemidrosy_carried` meets its contract. Assumes nothing.
-use borrow.Author.Needs.{needs}
+use Rattle.laws.specs.Basics.{needs}
 use Rattle.whole_runs.proofs.Unsound.{is-sound, is-unsound}
-use Rattle.lemidrosy.proofs.Unsound.{carried-unsound}
-use Rattle.lemidrosy.proofs.readings.lemidrosy_carried.Statement.{statement}
+use Rattle.lemidrosy.proofs.{Unsound.carried-unsound, readings.lemidrosy_carried.Statement.statement}
 use Rattle.lemidrosy.proofs.readings.lemidrosy_carried.Tie as tie
 
 pub lemidrosy-carried-spec : {M : Type 1} → statement M

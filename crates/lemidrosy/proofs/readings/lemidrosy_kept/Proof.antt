@@ -1,8 +1,7 @@
 -- `lemidrosy::readings::lemidrosy_kept` meets its contract. Assumes nothing.
-use borrow.Author.Needs.{needs}
+use Rattle.laws.specs.Basics.{needs}
 use Rattle.whole_runs.proofs.Unsound.{is-sound, is-unsound}
-use Rattle.lemidrosy.proofs.Unsound.{kept-unsound}
-use Rattle.lemidrosy.proofs.readings.lemidrosy_kept.Statement.{statement}
+use Rattle.lemidrosy.proofs.{Unsound.kept-unsound, readings.lemidrosy_kept.Statement.statement}
 use Rattle.lemidrosy.proofs.readings.lemidrosy_kept.Tie as tie
 
 pub lemidrosy-kept-spec : {M : Type 1} → statement M

@@ -1,8 +1,7 @@
 -- `lemidrosy::readings::lemidrosy_lost` meets its contract. Assumes nothing.
-use borrow.Author.Needs.{needs}
+use Rattle.laws.specs.Basics.{needs}
 use Rattle.whole_runs.proofs.Unsound.{is-sound, is-unsound}
-use Rattle.lemidrosy.proofs.Unsound.{lost-unsound}
-use Rattle.lemidrosy.proofs.readings.lemidrosy_lost.Statement.{statement}
+use Rattle.lemidrosy.proofs.{Unsound.lost-unsound, readings.lemidrosy_lost.Statement.statement}
 use Rattle.lemidrosy.proofs.readings.lemidrosy_lost.Tie as tie
 
 pub lemidrosy-lost-spec : {M : Type 1} → statement M

@@ -1,8 +1,7 @@
 -- `lemidrosy::readings::lemidrosy_messages` meets its contract. Assumes nothing.
-use borrow.Author.Needs.{needs}
+use Rattle.laws.specs.Basics.{needs}
 use Rattle.whole_runs.proofs.Unsound.{is-sound, is-unsound}
-use Rattle.lemidrosy.proofs.Unsound.{messages-unsound}
-use Rattle.lemidrosy.proofs.readings.lemidrosy_messages.Statement.{statement}
+use Rattle.lemidrosy.proofs.{Unsound.messages-unsound, readings.lemidrosy_messages.Statement.statement}
 use Rattle.lemidrosy.proofs.readings.lemidrosy_messages.Tie as tie
 
 pub lemidrosy-messages-spec : {M : Type 1} → statement M

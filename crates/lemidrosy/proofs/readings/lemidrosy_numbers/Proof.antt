@@ -1,8 +1,7 @@
 -- `lemidrosy::readings::lemidrosy_numbers` meets its contract. Assumes nothing.
-use borrow.Author.Needs.{needs}
+use Rattle.laws.specs.Basics.{needs}
 use Rattle.whole_runs.proofs.Unsound.{is-sound, is-unsound}
-use Rattle.lemidrosy.proofs.Unsound.{numbers-unsound}
-use Rattle.lemidrosy.proofs.readings.lemidrosy_numbers.Statement.{statement}
+use Rattle.lemidrosy.proofs.{Unsound.numbers-unsound, readings.lemidrosy_numbers.Statement.statement}
 use Rattle.lemidrosy.proofs.readings.lemidrosy_numbers.Tie as tie
 
 pub lemidrosy-numbers-spec : {M : Type 1} → statement M

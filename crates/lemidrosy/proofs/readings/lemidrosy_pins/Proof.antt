@@ -1,8 +1,7 @@
 -- `lemidrosy::readings::lemidrosy_pins` meets its contract. Assumes nothing.
-use borrow.Author.Needs.{needs}
+use Rattle.laws.specs.Basics.{needs}
 use Rattle.whole_runs.proofs.Unsound.{is-sound, is-unsound}
-use Rattle.lemidrosy.proofs.Unsound.{pins-unsound}
-use Rattle.lemidrosy.proofs.readings.lemidrosy_pins.Statement.{statement}
+use Rattle.lemidrosy.proofs.{Unsound.pins-unsound, readings.lemidrosy_pins.Statement.statement}
 use Rattle.lemidrosy.proofs.readings.lemidrosy_pins.Tie as tie
 
 pub lemidrosy-pins-spec : {M : Type 1} → statement M

@@ -1,8 +1,7 @@
 -- `lemidrosy::readings::lemidrosy_vector` meets its contract. Assumes nothing.
-use borrow.Author.Needs.{needs}
+use Rattle.laws.specs.Basics.{needs}
 use Rattle.whole_runs.proofs.Unsound.{is-sound, is-unsound}
-use Rattle.lemidrosy.proofs.Unsound.{vector-unsound}
-use Rattle.lemidrosy.proofs.readings.lemidrosy_vector.Statement.{statement}
+use Rattle.lemidrosy.proofs.{Unsound.vector-unsound, readings.lemidrosy_vector.Statement.statement}
 use Rattle.lemidrosy.proofs.readings.lemidrosy_vector.Tie as tie
 
 pub lemidrosy-vector-spec : {M : Type 1} → statement M

@@ -1,8 +1,6 @@
 -- `lemidrosy_record_begin` meets its contract.
 -- Assumes nothing.
-use mathlib.Core.Path.{sym, _∙_}
-use borrow.Author.Needs.{needs}
-use borrow.Author.Tests.{not-true, not-false}
+use Rattle.laws.specs.Basics.{sym, _∙_, needs, not-true, not-false}
 use denote.Ref.{now}
 use Rattle.lemidrosy.proofs.RecordStepped.{begun-lacking, begun-short, begun-done}
 use Rattle.lemidrosy.proofs.record_stepping.lemidrosy_record_begin.Statement.{statement}

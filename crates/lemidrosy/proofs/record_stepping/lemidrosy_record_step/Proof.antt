@@ -1,9 +1,8 @@
 -- `lemidrosy_record_step` meets its contract.
 -- Assumes nothing.
-use borrow.Author.Needs.{needs}
+use Rattle.laws.specs.Basics.{needs}
 use denote.Ref.{now}
-use Rattle.lemidrosy.proofs.RecordStepped.{stepped-short, stepped-done}
-use Rattle.lemidrosy.proofs.record_stepping.lemidrosy_record_step.Statement.{statement}
+use Rattle.lemidrosy.proofs.{RecordStepped.stepped-short, RecordStepped.stepped-done, record_stepping.lemidrosy_record_step.Statement.statement}
 use Rattle.lemidrosy.proofs.record_stepping.lemidrosy_record_step.Tie as tie
 
 returns : tie.Need-returns

@@ -1,8 +1,6 @@
 -- `lemidrosy::recorded::lemidrosy_record_line` meets its contract: without a place it is refused, else the recorder does it.
 -- Assumes nothing.
-use mathlib.Core.Path.{_∙_, ap}
-use lib.ListN.{getD, set}
-use borrow.Author.Needs.{needs}
+use Rattle.laws.specs.Basics.{_∙_, ap, getD, set, needs}
 use Rattle.listing.specs.answers.Codes.{lineCode}
 use Rattle.words.specs.Layout.{runOf}
 use Rattle.lemidrosy.proofs.Recording.{line-none, line-some, line-three, line-recorded-fits}

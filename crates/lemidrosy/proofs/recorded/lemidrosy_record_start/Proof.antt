@@ -1,9 +1,6 @@
 -- `lemidrosy::recorded::lemidrosy_record_start` meets its contract: without a place it is refused, else the recorder does it.
 -- Assumes nothing.
-use mathlib.Core.Path.{_∙_, ap}
-use native.Mathlib.Omega.{arith}
-use lib.ListN.{length, getD, set}
-use borrow.Author.Needs.{needs}
+use Rattle.laws.specs.Basics.{_∙_, ap, arith, length, getD, set, needs}
 use Rattle.listing.specs.answers.Codes.{startCode}
 use Rattle.lemidrosy.proofs.Recording.{start-none, start-some, start-three, start-recorded-fits, words-none, words-some}
 use Rattle.lemidrosy.proofs.recorded.lemidrosy_record_start.Statement.{statement}

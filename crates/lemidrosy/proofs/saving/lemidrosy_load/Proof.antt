@@ -1,5 +1,5 @@
 -- `lemidrosy::saving::lemidrosy_load` meets its contract. Assumes nothing.
-use borrow.Author.Needs.{needs}
+use Rattle.laws.specs.Basics.{needs}
 use Rattle.library_readers.proofs.saved.Promises.{loaded-was-saved}
 use Rattle.lemidrosy.proofs.saving.lemidrosy_load.Statement.{statement}
 use Rattle.lemidrosy.proofs.saving.lemidrosy_load.Tie as tie

@@ -1,5 +1,5 @@
 -- `lemidrosy::saving::lemidrosy_save` meets its contract. Assumes nothing.
-use borrow.Author.Needs.{needs}
+use Rattle.laws.specs.Basics.{needs}
 use Rattle.library_readers.proofs.saved.Promises.{saved-is-loaded}
 use Rattle.lemidrosy.proofs.saving.lemidrosy_save.Statement.{statement}
 use Rattle.lemidrosy.proofs.saving.lemidrosy_save.Tie as tie

@@ -1,8 +1,6 @@
 -- `lemidrosy_replay_begin` meets its contract.
 -- Assumes nothing.
-use mathlib.Core.Path.{sym, _∙_}
-use borrow.Author.Needs.{needs}
-use borrow.Author.Tests.{not-true, not-false}
+use Rattle.laws.specs.Basics.{sym, _∙_, needs, not-true, not-false}
 use denote.Ref.{now}
 use Rattle.lemidrosy_replay.proofs.ReplayStepped.{few-numbers, not-enough-room, no-request, begun-done}
 use Rattle.lemidrosy_replay.proofs.replay_steps.lemidrosy_replay_begin.Statement.{statement}

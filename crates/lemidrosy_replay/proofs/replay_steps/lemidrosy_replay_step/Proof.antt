@@ -1,9 +1,8 @@
 -- `lemidrosy_replay_step` meets its contract.
 -- Assumes nothing.
-use borrow.Author.Needs.{needs}
+use Rattle.laws.specs.Basics.{needs}
 use denote.Ref.{now}
-use Rattle.lemidrosy_replay.proofs.ReplayStepped.{stepped-short, stepped-done}
-use Rattle.lemidrosy_replay.proofs.replay_steps.lemidrosy_replay_step.Statement.{statement}
+use Rattle.lemidrosy_replay.proofs.{ReplayStepped.stepped-short, ReplayStepped.stepped-done, replay_steps.lemidrosy_replay_step.Statement.statement}
 use Rattle.lemidrosy_replay.proofs.replay_steps.lemidrosy_replay_step.Tie as tie
 
 returns : tie.Need-returns

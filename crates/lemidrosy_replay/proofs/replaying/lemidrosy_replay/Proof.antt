@@ -1,11 +1,8 @@
 -- `lemidrosy_replay::replaying::lemidrosy_replay` meets its contract: the progress's length, then the block. Assumes nothing.
-use mathlib.Core.Path.{refl}
-use native.Mathlib.Omega.{arith}
-use borrow.Author.Needs.{needs}
+use Rattle.laws.specs.Basics.{refl, arith, needs}
 use Rattle.words.specs.Layout.{runOf}
 use Rattle.in_place.proofs.Leaving.{same-words}
-use Rattle.lemidrosy_replay.proofs.Blocks.{too-short, long-enough}
-use Rattle.lemidrosy_replay.proofs.replaying.lemidrosy_replay.Statement.{statement}
+use Rattle.lemidrosy_replay.proofs.{Blocks.too-short, Blocks.long-enough, replaying.lemidrosy_replay.Statement.statement}
 use Rattle.lemidrosy_replay.proofs.replaying.lemidrosy_replay.Tie as tie
 
 returns : tie.Need-returns

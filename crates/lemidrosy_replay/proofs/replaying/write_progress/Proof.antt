@@ -1,7 +1,5 @@
 -- `lemidrosy_replay::replaying::write_progress` meets its contract. Assumes nothing.
-use native.Mathlib.Omega.{arith}
-use lib.ListN.{length-set}
-use borrow.Author.Needs.{needs}
+use Rattle.laws.specs.Basics.{arith, length-set, needs}
 use Rattle.lemidrosy_replay.proofs.replaying.write_progress.Statement.{statement}
 use Rattle.lemidrosy_replay.proofs.replaying.write_progress.Tie as tie
 

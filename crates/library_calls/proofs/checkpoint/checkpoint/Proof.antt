@@ -1,19 +1,14 @@
 -- `library_calls::checkpoint::checkpoint` meets its contract: a state that does not fit its words, or whose words stand for no sound one, is refused with 2; on others the call in place
 -- does it. Demand 3 is the theorem of `whole_runs`.
 -- Assumes nothing.
-use mathlib.Core.Path.{_≡_, _∙_, ap}
-use mathlib.Core.Bool.{true}
-use borrow.Author.Needs.{needs}
+use Rattle.laws.specs.Basics.{_≡_, _∙_, ap, true, needs}
 use Rattle.model.specs.declared.Run.{Run}
 use Rattle.model.specs.Sound.{sound}
 use Rattle.words.specs.Layout.{runOf}
 use Rattle.whole_runs.specs.Outcomes.{checkpointOutcome}
-use Rattle.whole_runs.proofs.Unsound.{checkpoint-unsound}
-use Rattle.whole_runs.proofs.WholeRuns.{checkpoint-promise}
-use Rattle.library_calls.proofs.run_words.Sizes.{sizes}
+use Rattle.whole_runs.proofs.{Unsound.checkpoint-unsound, WholeRuns.checkpoint-promise}
+use Rattle.library_calls.proofs.{run_words.Sizes.sizes, Stepping.checkpoint-small, checkpoint.checkpoint.Statement.statement}
 use Rattle.library_calls.proofs.Changing.{sound-small, small-readable, filled-sound, filled-unsound, unchanged}
-use Rattle.library_calls.proofs.Stepping.{checkpoint-small}
-use Rattle.library_calls.proofs.checkpoint.checkpoint.Statement.{statement}
 use Rattle.library_calls.proofs.checkpoint.checkpoint.Tie as tie
 
 -- The state that was handed in is sound, and is what the filled words stand for.

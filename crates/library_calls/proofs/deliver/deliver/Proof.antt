@@ -1,19 +1,14 @@
 -- `library_calls::deliver::deliver` meets its contract: a state that does not fit its words, or whose words stand for no sound one, is refused with 2; on others the call in place
 -- does it. Demand 3 is the theorem of `whole_runs`.
 -- Assumes nothing.
-use mathlib.Core.Path.{_≡_, _∙_, ap}
-use mathlib.Core.Bool.{true}
-use borrow.Author.Needs.{needs}
+use Rattle.laws.specs.Basics.{_≡_, _∙_, ap, true, needs}
 use Rattle.model.specs.declared.Run.{Run}
 use Rattle.model.specs.Sound.{sound}
 use Rattle.words.specs.Layout.{runOf}
 use Rattle.whole_runs.specs.Outcomes.{deliverOutcome}
-use Rattle.whole_runs.proofs.Unsound.{deliver-unsound}
-use Rattle.whole_runs.proofs.WholeRuns.{deliver-promise}
-use Rattle.library_calls.proofs.run_words.Sizes.{sizes}
+use Rattle.whole_runs.proofs.{Unsound.deliver-unsound, WholeRuns.deliver-promise}
+use Rattle.library_calls.proofs.{run_words.Sizes.sizes, Stepping.deliver-small, deliver.deliver.Statement.statement}
 use Rattle.library_calls.proofs.Changing.{sound-small, small-readable, filled-sound, filled-unsound, unchanged}
-use Rattle.library_calls.proofs.Stepping.{deliver-small}
-use Rattle.library_calls.proofs.deliver.deliver.Statement.{statement}
 use Rattle.library_calls.proofs.deliver.deliver.Tie as tie
 
 -- The state that was handed in is sound, and is what the filled words stand for.

@@ -1,7 +1,6 @@
 -- `library_calls::judged::is_sound` meets its contract. Assumes nothing.
-use borrow.Author.Needs.{needs}
-use Rattle.library_calls.proofs.Changing.{no-flag, flag}
-use Rattle.library_calls.proofs.judged.is_sound.Statement.{statement}
+use Rattle.laws.specs.Basics.{needs}
+use Rattle.library_calls.proofs.{Changing.no-flag, Changing.flag, judged.is_sound.Statement.statement}
 use Rattle.library_calls.proofs.judged.is_sound.Tie as tie
 
 returns-2 : tie.Need-returns-2

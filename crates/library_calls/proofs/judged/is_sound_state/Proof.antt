@@ -1,8 +1,6 @@
 -- `library_calls::judged::is_sound_state` meets its contract: a state that does not fit its words is not sound. Assumes nothing.
-use borrow.Author.Needs.{needs}
-use Rattle.library_calls.proofs.run_words.Sizes.{sizes}
-use Rattle.library_calls.proofs.Changing.{filled-judged}
-use Rattle.library_calls.proofs.judged.is_sound_state.Statement.{statement}
+use Rattle.laws.specs.Basics.{needs}
+use Rattle.library_calls.proofs.{run_words.Sizes.sizes, Changing.filled-judged, judged.is_sound_state.Statement.statement}
 use Rattle.library_calls.proofs.judged.is_sound_state.Tie as tie
 
 returns : tie.Need-returns

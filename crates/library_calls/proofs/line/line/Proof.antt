@@ -1,19 +1,13 @@
 -- `library_calls::line::line` meets its contract: a state that does not fit its words, or whose words stand for no sound one, is refused with 2; on others the call in place
 -- does it. Demand 3 and Note 4 are theorems of `whole_runs`.
 -- Assumes nothing.
-use mathlib.Core.Path.{_≡_, sym, _∙_, ap}
-use mathlib.Core.Bool.{true}
-use borrow.Author.Needs.{needs}
+use Rattle.laws.specs.Basics.{_≡_, sym, _∙_, ap, true, needs}
 use Rattle.model.specs.declared.Run.{Run}
 use Rattle.model.specs.Sound.{sound}
 use Rattle.words.specs.Layout.{runOf}
 use Rattle.whole_runs.specs.Outcomes.{lineOutcome}
-use Rattle.whole_runs.proofs.Unsound.{line-unsound}
-use Rattle.whole_runs.proofs.WholeRuns.{line-promise}
-use Rattle.whole_runs.proofs.Sweep.{empty-line-promise}
-use Rattle.library_calls.proofs.run_words.Sizes.{sizes}
-use Rattle.library_calls.proofs.Changing.{filled-sound, filled-unsound}
-use Rattle.library_calls.proofs.line.line.Statement.{statement}
+use Rattle.whole_runs.proofs.{Unsound.line-unsound, WholeRuns.line-promise, Sweep.empty-line-promise}
+use Rattle.library_calls.proofs.{run_words.Sizes.sizes, Changing.filled-sound, Changing.filled-unsound, line.line.Statement.statement}
 use Rattle.library_calls.proofs.line.line.Tie as tie
 
 -- The state that was handed in is sound, and is what the filled words stand for.

@@ -1,20 +1,15 @@
 -- `library_calls::lose::lose` meets its contract: a state that does not fit its words, or whose words stand for no sound one, is refused with 2; on others the call in place
 -- does it. Demand 3 is the theorem of `whole_runs`.
 -- Assumes nothing.
-use mathlib.Core.Path.{_≡_, sym, _∙_, ap}
-use mathlib.Core.Bool.{true}
-use borrow.Author.Needs.{needs}
+use Rattle.laws.specs.Basics.{_≡_, sym, _∙_, ap, true, needs}
 use Rattle.model.specs.declared.Run.{Run}
 use Rattle.model.specs.Sound.{sound}
 use Rattle.words.specs.Layout.{runOf}
 use Rattle.whole_runs.specs.Outcomes.{loseOutcome}
-use Rattle.whole_runs.proofs.Unsound.{lose-unsound}
-use Rattle.whole_runs.proofs.WholeRuns.{lose-promise}
+use Rattle.whole_runs.proofs.{Unsound.lose-unsound, WholeRuns.lose-promise}
 use Rattle.library_calls.specs.run_words.Readable.{afterLose}
-use Rattle.library_calls.proofs.run_words.Sizes.{sizes}
+use Rattle.library_calls.proofs.{run_words.Sizes.sizes, Leaving.lose-leaves, lose.lose.Statement.statement}
 use Rattle.library_calls.proofs.Changing.{sound-small, small-readable, lose-small, filled-sound, filled-unsound, unchanged}
-use Rattle.library_calls.proofs.Leaving.{lose-leaves}
-use Rattle.library_calls.proofs.lose.lose.Statement.{statement}
 use Rattle.library_calls.proofs.lose.lose.Tie as tie
 
 -- The state that was handed in is sound, and is what the filled words stand for.

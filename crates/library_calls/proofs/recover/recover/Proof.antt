@@ -1,21 +1,14 @@
 -- `library_calls::recover::recover` meets its contract: a state that does not fit its words, or whose words stand for no sound one, is refused with 2; on others the call
 -- in place does it. Demand 3 and Notes 4 and 6 are theorems of `whole_runs`.
 -- Assumes nothing.
-use mathlib.Core.Path.{_≡_, _∙_, ap}
-use mathlib.Core.Bool.{true}
-use borrow.Author.Needs.{needs}
+use Rattle.laws.specs.Basics.{_≡_, _∙_, ap, true, needs}
 use Rattle.model.specs.declared.Run.{Run}
 use Rattle.model.specs.Sound.{sound}
 use Rattle.words.specs.Layout.{runOf}
 use Rattle.whole_runs.specs.Outcomes.{recoverOutcome}
-use Rattle.whole_runs.proofs.Clean.{clean-promise}
-use Rattle.whole_runs.proofs.Sweep.{sweep-promise}
-use Rattle.whole_runs.proofs.Unsound.{recover-unsound}
-use Rattle.whole_runs.proofs.WholeRuns.{line-promise, recover-promise}
-use Rattle.library_calls.proofs.run_words.Sizes.{sizes}
+use Rattle.whole_runs.proofs.{Clean.clean-promise, Sweep.sweep-promise, Unsound.recover-unsound, WholeRuns.line-promise, WholeRuns.recover-promise}
+use Rattle.library_calls.proofs.{run_words.Sizes.sizes, Recovering.recover-small, recover.recover.Statement.statement}
 use Rattle.library_calls.proofs.Changing.{sound-small, small-readable, filled-sound, filled-unsound, unchanged}
-use Rattle.library_calls.proofs.Recovering.{recover-small}
-use Rattle.library_calls.proofs.recover.recover.Statement.{statement}
 use Rattle.library_calls.proofs.recover.recover.Tie as tie
 
 -- The state that was handed in is sound, and is what the filled words stand for.

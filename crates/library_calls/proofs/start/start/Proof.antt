@@ -1,12 +1,10 @@
 -- `library_calls::start::start` meets its contract: with 16 counts lent, the start in place is document 01's. Demand 3 is the theorem of `whole_runs`.
 -- Assumes nothing.
-use mathlib.Core.Path.{refl, _∙_, ap}
-use borrow.Author.Needs.{needs}
+use Rattle.laws.specs.Basics.{refl, _∙_, ap, needs}
 use Rattle.whole_runs.specs.Outcomes.{Outcome}
 use Rattle.model.specs.declared.StartAnswer.{StartAnswer}
 use Rattle.whole_runs.proofs.WholeRuns.{start-promise}
-use Rattle.library_calls.proofs.Beginning.{start-readable, started-so}
-use Rattle.library_calls.proofs.start.start.Statement.{statement}
+use Rattle.library_calls.proofs.{Beginning.start-readable, Beginning.started-so, start.start.Statement.statement}
 use Rattle.library_calls.proofs.start.start.Tie as tie
 
 read-requires : tie.Need-read-requires

@@ -1,7 +1,6 @@
 -- `library_calls::through::earliest_among` meets its contract: the list at the front of the array is copied, and the function on what was copied does the rest.
 -- Assumes nothing.
-use borrow.Author.Needs.{needs}
-use lib.ListN.{take}
+use Rattle.laws.specs.Basics.{take, needs}
 use Rattle.whole_runs.proofs.WholeRuns.{earliest-promise}
 use Rattle.words_line.specs.earliest.Copying.{IsCopy}
 use Rattle.library_calls.proofs.through.earliest_among.Statement.{statement}

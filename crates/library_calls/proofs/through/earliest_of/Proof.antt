@@ -1,26 +1,14 @@
 -- `library_calls::through::earliest_of` meets its contract: a state that does not fit its words, or whose words stand for no sound one, is refused with 2; on others the
 -- call in place does it, with the pairs of what was copied.
 -- Assumes nothing.
-use mathlib.Core.Path.{_≡_, sym, _∙_, ap}
-use mathlib.Core.Bool.{true}
-use mathlib.Core.List.{List}
-use Prim.Native.Nat.{ℕ, _-_}
-use native.Mathlib.Omega.{arith}
-use lib.ListN.{take}
-use borrow.Author.Needs.{needs}
-use Rattle.model.specs.declared.LineAnswer.{LineAnswer}
-use Rattle.model.specs.declared.Named.{Named}
-use Rattle.model.specs.declared.Run.{Run}
+use Rattle.laws.specs.Basics.{_≡_, sym, _∙_, ap, true, List, ℕ, _-_, arith, take, needs}
+use Rattle.model.specs.declared.{LineAnswer.LineAnswer, Named.Named, Run.Run}
 use Rattle.model.specs.Sound.{sound}
 use Rattle.words.specs.Layout.{runOf}
-use Rattle.whole_runs.specs.Earliest.{earliestOutcome}
-use Rattle.whole_runs.specs.Outcomes.{Outcome}
+use Rattle.whole_runs.specs.{Earliest.earliestOutcome, Outcomes.Outcome}
 use Rattle.whole_runs.proofs.Unsound.{earliest-unsound}
-use Rattle.words_line.specs.Through.{namedIn}
-use Rattle.words_line.specs.earliest.Pairs.{SameLine}
-use Rattle.library_calls.proofs.run_words.Sizes.{sizes}
-use Rattle.library_calls.proofs.Changing.{filled-sound, filled-unsound}
-use Rattle.library_calls.proofs.through.earliest_of.Statement.{statement}
+use Rattle.words_line.specs.{Through.namedIn, earliest.Pairs.SameLine}
+use Rattle.library_calls.proofs.{run_words.Sizes.sizes, Changing.filled-sound, Changing.filled-unsound, through.earliest_of.Statement.statement}
 use Rattle.library_calls.proofs.through.earliest_of.Tie as tie
 
 -- The state that was handed in is sound, and is what the filled words stand for.

@@ -1,11 +1,9 @@
 -- `library_console::calls::checkpoint` meets its contract: it is denied, or it is the call in place.
 -- Assumes nothing.
-use mathlib.Core.Path.{refl}
-use borrow.Author.Needs.{needs}
+use Rattle.laws.specs.Basics.{refl, needs}
 use Rattle.words.specs.Layout.{runOf}
 use Rattle.in_place.proofs.Leaving.{same-words}
-use Rattle.library_console.proofs.Asking.{checkpoint-denied, checkpoint-made}
-use Rattle.library_console.proofs.calls.checkpoint.Statement.{statement}
+use Rattle.library_console.proofs.{Asking.checkpoint-denied, Asking.checkpoint-made, calls.checkpoint.Statement.statement}
 use Rattle.library_console.proofs.calls.checkpoint.Tie as tie
 
 returns : tie.Need-returns

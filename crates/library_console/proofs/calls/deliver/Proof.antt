@@ -1,11 +1,9 @@
 -- `library_console::calls::deliver` meets its contract: it is denied, or it is the call in place.
 -- Assumes nothing.
-use mathlib.Core.Path.{refl}
-use borrow.Author.Needs.{needs}
+use Rattle.laws.specs.Basics.{refl, needs}
 use Rattle.words.specs.Layout.{runOf}
 use Rattle.in_place.proofs.Leaving.{same-words}
-use Rattle.library_console.proofs.Asking.{deliver-denied, deliver-made}
-use Rattle.library_console.proofs.calls.deliver.Statement.{statement}
+use Rattle.library_console.proofs.{Asking.deliver-denied, Asking.deliver-made, calls.deliver.Statement.statement}
 use Rattle.library_console.proofs.calls.deliver.Tie as tie
 
 returns : tie.Need-returns

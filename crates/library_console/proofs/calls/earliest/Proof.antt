@@ -1,11 +1,9 @@
 -- `library_console::calls::earliest` meets its contract: it is denied, or it is the call in place.
 -- Assumes nothing.
-use mathlib.Core.Path.{refl}
-use borrow.Author.Needs.{needs}
+use Rattle.laws.specs.Basics.{refl, needs}
 use Rattle.words.specs.Layout.{runOf}
 use Rattle.words_line.specs.Through.{namedIn}
-use Rattle.library_console.proofs.Asking.{earliest-denied, earliest-made}
-use Rattle.library_console.proofs.calls.earliest.Statement.{statement}
+use Rattle.library_console.proofs.{Asking.earliest-denied, Asking.earliest-made, calls.earliest.Statement.statement}
 use Rattle.library_console.proofs.calls.earliest.Tie as tie
 
 returns : tie.Need-returns

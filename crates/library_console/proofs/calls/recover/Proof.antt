@@ -1,11 +1,9 @@
 -- `library_console::calls::recover` meets its contract: it is denied, or it is the call in place.
 -- Assumes nothing.
-use mathlib.Core.Path.{refl}
-use borrow.Author.Needs.{needs}
+use Rattle.laws.specs.Basics.{refl, needs}
 use Rattle.words.specs.Layout.{runOf}
 use Rattle.in_place.proofs.Leaving.{same-words}
-use Rattle.library_console.proofs.Asking.{recover-denied, recover-made}
-use Rattle.library_console.proofs.calls.recover.Statement.{statement}
+use Rattle.library_console.proofs.{Asking.recover-denied, Asking.recover-made, calls.recover.Statement.statement}
 use Rattle.library_console.proofs.calls.recover.Tie as tie
 
 returns : tie.Need-returns

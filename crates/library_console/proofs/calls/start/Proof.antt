@@ -1,9 +1,7 @@
 -- `library_console::calls::start` meets its contract: it is denied and leaves the words, or it is the start in place.
 -- Assumes nothing.
-use mathlib.Core.Path.{refl}
-use borrow.Author.Needs.{needs}
-use Rattle.library_console.proofs.Asking.{start-denied, start-made}
-use Rattle.library_console.proofs.calls.start.Statement.{statement}
+use Rattle.laws.specs.Basics.{refl, needs}
+use Rattle.library_console.proofs.{Asking.start-denied, Asking.start-made, calls.start.Statement.statement}
 use Rattle.library_console.proofs.calls.start.Tie as tie
 
 returns : tie.Need-returns

@@ -1,7 +1,6 @@
 -- `library_console::denied::claim_of` meets its contract, number by number.
 -- Assumes nothing.
-use mathlib.Core.Path.{refl}
-use borrow.Author.Tests.{eq-eqb, ne-eqb}
+use Rattle.laws.specs.Basics.{refl, eq-eqb, ne-eqb}
 use Rattle.library_console.specs.Asked.{claimOf}
 use Rattle.library_console.proofs.denied.claim_of.Statement.{statement}
 use Rattle.library_console.proofs.denied.claim_of.Tie as tie

@@ -1,11 +1,6 @@
 -- `library_console::denied::count_of` meets its contract: words that fit have it in their first one, others stand for a state of zeros.
 -- Assumes nothing.
-use mathlib.Core.Path.{_≡_, refl, sym, _∙_, ap}
-use mathlib.Core.Bool.{Bool, true, false, not}
-use mathlib.Core.List.{List}
-use Prim.Native.Nat.{ℕ}
-use native.Mathlib.Omega.{arith}
-use borrow.Author.Needs.{needs}
+use Rattle.laws.specs.Basics.{_≡_, refl, sym, _∙_, ap, Bool, true, false, not, List, ℕ, arith, needs}
 use Rattle.model.specs.declared.Run.{Run}
 use Rattle.model.specs.Words.{blank}
 use Rattle.words.specs.Layout.{fits, countOf, runOf}

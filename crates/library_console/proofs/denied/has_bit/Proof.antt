@@ -1,10 +1,6 @@
 -- `library_console::denied::has_bit` meets its contract. The loop's invariant: what is left of the set is its bits from k on.
 -- Assumes nothing.
-use Prim.Native.Nat.{ℕ, _≤_, _-_, _/_, _%_, _^_}
-use mathlib.Core.Path.{_≡_, ap}
-use native.Mathlib.Omega.{arith}
-use borrow.Author.Needs.{needs}
-use lib.Dec.{eqb}
+use Rattle.laws.specs.Basics.{_≡_, ap, ℕ, _-_, _/_, _%_, _^_, _≤_, arith, eqb, needs}
 use Rattle.laws.specs.Bits.{bits-all, bits-next}
 use Rattle.library_console.proofs.denied.has_bit.Statement.{statement}
 use Rattle.library_console.proofs.denied.has_bit.Tie as tie

@@ -1,8 +1,6 @@
 -- `library_console::denied::is_denied` meets its contract: it is no role, or the table says no.
 -- Assumes nothing.
-use mathlib.Core.Path.{_≡_, refl, sym, _∙_, ap}
-use mathlib.Core.Bool.{not}
-use borrow.Author.Needs.{needs}
+use Rattle.laws.specs.Basics.{_≡_, refl, sym, _∙_, ap, not, needs}
 use Rattle.theory_roles.specs.Console.{denied}
 use Rattle.library_console.specs.Asked.{claimOf, deniedAs}
 use Rattle.library_console.proofs.denied.is_denied.Statement.{statement}

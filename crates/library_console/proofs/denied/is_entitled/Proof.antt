@@ -1,6 +1,6 @@
 -- `library_console::denied::is_entitled` meets its contract, by the cases of the role.
 -- Assumes nothing.
-use borrow.Author.Needs.{needs}
+use Rattle.laws.specs.Basics.{needs}
 use Rattle.theory_roles.specs.Console.{entitledBy}
 use Rattle.library_console.proofs.denied.is_entitled.Statement.{statement}
 use Rattle.library_console.proofs.denied.is_entitled.Tie as tie

@@ -1,13 +1,6 @@
 -- `library_console::denied::is_fit` meets its contract, test by test.
 -- Assumes nothing.
-use mathlib.Core.Path.{_≡_, refl, sym, _∙_, ap}
-use mathlib.Core.Bool.{Bool, true, false, _&&_, _||_}
-use mathlib.Core.List.{List}
-use Prim.Native.Nat.{ℕ, _-_, _≤_, _<_}
-use native.Mathlib.Omega.{arith}
-use borrow.Author.Needs.{needs}
-use borrow.Author.Tests.{eq-eqb, ne-eqb, le-leb, lt-leb}
-use lib.ListN.{length}
+use Rattle.laws.specs.Basics.{_≡_, refl, sym, _∙_, ap, Bool, true, false, _&&_, _||_, List, ℕ, _-_, _≤_, _<_, arith, length, needs, eq-eqb, ne-eqb, le-leb, lt-leb}
 use Rattle.words.specs.Layout.{stateSize, endOf, endFits, fits, messageIn, isMessage}
 use Rattle.library_console.proofs.denied.is_fit.Statement.{statement}
 use Rattle.library_console.proofs.denied.is_fit.Tie as tie

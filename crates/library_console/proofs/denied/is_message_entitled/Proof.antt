@@ -1,12 +1,10 @@
 -- `library_console::denied::is_message_entitled` meets its contract, by the cases of the role.
 -- Assumes nothing.
-use mathlib.Core.Path.{_≡_, sym, _∙_, ap}
-use borrow.Author.Needs.{needs}
+use Rattle.laws.specs.Basics.{_≡_, sym, _∙_, ap, needs}
 use Rattle.words.specs.Layout.{runOf}
 use Rattle.model.specs.Steps.{found}
 use Rattle.theory_roles.specs.Console.{entitledMessageBy}
-use Rattle.library_console.proofs.Receiving.{reaches-own}
-use Rattle.library_console.proofs.denied.is_message_entitled.Statement.{statement}
+use Rattle.library_console.proofs.{Receiving.reaches-own, denied.is_message_entitled.Statement.statement}
 use Rattle.library_console.proofs.denied.is_message_entitled.Tie as tie
 
 returns-2 : tie.Need-returns-2

@@ -1,7 +1,6 @@
 -- `library_console::denied::is_own` meets its contract: a process that is none, and its bit.
 -- Assumes nothing.
-use borrow.Author.Needs.{needs}
-use borrow.Author.Tests.{le-ltb, lt-ltb}
+use Rattle.laws.specs.Basics.{needs, lt-ltb, le-ltb}
 use Rattle.theory_roles.specs.Console.{owns}
 use Rattle.library_console.proofs.denied.is_own.Statement.{statement}
 use Rattle.library_console.proofs.denied.is_own.Tie as tie

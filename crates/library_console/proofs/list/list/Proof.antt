@@ -1,9 +1,8 @@
 -- `library_console::list::list` meets its contract, by whether the number is a role's.
 -- Assumes nothing.
-use borrow.Author.Needs.{needs}
+use Rattle.laws.specs.Basics.{needs}
 use Rattle.words.specs.Layout.{runOf}
-use Rattle.library_console.proofs.Listing.{list-unknown, list-known}
-use Rattle.library_console.proofs.list.list.Statement.{statement}
+use Rattle.library_console.proofs.{Listing.list-unknown, Listing.list-known, list.list.Statement.statement}
 use Rattle.library_console.proofs.list.list.Tie as tie
 
 returns : tie.Need-returns

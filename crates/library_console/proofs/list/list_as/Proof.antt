@@ -1,17 +1,10 @@
 -- `library_console::list::list_as` meets its contract: the table says no, it is refused with 2 or 3, or what the caller's processes keep is written.
 -- Assumes nothing.
-use mathlib.Core.Path.{_≡_, refl, sym, _∙_, ap}
-use Prim.Native.Nat.{ℕ, _*_, _≤_}
-use native.Mathlib.Omega.{arith}
-use borrow.Author.Needs.{needs}
-use borrow.Author.Tests.{ltb-false}
-use lib.Dec.{ltb}
-use lib.ListN.{length}
+use Rattle.laws.specs.Basics.{_≡_, refl, sym, _∙_, ap, ℕ, _*_, _≤_, arith, ltb, length, needs, ltb-false}
 use Rattle.words.specs.Layout.{countOf, runOf}
 use Rattle.words.proofs.ViewSound.{sound-words}
 use Rattle.whole_runs.proofs.Unsound.{is-sound, is-unsound}
-use Rattle.library_console.proofs.Listing.{list-denied, list-unsound, list-short, list-made}
-use Rattle.library_console.proofs.list.list_as.Statement.{statement}
+use Rattle.library_console.proofs.{Listing.list-denied, Listing.list-unsound, Listing.list-short, Listing.list-made, list.list_as.Statement.statement}
 use Rattle.library_console.proofs.list.list_as.Tie as tie
 
 returns : tie.Need-returns

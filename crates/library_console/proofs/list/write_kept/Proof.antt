@@ -1,17 +1,11 @@
 -- `library_console::list::write_kept` meets its contract. The loop's invariant: the pairs of the checkpoints passed are written.
 -- Assumes nothing.
-use Prim.Native.Nat.{ℕ, _+_, _*_, _-_, _≤_}
-use mathlib.Core.Path.{_≡_, refl, _∙_}
-use native.Mathlib.Omega.{arith}
-use borrow.Author.Needs.{needs}
-use lib.ListN.{length}
-use lib.Seq.{sets}
+use Rattle.laws.specs.Basics.{_≡_, refl, _∙_, ℕ, _+_, _-_, _*_, _≤_, arith, length, sets, needs}
 use Rattle.laws.specs.Lists.{table}
 use Rattle.model.specs.Steps.{listed}
 use Rattle.whole_runs.specs.Outcomes.{pairs}
 use Rattle.words.specs.Layout.{checkpointIn}
-use Rattle.library_console.proofs.Listing.{none-written, one-written}
-use Rattle.library_console.proofs.list.write_kept.Statement.{statement}
+use Rattle.library_console.proofs.{Listing.none-written, Listing.one-written, list.write_kept.Statement.statement}
 use Rattle.library_console.proofs.list.write_kept.Tie as tie
 
 abbrev Inv-loop : tie.InvT-loop

@@ -1,13 +1,7 @@
 -- `library_console::list::write_pair` meets its contract: two numbers, one after the other.
 -- Assumes nothing.
-use Prim.Native.Nat.{ℕ, _+_, _<_}
-use mathlib.Core.Path.{_≡_, refl, sym, _∙_, ap}
-use mathlib.Core.List.{List, [], _∷_}
-use native.Mathlib.Omega.{arith}
+use Rattle.laws.specs.Basics.{_≡_, refl, sym, _∙_, ap, List, [], _∷_, ℕ, _+_, _<_, arith, length, set, length-set, sets, needs}
 use native.Mathlib.Numerals.{add-one}
-use borrow.Author.Needs.{needs}
-use lib.ListN.{length, set, length-set}
-use lib.Seq.{sets}
 use Rattle.model.specs.declared.CheckpointIndex.{CheckpointIndex}
 use Rattle.words.specs.Layout.{word, indexAt, indexOf, checkpointIn}
 use Rattle.library_console.proofs.list.write_pair.Statement.{statement}

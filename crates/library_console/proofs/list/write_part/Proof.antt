@@ -1,15 +1,9 @@
 -- `library_console::list::write_part` meets its contract: the caller may not see the process, or all that it keeps is written.
 -- Assumes nothing.
-use mathlib.Core.Path.{_≡_, refl, sym, _∙_, ap}
-use Prim.Native.Nat.{ℕ, _≤_, _<_}
-use native.Mathlib.Omega.{arith}
-use borrow.Author.Needs.{needs}
-use borrow.Author.Tests.{not-true, not-false}
-use lib.ListN.{length}
+use Rattle.laws.specs.Basics.{_≡_, refl, sym, _∙_, ap, ℕ, _≤_, _<_, arith, length, needs, not-true, not-false}
 use Rattle.words.specs.Layout.{word, keptCountAt}
 use Rattle.words.proofs.ViewSound.{sound-words}
-use Rattle.library_console.proofs.Listing.{unseen, seen}
-use Rattle.library_console.proofs.list.write_part.Statement.{statement}
+use Rattle.library_console.proofs.{Listing.unseen, Listing.seen, list.write_part.Statement.statement}
 use Rattle.library_console.proofs.list.write_part.Tie as tie
 
 shared-slice-read-number-of : tie.Need-shared-slice-read-number-of

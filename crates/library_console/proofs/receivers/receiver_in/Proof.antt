@@ -1,15 +1,9 @@
 -- `library_console::receivers::receiver_in` meets its contract: number 0 where zeros are said to be under way, and what the search brought.
 -- Assumes nothing.
-use mathlib.Core.Path.{_≡_, refl, sym, _∙_, ap}
-use mathlib.Core.Bool.{_&&_}
-use Prim.Native.Nat.{ℕ, _≤_}
-use native.Mathlib.Omega.{arith}
-use borrow.Author.Needs.{needs}
-use lib.ListN.{length}
+use Rattle.laws.specs.Basics.{_≡_, refl, sym, _∙_, ap, _&&_, ℕ, _≤_, arith, length, needs}
 use Rattle.words.specs.Layout.{endOf}
 use Rattle.words.proofs.View.{fits-size, fits-end, end-most}
-use Rattle.library_console.proofs.Receiving.{zeros-said, as-searched}
-use Rattle.library_console.proofs.receivers.receiver_in.Statement.{statement}
+use Rattle.library_console.proofs.{Receiving.zeros-said, Receiving.as-searched, receivers.receiver_in.Statement.statement}
 use Rattle.library_console.proofs.receivers.receiver_in.Tie as tie
 
 shared-slice-read-number-of : tie.Need-shared-slice-read-number-of

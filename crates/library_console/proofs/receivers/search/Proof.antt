@@ -1,12 +1,8 @@
 -- `library_console::receivers::search` meets its contract. The loop's invariant: the places passed were searched.
 -- Assumes nothing.
-use Prim.Native.Nat.{ℕ, _≤_, _-_}
-use mathlib.Core.Path.{_≡_}
-use native.Mathlib.Omega.{arith}
-use borrow.Author.Needs.{needs}
+use Rattle.laws.specs.Basics.{_≡_, ℕ, _-_, _≤_, arith, needs}
 use Rattle.library_console.specs.Receivers.{SearchedTo}
-use Rattle.library_console.proofs.Receiving.{none-searched}
-use Rattle.library_console.proofs.receivers.search.Statement.{statement}
+use Rattle.library_console.proofs.{Receiving.none-searched, receivers.search.Statement.statement}
 use Rattle.library_console.proofs.receivers.search.Tie as tie
 
 abbrev Inv-loop : tie.InvT-loop

@@ -1,18 +1,9 @@
 -- `library_console::shown::counts` meets its contract: it is denied, refused with 2 or 3, or how many each process keeps is written.
 -- Assumes nothing.
-use mathlib.Core.Path.{_≡_, sym, ap, _∙_}
-use borrow.Author.Needs.{needs}
+use Rattle.laws.specs.Basics.{_≡_, sym, _∙_, ap, List, ℕ, arith, ltb, length, sets, needs, ltb-false}
 use Rattle.words.specs.Layout.{runOf}
-use mathlib.Core.List.{List}
-use Prim.Native.Nat.{ℕ}
-use native.Mathlib.Omega.{arith}
-use borrow.Author.Tests.{ltb-false}
-use lib.Dec.{ltb}
-use lib.ListN.{length}
-use lib.Seq.{sets}
 use Rattle.whole_runs.proofs.Unsound.{is-sound, is-unsound}
-use Rattle.words.proofs.View.{count-is}
-use Rattle.words.proofs.ViewSound.{sound-words}
+use Rattle.words.proofs.{View.count-is, ViewSound.sound-words}
 use Rattle.library_readers.specs.Written.{wordsFrom}
 use Rattle.library_console.proofs.Showing.{counts-denied, counts-unsound, counts-short, counts-written}
 use Rattle.library_console.proofs.shown.counts.Statement.{statement}

@@ -1,10 +1,8 @@
 -- `library_console::shown::line` meets its contract, by whether the number is a role's.
 -- Assumes nothing.
-use mathlib.Core.Path.{_≡_, refl, sym, ap, _∙_}
-use borrow.Author.Needs.{needs}
+use Rattle.laws.specs.Basics.{_≡_, refl, sym, _∙_, ap, needs}
 use Rattle.words.specs.Layout.{runOf}
-use Rattle.library_console.proofs.Showing.{line-unknown, line-known}
-use Rattle.library_console.proofs.shown.line.Statement.{statement}
+use Rattle.library_console.proofs.{Showing.line-unknown, Showing.line-known, shown.line.Statement.statement}
 use Rattle.library_console.proofs.shown.line.Tie as tie
 
 returns : tie.Need-returns

@@ -1,9 +1,7 @@
 -- `library_console::shown::seen_line` meets its contract: a lent list that is too short, a refused line, and the caller's members of the line.
 -- Assumes nothing.
-use mathlib.Core.Path.{_≡_, refl, sym, ap, _∙_}
-use borrow.Author.Needs.{needs}
+use Rattle.laws.specs.Basics.{_≡_, refl, sym, _∙_, ap, arith, needs}
 use Rattle.words.specs.Layout.{runOf}
-use native.Mathlib.Omega.{arith}
 use Rattle.model.specs.laws.Sound.{sound-state}
 use Rattle.theory_roles.specs.Console.{entitled}
 use Rattle.library_console.proofs.Members.{short-line, line-refused, written-sound, line-written}

@@ -1,9 +1,8 @@
 -- `library_halves::both::bad_count` meets its contract.
 -- Assumes nothing.
+use Rattle.laws.specs.Basics.{needs}
 use denote.Ref.{now}
-use borrow.Author.Needs.{needs}
-use Rattle.library_halves.proofs.Rules.{bad-empty, bad-zero, bad-other}
-use Rattle.library_halves.proofs.both.bad_count.Statement.{statement}
+use Rattle.library_halves.proofs.{Rules.bad-empty, Rules.bad-zero, Rules.bad-other, both.bad_count.Statement.statement}
 use Rattle.library_halves.proofs.both.bad_count.Tie as tie
 
 returns-2 : tie.Need-returns-2

@@ -1,10 +1,8 @@
 -- `library_halves::both::count_of` meets its contract.
 -- Assumes nothing.
-use mathlib.Core.Path.{sym, _∙_}
+use Rattle.laws.specs.Basics.{sym, _∙_, needs}
 use denote.Ref.{now}
-use borrow.Author.Needs.{needs}
-use Rattle.library_halves.proofs.Rules.{count-none, count-is}
-use Rattle.library_halves.proofs.both.count_of.Statement.{statement}
+use Rattle.library_halves.proofs.{Rules.count-none, Rules.count-is, both.count_of.Statement.statement}
 use Rattle.library_halves.proofs.both.count_of.Tie as tie
 
 returns : tie.Need-returns

@@ -1,7 +1,6 @@
 -- `library_halves::both::first_rule` meets its contract: the tests that fail before the one that holds, or all of them.
 -- Assumes nothing.
-use mathlib.Core.Path.{refl, sym}
-use mathlib.Core.Option.{none, some}
+use Rattle.laws.specs.Basics.{refl, sym, none, some}
 use Rattle.model.specs.declared.Refusal.the-variants.{CountOutsideRange, ListTooShort, NoSuchFailedProcess, NoFirstByte, LeftOverBytes, TooManyRecords, HalvesMismatch}
 use Rattle.model.specs.laws.Refusals.{refusal-in}
 use Rattle.admissions.specs.Admissions.{refusalOf}

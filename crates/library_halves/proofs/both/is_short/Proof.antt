@@ -1,7 +1,6 @@
 -- `library_halves::both::is_short` meets its contract. The two lengths are not added, so that nothing wraps.
 -- Assumes nothing.
-use Rattle.library_halves.proofs.Rules.{short-first, short-both}
-use Rattle.library_halves.proofs.both.is_short.Statement.{statement}
+use Rattle.library_halves.proofs.{Rules.short-first, Rules.short-both, both.is_short.Statement.statement}
 use Rattle.library_halves.proofs.both.is_short.Tie as tie
 
 returns : tie.Need-returns

@@ -1,10 +1,8 @@
 -- `library_halves::both::judge_halves` meets its contract: the tests are those of `mergeRefusal`.
 -- Assumes nothing.
-use mathlib.Core.Path.{_∙_}
+use Rattle.laws.specs.Basics.{_∙_, needs}
 use denote.Ref.{now}
-use borrow.Author.Needs.{needs}
-use Rattle.library_halves.proofs.Rules.{rules-are}
-use Rattle.library_halves.proofs.both.judge_halves.Statement.{statement}
+use Rattle.library_halves.proofs.{Rules.rules-are, both.judge_halves.Statement.statement}
 use Rattle.library_halves.proofs.both.judge_halves.Tie as tie
 
 returns : tie.Need-returns

@@ -1,9 +1,8 @@
 -- `library_halves::both::left_over` meets its contract.
 -- Assumes nothing.
+use Rattle.laws.specs.Basics.{needs}
 use denote.Ref.{now}
-use borrow.Author.Needs.{needs}
-use Rattle.library_halves.proofs.Rules.{after-first-is, none-over}
-use Rattle.library_halves.proofs.both.left_over.Statement.{statement}
+use Rattle.library_halves.proofs.{Rules.after-first-is, Rules.none-over, both.left_over.Statement.statement}
 use Rattle.library_halves.proofs.both.left_over.Tie as tie
 
 pub left-over-spec : {M : Type 1} → statement M

@@ -1,9 +1,8 @@
 -- `library_halves::both::too_many` meets its contract.
 -- Assumes nothing.
+use Rattle.laws.specs.Basics.{needs}
 use denote.Ref.{now}
-use borrow.Author.Needs.{needs}
-use Rattle.library_halves.proofs.Rules.{after-first-is, none-many}
-use Rattle.library_halves.proofs.both.too_many.Statement.{statement}
+use Rattle.library_halves.proofs.{Rules.after-first-is, Rules.none-many, both.too_many.Statement.statement}
 use Rattle.library_halves.proofs.both.too_many.Tie as tie
 
 pub too-many-spec : {M : Type 1} → statement M

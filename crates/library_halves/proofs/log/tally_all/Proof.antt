@@ -1,13 +1,9 @@
 -- `library_halves::log::tally_all` meets its contract. The loop's invariant: the tally of the first i words.
 -- Assumes nothing.
-use mathlib.Core.Path.{_≡_}
-use Prim.Native.Nat.{_-_, _≤_}
-use native.Mathlib.Omega.{arith}
+use Rattle.laws.specs.Basics.{_≡_, _-_, _≤_, arith, needs}
 use denote.Ref.{now}
-use borrow.Author.Needs.{needs}
 use Rattle.library_halves.specs.Log.{tallyOf}
-use Rattle.library_halves.proofs.Tallies.{tally-none, tally-next, tally-small}
-use Rattle.library_halves.proofs.log.tally_all.Statement.{statement}
+use Rattle.library_halves.proofs.{Tallies.tally-none, Tallies.tally-next, Tallies.tally-small, log.tally_all.Statement.statement}
 use Rattle.library_halves.proofs.log.tally_all.Tie as tie
 
 abbrev Inv-loop : tie.InvT-loop

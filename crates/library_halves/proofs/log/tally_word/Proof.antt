@@ -1,8 +1,6 @@
 -- `library_halves::log::tally_word` meets its contract: the tests say which case of `tallied` holds.
 -- Assumes nothing.
-use Prim.Native.Nat.{_+_, _/_, _%_}
-use borrow.Author.Tests.{eq-eqb, ne-eqb}
-use borrow.Author.Needs.{needs}
+use Rattle.laws.specs.Basics.{_+_, _/_, _%_, needs, eq-eqb, ne-eqb}
 use Rattle.library_halves.specs.Log.{tallied}
 use Rattle.library_halves.proofs.log.tally_word.Statement.{statement}
 use Rattle.library_halves.proofs.log.tally_word.Tie as tie

@@ -1,15 +1,9 @@
 -- `library_halves::log::write_all` meets its contract. The loop's invariant: the bytes of the first i words are written.
 -- Assumes nothing.
-use mathlib.Core.Path.{_≡_, refl, _∙_}
-use Prim.Native.Nat.{_-_, _≤_}
-use native.Mathlib.Omega.{arith}
-use lib.ListN.{length}
-use lib.Seq.{sets}
+use Rattle.laws.specs.Basics.{_≡_, refl, _∙_, _-_, _≤_, arith, length, sets, needs}
 use denote.Ref.{now}
-use borrow.Author.Needs.{needs}
 use Rattle.library_halves.specs.Log.{bytesUpTo}
-use Rattle.library_halves.proofs.Bytes.{bytes-none, bytes-next}
-use Rattle.library_halves.proofs.log.write_all.Statement.{statement}
+use Rattle.library_halves.proofs.{Bytes.bytes-none, Bytes.bytes-next, log.write_all.Statement.statement}
 use Rattle.library_halves.proofs.log.write_all.Tie as tie
 
 abbrev Inv-loop : tie.InvT-loop

@@ -1,10 +1,6 @@
 -- `library_halves::log::write_word` meets its contract.
 -- Assumes nothing.
-use mathlib.Core.Path.{_≡_}
-use Prim.Native.Nat.{suc, _+_}
-use native.Mathlib.Omega.{arith}
-use lib.ListN.{length-set}
-use borrow.Author.Needs.{needs}
+use Rattle.laws.specs.Basics.{_≡_, suc, _+_, arith, length-set, needs}
 use Rattle.model.specs.Trace.{bytesOf}
 use Rattle.library_halves.proofs.log.write_word.Statement.{statement}
 use Rattle.library_halves.proofs.log.write_word.Tie as tie

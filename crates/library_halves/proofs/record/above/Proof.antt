@@ -1,9 +1,6 @@
 -- `library_halves::record::above` meets its contract. The loop's invariant: what is left after the first i processes.
 -- Assumes nothing.
-use mathlib.Core.Path.{_≡_}
-use Prim.Native.Nat.{_-_, _/_, _^_, _≤_}
-use native.Mathlib.Omega.{arith}
-use borrow.Author.Needs.{needs}
+use Rattle.laws.specs.Basics.{_≡_, _-_, _/_, _^_, _≤_, arith, needs}
 use Rattle.laws.specs.Bits.{bits-all, bits-next}
 use Rattle.library_halves.proofs.record.above.Statement.{statement}
 use Rattle.library_halves.proofs.record.above.Tie as tie

@@ -1,6 +1,6 @@
 -- `library_halves::record::in_half` meets its contract.
 -- Assumes nothing.
-use borrow.Author.Needs.{needs}
+use Rattle.laws.specs.Basics.{needs}
 use Rattle.theory_merges.specs.Merge.{inHalf}
 use Rattle.library_halves.proofs.record.in_half.Statement.{statement}
 use Rattle.library_halves.proofs.record.in_half.Tie as tie

@@ -1,8 +1,6 @@
 -- `library_halves::record::judge` meets its contract: the arm of the `match` says which case of `halfEventOf` holds.
 -- Assumes nothing.
-use mathlib.Core.Path.{refl, _∙_}
-use mathlib.Core.Logic.{inl, inr}
-use borrow.Author.Needs.{needs}
+use Rattle.laws.specs.Basics.{refl, _∙_, inl, inr, needs}
 use Rattle.theory_merges.specs.Merge.{onRecord}
 use Rattle.library_halves.specs.Taking.{Judges}
 use Rattle.library_halves.proofs.Ready.{read-is, half-zero, half-one, half-two, half-three, half-none}

@@ -1,6 +1,6 @@
 -- `library_halves::record::judge_checkpoint` meets its contract.
 -- Assumes nothing.
-use borrow.Author.Needs.{needs}
+use Rattle.laws.specs.Basics.{needs}
 use Rattle.library_halves.specs.Taking.{Judges}
 use Rattle.library_halves.proofs.Records.{no-checkpoint, checkpoint-absent, checkpoint-foreign, checkpoint-taken}
 use Rattle.library_halves.proofs.record.judge_checkpoint.Statement.{statement}

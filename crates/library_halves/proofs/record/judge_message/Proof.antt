@@ -1,18 +1,12 @@
 -- `library_halves::record::judge_message` meets its contract.
 -- Assumes nothing.
-use mathlib.Core.Path.{_≡_, sym, _∙_, ap}
-use Prim.Native.Nat.{ℕ, _/_, _%_, _<_}
-use native.Mathlib.Omega.{arith}
+use Rattle.laws.specs.Basics.{_≡_, sym, _∙_, ap, ℕ, _/_, _%_, _<_, arith, needs}
 use denote.Ref.{now}
-use borrow.Author.Needs.{needs}
-use Rattle.theory_merges.specs.Halves.{messageNumber}
-use Rattle.theory_merges.specs.Merge.{inHalf}
+use Rattle.theory_merges.specs.{Halves.messageNumber, Merge.inHalf}
 use Rattle.library_halves.specs.declared.log.Tally.{Tally}
-use Rattle.library_halves.specs.Log.{tallyOf}
-use Rattle.library_halves.specs.Taking.{Judges}
-use Rattle.library_halves.proofs.Tallies.{heard, logged-tally, tally-small}
+use Rattle.library_halves.specs.{Log.tallyOf, Taking.Judges}
+use Rattle.library_halves.proofs.{Tallies.heard, Tallies.logged-tally, Tallies.tally-small, record.judge_message.Statement.statement}
 use Rattle.library_halves.proofs.Records.{not-zero, message-foreign, message-taken}
-use Rattle.library_halves.proofs.record.judge_message.Statement.{statement}
 use Rattle.library_halves.proofs.record.judge_message.Tie as tie
 
 returns : tie.Need-returns

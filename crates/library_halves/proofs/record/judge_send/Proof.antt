@@ -1,6 +1,6 @@
 -- `library_halves::record::judge_send` meets its contract.
 -- Assumes nothing.
-use borrow.Author.Needs.{needs}
+use Rattle.laws.specs.Basics.{needs}
 use Rattle.library_halves.specs.Taking.{Judges}
 use Rattle.library_halves.proofs.Records.{send-absent, receiver-absent, send-itself, send-foreign, send-taken}
 use Rattle.library_halves.proofs.record.judge_send.Statement.{statement}

@@ -1,6 +1,6 @@
 -- `library_halves::taking::chosen` meets its contract: the part that `record_part` hands on, of one half or of the other.
 -- Assumes nothing.
-use borrow.Author.Needs.{needs}
+use Rattle.laws.specs.Basics.{needs}
 use Rattle.library_halves.proofs.taking.chosen.Statement.{statement}
 use Rattle.library_halves.proofs.taking.chosen.Tie as tie
 

@@ -1,10 +1,8 @@
 -- `library_halves::taking::is_sent` meets its contract.
 -- Assumes nothing.
-use Prim.Native.Nat.{_/_, _%_}
+use Rattle.laws.specs.Basics.{_/_, _%_, needs}
 use denote.Ref.{now}
-use borrow.Author.Needs.{needs}
-use Rattle.library_halves.proofs.Tallies.{logged-tally}
-use Rattle.library_halves.proofs.taking.is_sent.Statement.{statement}
+use Rattle.library_halves.proofs.{Tallies.logged-tally, taking.is_sent.Statement.statement}
 use Rattle.library_halves.proofs.taking.is_sent.Tie as tie
 
 returns : tie.Need-returns

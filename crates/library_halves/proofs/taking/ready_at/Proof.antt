@@ -1,10 +1,7 @@
 -- `library_halves::taking::ready_at` meets its contract.
 -- Assumes nothing.
-use mathlib.Core.Path.{sym, _∙_, ap}
-use mathlib.Core.Bool.{true, false, false≢true}
-use lib.ListN.{length}
+use Rattle.laws.specs.Basics.{sym, _∙_, ap, true, false, false≢true, length, needs}
 use denote.Ref.{now}
-use borrow.Author.Needs.{needs}
 use Rattle.library_halves.proofs.Ready.{read-is, not-ready, always-ready, sent-two, sent-three}
 use Rattle.library_halves.proofs.taking.ready_at.Statement.{statement}
 use Rattle.library_halves.proofs.taking.ready_at.Tie as tie

@@ -1,6 +1,6 @@
 -- `library_halves::taking::step_of` meets its contract.
 -- Assumes nothing.
-use borrow.Author.Needs.{needs}
+use Rattle.laws.specs.Basics.{needs}
 use Rattle.library_halves.specs.Taking.{stepOf}
 use Rattle.library_halves.proofs.taking.step_of.Statement.{statement}
 use Rattle.library_halves.proofs.taking.step_of.Tie as tie

@@ -1,11 +1,7 @@
 -- `library_halves::taking::take_all` meets its contract. The loop's invariant: the log holds the records taken, and the merge goes on after them.
 -- Assumes nothing.
-use mathlib.Core.Path.{_≡_, refl, _∙_}
-use Prim.Native.Nat.{_+_, _-_, _*_, _≤_}
-use native.Mathlib.Omega.{arith}
-use lib.ListN.{length, length-set}
+use Rattle.laws.specs.Basics.{_≡_, refl, _∙_, _+_, _-_, _*_, _≤_, arith, length, length-set, needs}
 use denote.Ref.{now}
-use borrow.Author.Needs.{needs}
 use Rattle.library_halves.specs.Taking.{Takes}
 use Rattle.library_halves.proofs.Iterations.{Taking, taking-none, taking-stopped, taking-first, taking-second, taking-all}
 use Rattle.library_halves.proofs.taking.take_all.Statement.{statement}

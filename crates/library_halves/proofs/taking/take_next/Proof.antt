@@ -1,12 +1,9 @@
 -- `library_halves::taking::take_next` meets its contract.
 -- Assumes nothing.
-use mathlib.Core.Path.{sym, _∙_, ap}
-use lib.ListN.{length}
+use Rattle.laws.specs.Basics.{sym, _∙_, ap, length, needs}
 use denote.Ref.{now}
-use borrow.Author.Needs.{needs}
 use Rattle.library_halves.specs.Taking.{Steps}
-use Rattle.library_halves.proofs.Ready.{first-taken, second-taken, neither-ready}
-use Rattle.library_halves.proofs.taking.take_next.Statement.{statement}
+use Rattle.library_halves.proofs.{Ready.first-taken, Ready.second-taken, Ready.neither-ready, taking.take_next.Statement.statement}
 use Rattle.library_halves.proofs.taking.take_next.Tie as tie
 
 judge-requires : tie.Need-judge-requires

@@ -1,7 +1,6 @@
 -- `library_judge::decision::decide` meets its contract.
 -- Assumes nothing.
-use native.Mathlib.Omega.{arith}
-use Prim.Native.Nat.{_-_}
+use Rattle.laws.specs.Basics.{_-_, arith}
 use Rattle.library_judge.specs.decision.Represents.{Judges, Says}
 use Rattle.library_judge.proofs.decision.Meets.{start-length, sized, linked, is-trackable, reaching, is-breaking, on, off}
 use Rattle.library_judge.proofs.decision.decide.Statement.{statement}

@@ -1,7 +1,6 @@
 -- `library_judge::reading::find` meets its contract.
 -- Assumes nothing.
-use borrow.Author.Needs.{needs}
-use native.Mathlib.Omega.{arith}
+use Rattle.laws.specs.Basics.{arith, needs}
 use Rattle.library_judge.specs.Readings.{found-there, found-none}
 use Rattle.library_judge.proofs.reading.find.Statement.{statement}
 use Rattle.library_judge.proofs.reading.find.Tie as tie

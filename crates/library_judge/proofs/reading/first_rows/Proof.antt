@@ -1,10 +1,6 @@
 -- `library_judge::reading::first_rows` meets its contract.
 -- Assumes nothing.
-use borrow.Author.Needs.{needs}
-use native.Mathlib.Omega.{arith}
-use mathlib.Core.Path.{_≡_, refl, _∙_}
-use Prim.Native.Nat.{_-_, _≤_}
-use lib.ListN.{length, length-set}
+use Rattle.laws.specs.Basics.{_≡_, refl, _∙_, _-_, _≤_, arith, length, length-set, needs}
 use Rattle.library_judge.specs.Readings.{FirstRows, first-none, first-step}
 use Rattle.model.specs.Words.{ones}
 use Rattle.library_judge.proofs.reading.first_rows.Statement.{statement}

@@ -1,11 +1,8 @@
 -- `library_judge::reading::put_carried` meets its contract.
 -- Assumes nothing.
-use borrow.Author.Needs.{needs}
-use mathlib.Core.Path.{_∙_, ap}
-use mathlib.Core.List.{List}
+use Rattle.laws.specs.Basics.{_∙_, ap, List, needs}
 use Rattle.model.specs.declared.Interval.{Interval}
-use Rattle.library_judge.specs.decision.Rows.{putRow}
-use Rattle.library_judge.specs.Readings.{sentCarried}
+use Rattle.library_judge.specs.{decision.Rows.putRow, Readings.sentCarried}
 use Rattle.library_judge.proofs.reading.put_carried.Statement.{statement}
 use Rattle.library_judge.proofs.reading.put_carried.Tie as tie
 use Rattle.library_judge.proofs.decision.flat.put_row.Reads as put-row-reads

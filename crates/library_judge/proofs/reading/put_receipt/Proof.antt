@@ -1,7 +1,6 @@
 -- `library_judge::reading::put_receipt` meets its contract.
 -- Assumes nothing.
-use borrow.Author.Needs.{needs}
-use mathlib.Core.Path.{_∙_}
+use Rattle.laws.specs.Basics.{_∙_, needs}
 use Rattle.library_judge.specs.Readings.{receipt-is}
 use Rattle.library_judge.proofs.reading.put_receipt.Statement.{statement}
 use Rattle.library_judge.proofs.reading.put_receipt.Tie as tie

@@ -1,17 +1,11 @@
 -- `library_judge::reading::read_all` meets its contract: the reading of the records before is kept in the tables.
 -- Assumes nothing.
-use borrow.Author.Needs.{needs}
+use Rattle.laws.specs.Basics.{_≡_, refl, sym, _∙_, true, _-_, arith, length, needs}
 use Rattle.library_judge.proofs.Together.{left-long, answered-to, next-refused, next-taken, end-refused, end-whole, begins, refused-to, taken-to}
-use mathlib.Core.Path.{_≡_, refl, sym, _∙_}
-use mathlib.Core.Bool.{true}
-use Prim.Native.Nat.{_-_}
-use native.Mathlib.Omega.{arith}
-use lib.ListN.{length}
 use Rattle.trace.specs.reader.Reading.{recordLeft}
 use Rattle.library_judge.specs.Kept.{tables, Reached}
-use Rattle.library_judge.proofs.Keeping.{kept-begin}
+use Rattle.library_judge.proofs.{Keeping.kept-begin, reading.read_all.Statement.statement}
 use Rattle.library_judge.proofs.Together.{left-long, next-refused, next-taken, end-refused, end-whole, begins, refused-to, taken-to}
-use Rattle.library_judge.proofs.reading.read_all.Statement.{statement}
 use Rattle.library_judge.proofs.reading.read_all.Tie as tie
 use Rattle.library_judge.proofs.reading.first_rows.Reads as first-rows-reads
 use Rattle.library_judge.proofs.reading.read_record.Reads as read-record-reads

@@ -1,10 +1,6 @@
 -- `library_judge::reading::read_checkpoint` meets its contract.
 -- Assumes nothing.
-use borrow.Author.Needs.{needs}
-use mathlib.Core.Path.{sym, _∙_, ap}
-use mathlib.Core.List.{List}
-use native.Mathlib.Omega.{arith}
-use borrow.Author.Tests.{leb-true, leb-false}
+use Rattle.laws.specs.Basics.{sym, _∙_, ap, List, arith, needs, leb-true, leb-false}
 use Rattle.model.specs.declared.Interval.{Interval}
 use Rattle.library_judge.specs.decision.Rows.{putRow}
 use Rattle.library_judge.specs.Readings.{takenStep, checkpoint-absent, checkpoint-full, checkpoint-free, checkpoint-refused, checkpoint-taken}

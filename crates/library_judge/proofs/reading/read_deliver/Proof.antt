@@ -1,9 +1,6 @@
 -- `library_judge::reading::read_deliver` meets its contract.
 -- Assumes nothing.
-use borrow.Author.Needs.{needs}
-use mathlib.Core.Path.{_∙_, ap}
-use native.Mathlib.Omega.{arith}
-use lib.ListN.{getD}
+use Rattle.laws.specs.Basics.{_∙_, ap, arith, getD, needs}
 use Rattle.library_judge.specs.declared.reading.Found.{Found}
 use Rattle.library_judge.specs.Readings.{takenStep, is-found, drop-none, drop-one, deliver-none, deliver-one}
 use Rattle.library_judge.proofs.reading.read_deliver.Statement.{statement}

@@ -1,11 +1,9 @@
 -- `library_judge::reading::read_event` meets its contract, by the kind of the record.
 -- Assumes nothing.
-use borrow.Author.Needs.{needs}
+use Rattle.laws.specs.Basics.{needs}
 use Rattle.library_judge.specs.Kept.{tables}
-use Rattle.library_judge.proofs.Keeping.{enoughRoom, send-room, deliver-room}
+use Rattle.library_judge.proofs.{Keeping.enoughRoom, Keeping.send-room, Keeping.deliver-room, Together.by-event, reading.read_event.Statement.statement}
 use Rattle.library_judge.proofs.Records.{checkpoint-reads, send-reads, deliver-reads, lose-reads, recover-reads}
-use Rattle.library_judge.proofs.Together.{by-event}
-use Rattle.library_judge.proofs.reading.read_event.Statement.{statement}
 use Rattle.library_judge.proofs.reading.read_event.Tie as tie
 use Rattle.library_judge.proofs.reading.read_checkpoint.Reads as read-checkpoint-reads
 use Rattle.library_judge.proofs.reading.read_deliver.Reads as read-deliver-reads

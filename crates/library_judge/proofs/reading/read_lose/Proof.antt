@@ -1,8 +1,6 @@
 -- `library_judge::reading::read_lose` meets its contract.
 -- Assumes nothing.
-use borrow.Author.Needs.{needs}
-use mathlib.Core.Path.{_∙_, ap}
-use native.Mathlib.Omega.{arith}
+use Rattle.laws.specs.Basics.{_∙_, ap, arith, needs}
 use Rattle.library_judge.specs.Readings.{takenStep, place-low, drop-none, drop-one}
 use Rattle.library_judge.proofs.reading.read_lose.Statement.{statement}
 use Rattle.library_judge.proofs.reading.read_lose.Tie as tie

@@ -1,10 +1,8 @@
 -- `library_judge::reading::read_record` meets its contract.
 -- Assumes nothing.
-use borrow.Author.Needs.{needs}
+use Rattle.laws.specs.Basics.{needs}
 use Rattle.library_judge.specs.Kept.{tables}
-use Rattle.library_judge.proofs.Records.{malformed-reads}
-use Rattle.library_judge.proofs.Together.{by-malformed, by-decoded}
-use Rattle.library_judge.proofs.reading.read_record.Statement.{statement}
+use Rattle.library_judge.proofs.{Records.malformed-reads, Together.by-malformed, Together.by-decoded, reading.read_record.Statement.statement}
 use Rattle.library_judge.proofs.reading.read_record.Tie as tie
 use Rattle.library_judge.proofs.reading.read_event.Reads as read-event-reads
 use Rattle.library_judge.proofs.reading.refuse.Reads as refuse-reads

@@ -1,8 +1,6 @@
 -- `library_judge::reading::read_send` meets its contract.
 -- Assumes nothing.
-use borrow.Author.Needs.{needs}
-use mathlib.Core.Path.{sym, _∙_, ap}
-use native.Mathlib.Omega.{arith}
+use Rattle.laws.specs.Basics.{sym, _∙_, ap, arith, needs}
 use Rattle.library_judge.specs.Readings.{takenStep, refused-is, taken-is, send-free, send-refused, send-taken}
 use Rattle.library_judge.proofs.reading.read_send.Statement.{statement}
 use Rattle.library_judge.proofs.reading.read_send.Tie as tie

@@ -1,6 +1,6 @@
 -- `library_judge::reading::refuse` meets its contract.
 -- Assumes nothing.
-use mathlib.Core.Path.{refl}
+use Rattle.laws.specs.Basics.{refl}
 use Rattle.library_judge.specs.Readings.{refusedStep}
 use Rattle.library_judge.proofs.reading.refuse.Statement.{statement}
 use Rattle.library_judge.proofs.reading.refuse.Tie as tie

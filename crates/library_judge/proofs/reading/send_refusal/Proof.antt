@@ -1,7 +1,6 @@
 -- `library_judge::reading::send_refusal` meets its contract, by the verdict.
 -- Assumes nothing.
-use mathlib.Core.Path.{_≡_, sym}
-use borrow.Author.Needs.{needs}
+use Rattle.laws.specs.Basics.{_≡_, sym, needs}
 use Rattle.admissions.specs.declared.Admission.the-variants.{Accepted}
 use Rattle.admissions.specs.Admissions.{refusalOf}
 use Rattle.library_judge.specs.Readings.{refusalIn, sendRefusal}

@@ -1,6 +1,6 @@
 -- `library_judge::reading::take` meets its contract.
 -- Assumes nothing.
-use mathlib.Core.Path.{refl}
+use Rattle.laws.specs.Basics.{refl}
 use Rattle.library_judge.specs.Readings.{takenStep}
 use Rattle.library_judge.proofs.reading.take.Statement.{statement}
 use Rattle.library_judge.proofs.reading.take.Tie as tie

@@ -1,7 +1,6 @@
 -- `library_judge::reading::with_message` meets its contract.
 -- Assumes nothing.
-use borrow.Author.Needs.{needs}
-use mathlib.Core.Path.{refl}
+use Rattle.laws.specs.Basics.{refl, needs}
 use Rattle.library_judge.specs.Readings.{withMessage}
 use Rattle.library_judge.proofs.reading.with_message.Statement.{statement}
 use Rattle.library_judge.proofs.reading.with_message.Tie as tie

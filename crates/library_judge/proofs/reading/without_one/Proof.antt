@@ -1,7 +1,6 @@
 -- `library_judge::reading::without_one` meets its contract.
 -- Assumes nothing.
-use borrow.Author.Needs.{needs}
-use mathlib.Core.Path.{refl}
+use Rattle.laws.specs.Basics.{refl, needs}
 use Rattle.library_judge.specs.Readings.{withoutOne, one-less}
 use Rattle.library_judge.proofs.reading.without_one.Statement.{statement}
 use Rattle.library_judge.proofs.reading.without_one.Tie as tie

@@ -1,12 +1,6 @@
 -- `library_readers::lost::lost_on` meets its contract: the list's length, the failed set, then the messages. Assumes nothing.
-use mathlib.Core.Path.{_≡_, refl, sym, _∙_, ap}
-use mathlib.Core.Bool.{true}
-use Prim.Native.Nat.{ℕ, _^_}
-use lib.Dec.{leb}
-use borrow.Author.Needs.{needs}
-use Rattle.library_readers.proofs.Readings.{answer-is}
-use Rattle.library_readers.proofs.Losses.{lost-short, lost-outside}
-use Rattle.library_readers.proofs.lost.lost_on.Statement.{statement}
+use Rattle.laws.specs.Basics.{_≡_, refl, sym, _∙_, ap, true, ℕ, _^_, leb, needs}
+use Rattle.library_readers.proofs.{Readings.answer-is, Losses.lost-short, Losses.lost-outside, lost.lost_on.Statement.statement}
 use Rattle.library_readers.proofs.lost.lost_on.Tie as tie
 
 returns : tie.Need-returns

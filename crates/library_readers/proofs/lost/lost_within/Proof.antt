@@ -1,18 +1,11 @@
 -- `library_readers::lost::lost_within` meets its contract, by whether each process has a member. Assumes nothing.
-use mathlib.Core.Path.{_≡_, refl, sym, _∙_, ap}
-use mathlib.Core.Bool.{false}
-use Prim.Native.Nat.{ℕ, _^_}
-use native.Mathlib.Omega.{arith}
-use lib.Dec.{leb}
-use borrow.Author.Needs.{needs}
-use borrow.Author.Tests.{not-true, not-false}
+use Rattle.laws.specs.Basics.{_≡_, refl, sym, _∙_, ap, false, ℕ, _^_, arith, leb, needs, not-true, not-false}
 use Rattle.model.specs.Refusals.{noMember}
 use Rattle.words.specs.Layout.{countOf, runOf}
 use Rattle.words.proofs.ViewSound.{sound-words}
 use Rattle.in_place.proofs.Lining.{some-own, most-kept-count, all-used, members-missing, members-there, members-found}
 use Rattle.words_line.proofs.Lost.{senders-present}
-use Rattle.library_readers.proofs.Readings.{answer-is}
-use Rattle.library_readers.proofs.Losses.{few-lost, indexes-are, lost-missing, lost-read}
+use Rattle.library_readers.proofs.{Readings.answer-is, Losses.few-lost, Losses.indexes-are, Losses.lost-missing, Losses.lost-read}
 use Rattle.library_readers.proofs.lost.lost_within.Statement.{statement}
 use Rattle.library_readers.proofs.lost.lost_within.Tie as tie
 

@@ -1,22 +1,12 @@
 -- `library_readers::lost::write_lost` meets its contract. The loop's invariant: the lost messages of the places passed so far are written, and how many they are.
 -- Assumes nothing.
-use Prim.Native.Nat.{ℕ, _+_, _*_, _-_, _≤_, _<_}
-use mathlib.Core.Path.{_≡_, refl, sym, _∙_, ap}
-use mathlib.Core.Bool.{_&&_}
-use mathlib.Core.List.{List}
-use native.Mathlib.Omega.{arith}
-use lib.ListN.{length}
-use lib.Seq.{sets}
-use borrow.Author.Needs.{needs}
+use Rattle.laws.specs.Basics.{_≡_, refl, sym, _∙_, ap, _&&_, List, ℕ, _+_, _-_, _*_, _≤_, _<_, arith, length, sets, needs}
 use Rattle.laws.specs.Lists.{select, table}
 use Rattle.model.specs.declared.CheckpointIndex.{CheckpointIndex}
 use Rattle.words.specs.Layout.{messageIn, isMessage}
 use Rattle.words_line.specs.Sifted.{lostTo}
-use Rattle.library_readers.specs.Readings.{sentNumbers}
-use Rattle.library_readers.specs.Written.{lostBelow}
-use Rattle.library_readers.proofs.Three.{sent-step}
-use Rattle.library_readers.proofs.Losses.{few-lost}
-use Rattle.library_readers.proofs.lost.write_lost.Statement.{statement}
+use Rattle.library_readers.specs.{Readings.sentNumbers, Written.lostBelow}
+use Rattle.library_readers.proofs.{Three.sent-step, Losses.few-lost, lost.write_lost.Statement.statement}
 use Rattle.library_readers.proofs.lost.write_lost.Tie as tie
 
 abbrev Inv-loop : tie.InvT-loop

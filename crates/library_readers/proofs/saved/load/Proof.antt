@@ -1,16 +1,9 @@
 -- `library_readers::saved::load` meets its contract. Assumes nothing.
-use mathlib.Core.Path.{refl, sym, _∙_, ap}
-use mathlib.Core.Bool.{true, false}
-use mathlib.Core.List.{List}
-use Prim.Native.Nat.{ℕ}
-use lib.ListN.{length}
-use borrow.Author.Needs.{needs}
+use Rattle.laws.specs.Basics.{refl, sym, _∙_, ap, true, false, List, ℕ, length, needs}
 use Rattle.laws.specs.Below.{not-out}
 use Rattle.model.specs.Sound.{sound}
 use Rattle.words.specs.Layout.{runOf}
-use Rattle.library_readers.proofs.Copying.{copied-whole}
-use Rattle.library_readers.proofs.Readings.{nothing-reported}
-use Rattle.library_readers.proofs.saved.Back.{whole-size, loaded-length}
+use Rattle.library_readers.proofs.{Copying.copied-whole, Readings.nothing-reported, saved.Back.whole-size, saved.Back.loaded-length}
 use Rattle.library_readers.proofs.saved.Outcomes.{answer-is, load-room, load-broken, load-unsound, load-done}
 use Rattle.library_readers.proofs.saved.load.Statement.{statement}
 use Rattle.library_readers.proofs.saved.load.Tie as tie

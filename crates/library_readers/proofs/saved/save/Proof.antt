@@ -1,6 +1,5 @@
 -- `library_readers::saved::save` meets its contract. Assumes nothing.
-use mathlib.Core.Path.{refl}
-use borrow.Author.Needs.{needs}
+use Rattle.laws.specs.Basics.{refl, needs}
 use Rattle.whole_runs.proofs.Unsound.{is-sound, is-unsound}
 use Rattle.words.specs.Layout.{runOf}
 use Rattle.words.proofs.ViewSound.{sound-words}

@@ -1,9 +1,6 @@
 -- `library_recorder::without_room::copy_of` meets its contract.
 -- Assumes nothing.
-use Prim.Native.Nat.{ℕ}
-use native.Mathlib.Omega.{arith}
-use lib.ListN.{replicate, length-replicate}
-use borrow.Author.Needs.{needs}
+use Rattle.laws.specs.Basics.{ℕ, arith, replicate, length-replicate, needs}
 use Rattle.words.proofs.ViewSound.{sound-words}
 use Rattle.library_readers.proofs.Copying.{copied-whole}
 use Rattle.library_recorder.proofs.without_room.copy_of.Statement.{statement}

@@ -1,11 +1,6 @@
 -- `library_recorder::without_room::recover` meets its contract: the call was made on a copy of the words with lists of its own, and its answer is its refusal, or else 21 is said.
 -- Assumes nothing.
-use mathlib.Core.Path.{sym, _∙_, ap}
-use mathlib.Core.List.{List}
-use Prim.Native.Nat.{ℕ}
-use lib.ListN.{replicate, take}
-use lib.Seq.{length-take-le}
-use borrow.Author.Needs.{needs}
+use Rattle.laws.specs.Basics.{sym, _∙_, ap, List, ℕ, take, replicate, length-take-le, needs}
 use Rattle.model.specs.Sound.{sound}
 use Rattle.whole_runs.specs.Outcomes.{recoverOutcome}
 use Rattle.whole_runs.proofs.Unsound.{is-sound, is-unsound}

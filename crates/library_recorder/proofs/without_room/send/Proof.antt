@@ -1,9 +1,6 @@
 -- `library_recorder::without_room::send` meets its contract: the call was made on a copy of the words, and its answer is its refusal, or else 21 is said.
 -- Assumes nothing.
-use mathlib.Core.Path.{_∙_, ap}
-use mathlib.Core.List.{List}
-use Prim.Native.Nat.{ℕ}
-use borrow.Author.Needs.{needs}
+use Rattle.laws.specs.Basics.{_∙_, ap, List, ℕ, needs}
 use Rattle.model.specs.Sound.{sound}
 use Rattle.whole_runs.specs.Outcomes.{sendOutcome}
 use Rattle.whole_runs.proofs.Unsound.{is-sound, is-unsound}

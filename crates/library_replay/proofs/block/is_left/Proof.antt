@@ -1,11 +1,5 @@
 -- `library_replay::block::is_left` meets its contract. Assumes nothing.
-use mathlib.Core.Path.{sym, _∙_}
-use Prim.Native.Nat.{_+_, _*_, _/_}
-use native.Mathlib.Omega.{arith}
-use lib.Dec.{leb}
-use lib.ListN.{length}
-use borrow.Author.Tests.{lt-ltb, le-ltb, leb-true, leb-false}
-use Rattle.laws.specs.Choice.{by-bool}
+use Rattle.laws.specs.Basics.{sym, _∙_, _+_, _*_, _/_, arith, leb, length, lt-ltb, le-ltb, leb-true, leb-false, by-bool}
 use Rattle.library_replay.specs.Taken.{isLeft}
 use Rattle.library_replay.proofs.block.is_left.Statement.{statement}
 use Rattle.library_replay.proofs.block.is_left.Tie as tie

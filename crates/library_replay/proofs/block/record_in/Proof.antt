@@ -1,10 +1,5 @@
 -- `library_replay::block::record_in` meets its contract. Assumes nothing.
-use mathlib.Core.Path.{sym, _∙_}
-use Prim.Native.Nat.{_+_, _*_}
-use native.Mathlib.Omega.{arith}
-use lib.ListN.{length}
-use borrow.Author.Needs.{needs}
-use borrow.Author.Tests.{leb-true}
+use Rattle.laws.specs.Basics.{sym, _∙_, _+_, _*_, arith, length, needs, leb-true}
 use Rattle.trace.specs.Answers.{recordAt}
 use Rattle.library_replay.specs.Taken.{isLeft, recordIn}
 use Rattle.library_replay.proofs.block.record_in.Statement.{statement}

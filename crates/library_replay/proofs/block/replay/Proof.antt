@@ -1,8 +1,6 @@
 -- `library_replay::block::replay` meets its contract. Assumes nothing.
-use mathlib.Core.Bool.{false≢true}
-use borrow.Author.Needs.{needs}
-use Rattle.library_replay.proofs.Iterations.{block-reachable}
-use Rattle.library_replay.proofs.block.replay.Statement.{statement}
+use Rattle.laws.specs.Basics.{false≢true, needs}
+use Rattle.library_replay.proofs.{Iterations.block-reachable, block.replay.Statement.statement}
 use Rattle.library_replay.proofs.block.replay.Tie as tie
 
 replay-from-requires : tie.Need-replay-from-requires

@@ -1,9 +1,7 @@
 -- `library_replay::block::replay_reached` meets its contract. Assumes nothing.
-use mathlib.Core.Path.{sym}
-use borrow.Author.Needs.{needs}
+use Rattle.laws.specs.Basics.{sym, needs}
 use Rattle.whole_runs.proofs.WholeRuns.{reachable-sound}
-use Rattle.library_replay.proofs.Iterations.{block-reachable}
-use Rattle.library_replay.proofs.block.replay_reached.Statement.{statement}
+use Rattle.library_replay.proofs.{Iterations.block-reachable, block.replay_reached.Statement.statement}
 use Rattle.library_replay.proofs.block.replay_reached.Tie as tie
 
 replay-from-requires : tie.Need-replay-from-requires

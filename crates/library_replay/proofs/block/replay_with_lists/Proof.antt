@@ -1,10 +1,5 @@
 -- `library_replay::block::replay_with_lists` meets its contract. Assumes nothing.
-use mathlib.Core.Path.{_≡_, sym, _∙_, ap}
-use mathlib.Core.Bool.{true}
-use Prim.Native.Nat.{_-_, _*_}
-use native.Mathlib.Omega.{arith}
-use lib.ListN.{length}
-use borrow.Author.Needs.{needs}
+use Rattle.laws.specs.Basics.{_≡_, sym, _∙_, ap, true, _-_, _*_, arith, length, needs}
 use Rattle.model.specs.Sound.{sound}
 use Rattle.whole_runs.specs.WholeRuns.{Reachable}
 use Rattle.trace.specs.Answers.{eventIn}

@@ -1,8 +1,5 @@
 -- `library_replay::block::takes_next` meets its contract. Test by test. Assumes nothing.
-use Prim.Native.Nat.{_+_}
-use native.Mathlib.Omega.{arith}
-use borrow.Author.Needs.{needs}
-use borrow.Author.Tests.{lt-ltb, le-ltb, le-leb, lt-leb, not-true, not-false}
+use Rattle.laws.specs.Basics.{_+_, arith, needs, lt-ltb, le-ltb, le-leb, lt-leb, not-true, not-false}
 use Rattle.library_replay.specs.Taken.{mayTake, takesNext}
 use Rattle.library_replay.proofs.block.takes_next.Statement.{statement}
 use Rattle.library_replay.proofs.block.takes_next.Tie as tie

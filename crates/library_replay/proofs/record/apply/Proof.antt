@@ -1,11 +1,9 @@
 -- `library_replay::record::apply` meets its contract. Assumes nothing.
-use mathlib.Core.Path.{_≡_, sym, _∙_}
-use borrow.Author.Needs.{needs}
+use Rattle.laws.specs.Basics.{_≡_, sym, _∙_, needs}
 use Rattle.trace.specs.Answers.{eventRead}
 use Rattle.words.specs.Layout.{runOf}
 use Rattle.in_place.proofs.Leaving.{same-words}
-use Rattle.library_replay.proofs.Summarised.{malformed-performs, unsound-performs}
-use Rattle.library_replay.proofs.record.apply.Statement.{statement}
+use Rattle.library_replay.proofs.{Summarised.malformed-performs, Summarised.unsound-performs, record.apply.Statement.statement}
 use Rattle.library_replay.proofs.record.apply.Tie as tie
 
 event-on-requires : tie.Need-event-on-requires

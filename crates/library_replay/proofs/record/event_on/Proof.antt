@@ -1,5 +1,5 @@
 -- `library_replay::record::event_on` meets its contract. Assumes nothing.
-use borrow.Author.Needs.{needs}
+use Rattle.laws.specs.Basics.{needs}
 use Rattle.library_replay.proofs.record.event_on.Statement.{statement}
 use Rattle.library_replay.proofs.record.event_on.Tie as tie
 

@@ -1,6 +1,5 @@
 -- `library_replay::record::recover` meets its contract. Assumes nothing.
-use mathlib.Core.Path.{sym, _∙_, ap}
-use borrow.Author.Needs.{needs}
+use Rattle.laws.specs.Basics.{sym, _∙_, ap, needs}
 use Rattle.model.specs.Sound.{sound}
 use Rattle.words.specs.Layout.{runOf}
 use Rattle.whole_runs.specs.Outcomes.{Report, recoverReport}
@@ -8,8 +7,7 @@ use Rattle.whole_runs.proofs.WholeRuns.{reachable-sound}
 use Rattle.listing.specs.Summarised.{reportIn}
 use Rattle.in_place.proofs.Staying.{calls-keep-sound}
 use Rattle.in_place.specs.Staying.{CallsKeepSound}
-use Rattle.library_replay.proofs.Summarised.{recover-performs, recover-reachable}
-use Rattle.library_replay.proofs.record.recover.Statement.{statement}
+use Rattle.library_replay.proofs.{Summarised.recover-performs, Summarised.recover-reachable, record.recover.Statement.statement}
 use Rattle.library_replay.proofs.record.recover.Tie as tie
 
 sound-after-requires : tie.Need-sound-after-requires

@@ -1,13 +1,8 @@
 -- `listing::answers::code_of` meets its contract.
 -- Assumes nothing.
-use mathlib.Core.Path.{_≡_, refl, sym, _∙_, ap}
-use Prim.Native.Nat.{ℕ, _+_, _*_, _<_}
-use native.Mathlib.Omega.{arith}
-use borrow.Author.Needs.{needs}
-use Rattle.listing.specs.Lines.{valueIn}
-use Rattle.listing.specs.Summarised.{reportIn}
+use Rattle.laws.specs.Basics.{_≡_, refl, sym, _∙_, ap, ℕ, _+_, _*_, _<_, arith, needs}
+use Rattle.listing.specs.{Lines.valueIn, Summarised.reportIn, answers.Codes.valueCode, answers.Codes.coded, answers.Codes.Fits}
 use Rattle.listing.specs.declared.Summary.{Summary}
-use Rattle.listing.specs.answers.Codes.{valueCode, coded, Fits}
 use Rattle.listing.proofs.answers.code_of.Statement.{statement}
 use Rattle.listing.proofs.answers.code_of.Tie as tie
 

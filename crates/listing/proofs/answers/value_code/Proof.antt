@@ -1,14 +1,8 @@
 -- `listing::answers::value_code` meets its contract, by the cases of the value.
 -- Assumes nothing.
-use mathlib.Core.Path.{_≡_, refl, sym, _∙_, ap}
-use mathlib.Core.Option.{some}
-use Prim.Native.Nat.{ℕ, _<_}
-use native.Mathlib.Omega.{arith}
-use borrow.Author.Needs.{needs}
-use Rattle.listing.specs.declared.Value.{Value}
-use Rattle.listing.specs.declared.Value.the-variants.{Hyphen, Number}
-use Rattle.listing.specs.Lines.{valueIn}
-use Rattle.listing.specs.answers.Codes.{valueCode}
+use Rattle.laws.specs.Basics.{_≡_, refl, sym, _∙_, ap, some, ℕ, _<_, arith, needs}
+use Rattle.listing.specs.declared.{Value.Value, Value.the-variants.Hyphen, Value.the-variants.Number}
+use Rattle.listing.specs.{Lines.valueIn, answers.Codes.valueCode}
 use Rattle.listing.proofs.answers.value_code.Statement.{statement}
 use Rattle.listing.proofs.answers.value_code.Tie as tie
 

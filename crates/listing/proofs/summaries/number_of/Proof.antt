@@ -1,7 +1,6 @@
 -- `listing::summaries::number_of` meets its contract, by computation in each case: first that each variant has its key, then the number of each, by what the match tells.
 -- Assumes nothing.
-use mathlib.Core.Path.{refl}
-use borrow.Author.Needs.{needs}
+use Rattle.laws.specs.Basics.{refl, needs}
 use Rattle.model.specs.Refusals.{number}
 use Rattle.listing.proofs.summaries.number_of.Statement.{statement}
 use Rattle.listing.proofs.summaries.number_of.Tie as tie

@@ -1,8 +1,7 @@
 -- `listing::summaries::refused` meets its contract: its number is the refusal's.
 -- Assumes nothing.
-use borrow.Author.Needs.{needs}
-use Rattle.listing.specs.Summarised.{reportIn}
-use Rattle.listing.specs.Lines.{valueIn}
+use Rattle.laws.specs.Basics.{needs}
+use Rattle.listing.specs.{Summarised.reportIn, Lines.valueIn}
 use Rattle.listing.proofs.summaries.refused.Statement.{statement}
 use Rattle.listing.proofs.summaries.refused.Tie as tie
 

@@ -1,7 +1,6 @@
 -- `machine_console::calls::call` meets its contract. Assumes nothing.
-use Rattle.machine_console.proofs.Replying.{by-operation}
-use borrow.Author.Needs.{needs}
-use Rattle.machine_console.proofs.calls.call.Statement.{statement}
+use Rattle.laws.specs.Basics.{needs}
+use Rattle.machine_console.proofs.{Replying.by-operation, calls.call.Statement.statement}
 use Rattle.machine_console.proofs.calls.call.Tie as tie
 
 returns : tie.Need-returns

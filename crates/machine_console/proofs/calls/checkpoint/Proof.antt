@@ -1,7 +1,6 @@
 -- `machine_console::calls::checkpoint` meets its contract. Assumes nothing.
-use Rattle.machine_console.proofs.Replying.{checkpoint-replies}
-use borrow.Author.Needs.{needs}
-use Rattle.machine_console.proofs.calls.checkpoint.Statement.{statement}
+use Rattle.laws.specs.Basics.{needs}
+use Rattle.machine_console.proofs.{Replying.checkpoint-replies, calls.checkpoint.Statement.statement}
 use Rattle.machine_console.proofs.calls.checkpoint.Tie as tie
 
 returns : tie.Need-returns

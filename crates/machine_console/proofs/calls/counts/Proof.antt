@@ -1,7 +1,6 @@
 -- `machine_console::calls::counts` meets its contract. Assumes nothing.
-use Rattle.machine_console.proofs.Replying.{counts-replies}
-use borrow.Author.Needs.{needs}
-use Rattle.machine_console.proofs.calls.counts.Statement.{statement}
+use Rattle.laws.specs.Basics.{needs}
+use Rattle.machine_console.proofs.{Replying.counts-replies, calls.counts.Statement.statement}
 use Rattle.machine_console.proofs.calls.counts.Tie as tie
 
 returns : tie.Need-returns

@@ -1,7 +1,6 @@
 -- `machine_console::calls::deliver` meets its contract. Assumes nothing.
-use Rattle.machine_console.proofs.Replying.{deliver-replies}
-use borrow.Author.Needs.{needs}
-use Rattle.machine_console.proofs.calls.deliver.Statement.{statement}
+use Rattle.laws.specs.Basics.{needs}
+use Rattle.machine_console.proofs.{Replying.deliver-replies, calls.deliver.Statement.statement}
 use Rattle.machine_console.proofs.calls.deliver.Tie as tie
 
 returns : tie.Need-returns

@@ -1,8 +1,6 @@
 -- `machine_console::calls::earliest` meets its contract. Assumes nothing.
-use mathlib.Core.Path.{refl}
-use Rattle.machine_console.proofs.Replying.{earliest-replies}
-use borrow.Author.Needs.{needs}
-use Rattle.machine_console.proofs.calls.earliest.Statement.{statement}
+use Rattle.laws.specs.Basics.{refl, needs}
+use Rattle.machine_console.proofs.{Replying.earliest-replies, calls.earliest.Statement.statement}
 use Rattle.machine_console.proofs.calls.earliest.Tie as tie
 
 returns : tie.Need-returns

@@ -1,7 +1,6 @@
 -- `machine_console::calls::list` meets its contract. Assumes nothing.
-use Rattle.machine_console.proofs.Replying.{list-replies}
-use borrow.Author.Needs.{needs}
-use Rattle.machine_console.proofs.calls.list.Statement.{statement}
+use Rattle.laws.specs.Basics.{needs}
+use Rattle.machine_console.proofs.{Replying.list-replies, calls.list.Statement.statement}
 use Rattle.machine_console.proofs.calls.list.Tie as tie
 
 returns : tie.Need-returns

@@ -1,7 +1,6 @@
 -- `machine_console::calls::lose` meets its contract. Assumes nothing.
-use Rattle.machine_console.proofs.Replying.{lose-replies}
-use borrow.Author.Needs.{needs}
-use Rattle.machine_console.proofs.calls.lose.Statement.{statement}
+use Rattle.laws.specs.Basics.{needs}
+use Rattle.machine_console.proofs.{Replying.lose-replies, calls.lose.Statement.statement}
 use Rattle.machine_console.proofs.calls.lose.Tie as tie
 
 returns : tie.Need-returns

@@ -1,7 +1,6 @@
 -- `machine_console::calls::members` meets its contract. Assumes nothing.
-use Rattle.machine_console.proofs.Replying.{line-replies}
-use borrow.Author.Needs.{needs}
-use Rattle.machine_console.proofs.calls.members.Statement.{statement}
+use Rattle.laws.specs.Basics.{needs}
+use Rattle.machine_console.proofs.{Replying.line-replies, calls.members.Statement.statement}
 use Rattle.machine_console.proofs.calls.members.Tie as tie
 
 returns : tie.Need-returns

@@ -1,7 +1,6 @@
 -- `machine_console::calls::number_of` meets its contract. Assumes nothing.
-use mathlib.Core.Path.{refl}
+use Rattle.laws.specs.Basics.{refl, needs}
 use Rattle.library_console.specs.Asked.{claimOf}
-use borrow.Author.Needs.{needs}
 use Rattle.machine_console.proofs.calls.number_of.Statement.{statement}
 use Rattle.machine_console.proofs.calls.number_of.Tie as tie
 

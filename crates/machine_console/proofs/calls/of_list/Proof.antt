@@ -1,9 +1,7 @@
 -- `machine_console::calls::of_list` meets its contract. Assumes nothing.
-use mathlib.Core.Path.{refl, sym, _∙_, ap}
-use Rattle.listing.specs.Lines.{valueIn}
-use Rattle.listing.specs.Summarised.{reportIn}
+use Rattle.laws.specs.Basics.{refl, sym, _∙_, ap, needs}
+use Rattle.listing.specs.{Lines.valueIn, Summarised.reportIn}
 use Rattle.theory_roles.specs.Console.{listReport}
-use borrow.Author.Needs.{needs}
 use Rattle.machine_console.proofs.calls.of_list.Statement.{statement}
 use Rattle.machine_console.proofs.calls.of_list.Tie as tie
 

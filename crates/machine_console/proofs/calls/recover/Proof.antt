@@ -1,7 +1,6 @@
 -- `machine_console::calls::recover` meets its contract. Assumes nothing.
-use Rattle.machine_console.proofs.Replying.{recover-replies}
-use borrow.Author.Needs.{needs}
-use Rattle.machine_console.proofs.calls.recover.Statement.{statement}
+use Rattle.laws.specs.Basics.{needs}
+use Rattle.machine_console.proofs.{Replying.recover-replies, calls.recover.Statement.statement}
 use Rattle.machine_console.proofs.calls.recover.Tie as tie
 
 returns : tie.Need-returns

@@ -1,7 +1,6 @@
 -- `machine_console::calls::send` meets its contract. Assumes nothing.
-use Rattle.machine_console.proofs.Replying.{send-replies}
-use borrow.Author.Needs.{needs}
-use Rattle.machine_console.proofs.calls.send.Statement.{statement}
+use Rattle.laws.specs.Basics.{needs}
+use Rattle.machine_console.proofs.{Replying.send-replies, calls.send.Statement.statement}
 use Rattle.machine_console.proofs.calls.send.Tie as tie
 
 returns : tie.Need-returns

@@ -1,10 +1,7 @@
 -- `machine_console::calls::start_fresh` meets its contract. Assumes nothing.
-use mathlib.Core.Path.{refl}
-use native.Mathlib.Omega.{arith}
+use Rattle.laws.specs.Basics.{refl, arith, needs}
 use Rattle.library_readers.proofs.Copying.{copied-whole}
-use Rattle.machine_console.proofs.Starting.{start-accepted, start-refused}
-use borrow.Author.Needs.{needs}
-use Rattle.machine_console.proofs.calls.start_fresh.Statement.{statement}
+use Rattle.machine_console.proofs.{Starting.start-accepted, Starting.start-refused, calls.start_fresh.Statement.statement}
 use Rattle.machine_console.proofs.calls.start_fresh.Tie as tie
 
 returns : tie.Need-returns

@@ -1,7 +1,6 @@
 -- `machine_console::going::after_last` meets its contract. Assumes nothing.
-use Rattle.machine_console.proofs.Leading.{led, last-done, last-failed}
-use borrow.Author.Needs.{needs}
-use Rattle.machine_console.proofs.going.after_last.Statement.{statement}
+use Rattle.laws.specs.Basics.{needs}
+use Rattle.machine_console.proofs.{Leading.led, Leading.last-done, Leading.last-failed, going.after_last.Statement.statement}
 use Rattle.machine_console.proofs.going.after_last.Tie as tie
 
 returns : tie.Need-returns

@@ -1,7 +1,6 @@
 -- `machine_console::going::after_line` meets its contract. Assumes nothing.
-use Rattle.machine_console.proofs.Leading.{led, line-done, line-failed}
-use borrow.Author.Needs.{needs}
-use Rattle.machine_console.proofs.going.after_line.Statement.{statement}
+use Rattle.laws.specs.Basics.{needs}
+use Rattle.machine_console.proofs.{Leading.led, Leading.line-done, Leading.line-failed, going.after_line.Statement.statement}
 use Rattle.machine_console.proofs.going.after_line.Tie as tie
 
 returns : tie.Need-returns

@@ -1,9 +1,7 @@
 -- `machine_console::going::after_read` meets its contract. Assumes nothing.
-use native.Mathlib.Omega.{arith}
+use Rattle.laws.specs.Basics.{arith, needs}
 use Rattle.machines.specs.Forms.{Between}
-use Rattle.machine_console.proofs.Leading.{led, read-more, read-end, read-failed}
-use borrow.Author.Needs.{needs}
-use Rattle.machine_console.proofs.going.after_read.Statement.{statement}
+use Rattle.machine_console.proofs.{Leading.led, Leading.read-more, Leading.read-end, Leading.read-failed, going.after_read.Statement.statement}
 use Rattle.machine_console.proofs.going.after_read.Tie as tie
 
 add-go-on : tie.Need-add-go-on

@@ -1,8 +1,6 @@
 -- `machine_console::going::fail` meets its contract. Assumes nothing.
-use native.Mathlib.Omega.{arith}
-use Rattle.machine_console.proofs.Arriving.{arrives-failing}
-use borrow.Author.Needs.{needs}
-use Rattle.machine_console.proofs.going.fail.Statement.{statement}
+use Rattle.laws.specs.Basics.{arith, needs}
+use Rattle.machine_console.proofs.{Arriving.arrives-failing, going.fail.Statement.statement}
 use Rattle.machine_console.proofs.going.fail.Tie as tie
 
 returns : tie.Need-returns

@@ -1,7 +1,6 @@
 -- `machine_console::going::first_eight` meets its contract. Assumes nothing.
-use Rattle.machine_console.proofs.Arriving.{eight}
-use borrow.Author.Needs.{needs}
-use Rattle.machine_console.proofs.going.first_eight.Statement.{statement}
+use Rattle.laws.specs.Basics.{needs}
+use Rattle.machine_console.proofs.{Arriving.eight, going.first_eight.Statement.statement}
 use Rattle.machine_console.proofs.going.first_eight.Tie as tie
 
 returns : tie.Need-returns

@@ -1,9 +1,6 @@
 -- `machine_console::going::go_on` meets its contract. Assumes nothing.
-use native.Mathlib.Omega.{arith}
-use Rattle.machine_console.proofs.Arriving.{onward-called, arrives-more}
-use Rattle.machine_console.proofs.Leading.{led}
-use borrow.Author.Needs.{needs}
-use Rattle.machine_console.proofs.going.go_on.Statement.{statement}
+use Rattle.laws.specs.Basics.{arith, needs}
+use Rattle.machine_console.proofs.{Arriving.onward-called, Arriving.arrives-more, Leading.led, going.go_on.Statement.statement}
 use Rattle.machine_console.proofs.going.go_on.Tie as tie
 
 returns : tie.Need-returns

@@ -1,7 +1,6 @@
 -- `machine_console::going::make_call` meets its contract. Assumes nothing.
-use Rattle.machine_console.proofs.Arriving.{arrives-called}
-use borrow.Author.Needs.{needs}
-use Rattle.machine_console.proofs.going.make_call.Statement.{statement}
+use Rattle.laws.specs.Basics.{needs}
+use Rattle.machine_console.proofs.{Arriving.arrives-called, going.make_call.Statement.statement}
 use Rattle.machine_console.proofs.going.make_call.Tie as tie
 
 returns : tie.Need-returns

@@ -1,10 +1,7 @@
 -- `machine_console::going::on` meets its contract. Assumes nothing.
-use borrow.Author.Tests.{ne-eqb}
+use Rattle.laws.specs.Basics.{needs, ne-eqb}
 use Rattle.machine_console.specs.Lent.{stateIn}
-use Rattle.machine_console.proofs.Arriving.{rest-stops, reading-done}
-use Rattle.machine_console.proofs.Leading.{led}
-use borrow.Author.Needs.{needs}
-use Rattle.machine_console.proofs.going.on.Statement.{statement}
+use Rattle.machine_console.proofs.{Arriving.rest-stops, Arriving.reading-done, Leading.led, going.on.Statement.statement}
 use Rattle.machine_console.proofs.going.on.Tie as tie
 
 after-read-requires : tie.Need-after-read-requires

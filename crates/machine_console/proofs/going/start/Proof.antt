@@ -1,9 +1,6 @@
 -- `machine_console::going::start` meets its contract. Assumes nothing.
-use native.Mathlib.Omega.{arith}
-use Rattle.machine_console.proofs.Arriving.{begun-refused, arrives-begun}
-use Rattle.machine_console.proofs.Leading.{led}
-use Rattle.machine_console.proofs.Starting.{opened-number, opened-run}
-use borrow.Author.Needs.{needs}
+use Rattle.laws.specs.Basics.{arith, needs}
+use Rattle.machine_console.proofs.{Arriving.begun-refused, Arriving.arrives-begun, Leading.led, Starting.opened-number, Starting.opened-run}
 use Rattle.machine_console.proofs.going.start.Statement.{statement}
 use Rattle.machine_console.proofs.going.start.Tie as tie
 

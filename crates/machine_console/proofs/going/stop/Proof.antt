@@ -1,7 +1,6 @@
 -- `machine_console::going::stop` meets its contract. Assumes nothing.
-use Rattle.machine_console.proofs.Arriving.{arrives-stopped}
-use borrow.Author.Needs.{needs}
-use Rattle.machine_console.proofs.going.stop.Statement.{statement}
+use Rattle.laws.specs.Basics.{needs}
+use Rattle.machine_console.proofs.{Arriving.arrives-stopped, going.stop.Statement.statement}
 use Rattle.machine_console.proofs.going.stop.Tie as tie
 
 returns : tie.Need-returns

@@ -1,8 +1,6 @@
 -- `machine_console::going::to_end` meets its contract. Assumes nothing.
-use Rattle.machine_console.proofs.Arriving.{none-left, some-left}
-use Rattle.machine_console.proofs.Leading.{led}
-use borrow.Author.Needs.{needs}
-use Rattle.machine_console.proofs.going.to_end.Statement.{statement}
+use Rattle.laws.specs.Basics.{needs}
+use Rattle.machine_console.proofs.{Arriving.none-left, Arriving.some-left, Leading.led, going.to_end.Statement.statement}
 use Rattle.machine_console.proofs.going.to_end.Tie as tie
 
 returns : tie.Need-returns

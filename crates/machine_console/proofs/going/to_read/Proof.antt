@@ -1,9 +1,6 @@
 -- `machine_console::going::to_read` meets its contract. Assumes nothing.
-use native.Mathlib.Omega.{arith}
-use Rattle.machine_console.proofs.Arriving.{no-further, arrives-read}
-use Rattle.machine_console.proofs.Leading.{led}
-use borrow.Author.Needs.{needs}
-use Rattle.machine_console.proofs.going.to_read.Statement.{statement}
+use Rattle.laws.specs.Basics.{arith, needs}
+use Rattle.machine_console.proofs.{Arriving.no-further, Arriving.arrives-read, Leading.led, going.to_read.Statement.statement}
 use Rattle.machine_console.proofs.going.to_read.Tie as tie
 
 returns : tie.Need-returns

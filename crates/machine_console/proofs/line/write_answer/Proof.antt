@@ -1,14 +1,10 @@
 -- `machine_console::line::write_answer` meets its contract. Assumes nothing.
-use mathlib.Core.Path.{ap}
-use native.Mathlib.Omega.{arith}
+use Rattle.laws.specs.Basics.{ap, arith, needs}
 use Rattle.theory_roles.specs.declared.Operation.{Operation}
 use Rattle.listing.specs.Summarised.{reportIn}
 use Rattle.listing.proofs.Texts.{nothing}
-use Rattle.machine_console.specs.Text.{answerText}
-use Rattle.machine_console.specs.Replied.{replyOf}
-use Rattle.machine_console.proofs.Parts.{printed-as}
-use borrow.Author.Needs.{needs}
-use Rattle.machine_console.proofs.line.write_answer.Statement.{statement}
+use Rattle.machine_console.specs.{Text.answerText, Replied.replyOf}
+use Rattle.machine_console.proofs.{Parts.printed-as, line.write_answer.Statement.statement}
 use Rattle.machine_console.proofs.line.write_answer.Tie as tie
 
 returns : tie.Need-returns

@@ -1,13 +1,8 @@
 -- `machine_console::line::write_line` meets its contract. Assumes nothing.
-use mathlib.Core.Path.{_≡_, _∙_, ap}
-use Prim.Native.Nat.{ℕ}
-use native.Mathlib.Omega.{arith}
+use Rattle.laws.specs.Basics.{_≡_, _∙_, ap, ℕ, arith, needs}
 use Rattle.listing.proofs.Texts.{then}
-use Rattle.machine_console.specs.Text.{answerText, lineText}
-use Rattle.machine_console.specs.Replied.{replyOf}
-use Rattle.machine_console.proofs.Parts.{accepted-line, refused-any, printed-as}
-use borrow.Author.Needs.{needs}
-use Rattle.machine_console.proofs.line.write_line.Statement.{statement}
+use Rattle.machine_console.specs.{Text.answerText, Text.lineText, Replied.replyOf}
+use Rattle.machine_console.proofs.{Parts.accepted-line, Parts.refused-any, Parts.printed-as, line.write_line.Statement.statement}
 use Rattle.machine_console.proofs.line.write_line.Tie as tie
 
 returns : tie.Need-returns

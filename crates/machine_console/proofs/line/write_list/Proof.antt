@@ -1,9 +1,8 @@
 -- `machine_console::line::write_list` meets its contract. Assumes nothing.
-use native.Mathlib.Omega.{arith}
+use Rattle.laws.specs.Basics.{arith, needs}
 use Rattle.listing.specs.Lines.{valueIn}
 use Rattle.listing.proofs.Texts.{nothing}
 use Rattle.machine_console.specs.Text.{listText}
-use borrow.Author.Needs.{needs}
 use Rattle.machine_console.proofs.line.write_list.Statement.{statement}
 use Rattle.machine_console.proofs.line.write_list.Tie as tie
 

@@ -1,8 +1,6 @@
 -- `machine_console::line::write_numbers` meets its contract. Assumes nothing.
-use native.Mathlib.Omega.{arith}
-use Rattle.listing.proofs.Bounds.{twenty-digits}
-use Rattle.listing.proofs.Texts.{then}
-use borrow.Author.Needs.{needs}
+use Rattle.laws.specs.Basics.{arith, needs}
+use Rattle.listing.proofs.{Bounds.twenty-digits, Texts.then}
 use Rattle.machine_console.proofs.line.write_numbers.Statement.{statement}
 use Rattle.machine_console.proofs.line.write_numbers.Tie as tie
 

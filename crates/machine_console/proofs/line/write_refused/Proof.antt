@@ -1,9 +1,7 @@
 -- `machine_console::line::write_refused` meets its contract. Assumes nothing.
-use native.Mathlib.Omega.{arith}
+use Rattle.laws.specs.Basics.{arith, needs}
 use Rattle.listing.proofs.Texts.{then}
-use Rattle.machine_console.proofs.Parts.{refused-line, printed-as}
-use borrow.Author.Needs.{needs}
-use Rattle.machine_console.proofs.line.write_refused.Statement.{statement}
+use Rattle.machine_console.proofs.{Parts.refused-line, Parts.printed-as, line.write_refused.Statement.statement}
 use Rattle.machine_console.proofs.line.write_refused.Tie as tie
 
 returns : tie.Need-returns

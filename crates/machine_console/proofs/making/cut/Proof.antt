@@ -1,7 +1,5 @@
 -- `machine_console::making::cut` meets its contract. Assumes nothing.
-use mathlib.Core.Path.{refl}
-use native.Mathlib.Omega.{arith}
-use borrow.Author.Needs.{needs}
+use Rattle.laws.specs.Basics.{refl, arith, needs}
 use Rattle.machine_console.proofs.making.cut.Statement.{statement}
 use Rattle.machine_console.proofs.making.cut.Tie as tie
 

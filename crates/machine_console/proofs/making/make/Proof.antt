@@ -1,9 +1,7 @@
 -- `machine_console::making::make` meets its contract. Assumes nothing.
-use mathlib.Core.Path.{sym, _∙_}
-use native.Mathlib.Omega.{arith}
+use Rattle.laws.specs.Basics.{sym, _∙_, arith, needs}
 use Rattle.machine_console.specs.script.Script.{callOf}
 use Rattle.machine_console.proofs.Lists.{eight-is, never-ended, never-left-over, malformed-none, asks-some, makes-none}
-use borrow.Author.Needs.{needs}
 use Rattle.machine_console.proofs.making.make.Statement.{statement}
 use Rattle.machine_console.proofs.making.make.Tie as tie
 

@@ -1,15 +1,9 @@
 -- `machine_console::making::make_asked` meets its contract. Assumes nothing.
-use mathlib.Core.Path.{sym, _∙_, ap}
-use Prim.Native.Nat.{ℕ, _*_, _≤_}
-use native.Mathlib.Omega.{arith}
-use lib.ListN.{replicate}
-use lib.Seq.{length-take-le}
+use Rattle.laws.specs.Basics.{sym, _∙_, ap, ℕ, _*_, _≤_, arith, replicate, length-take-le, needs}
 use Rattle.words.specs.Layout.{runOf}
 use Rattle.machine_console.specs.Made.{lent}
-use Rattle.machine_console.proofs.Lists.{few, cut-few, lent-is}
+use Rattle.machine_console.proofs.{Lists.few, Lists.cut-few, Lists.lent-is, making.make_asked.Statement.statement}
 use Rattle.admissions.proofs.Room.{twice-square}
-use borrow.Author.Needs.{needs}
-use Rattle.machine_console.proofs.making.make_asked.Statement.{statement}
 use Rattle.machine_console.proofs.making.make_asked.Tie as tie
 
 mul-cut : tie.Need-mul-cut

@@ -1,8 +1,6 @@
 -- `machine_console::making::make_with` meets its contract. Assumes nothing.
-use native.Mathlib.Omega.{arith}
-use Rattle.machine_console.proofs.Lists.{pairs-few, line-few, makes}
-use borrow.Author.Needs.{needs}
-use Rattle.machine_console.proofs.making.make_with.Statement.{statement}
+use Rattle.laws.specs.Basics.{arith, needs}
+use Rattle.machine_console.proofs.{Lists.pairs-few, Lists.line-few, Lists.makes, making.make_with.Statement.statement}
 use Rattle.machine_console.proofs.making.make_with.Tie as tie
 
 write-line-requires : tie.Need-write-line-requires

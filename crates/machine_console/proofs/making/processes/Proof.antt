@@ -1,8 +1,6 @@
 -- `machine_console::making::processes` meets its contract. Assumes nothing.
-use mathlib.Core.Path.{_∙_, ap}
-use Prim.Native.Nat.{min}
+use Rattle.laws.specs.Basics.{_∙_, ap, min, needs}
 use Rattle.machine_console.specs.Made.{processes}
-use borrow.Author.Needs.{needs}
 use Rattle.machine_console.proofs.making.processes.Statement.{statement}
 use Rattle.machine_console.proofs.making.processes.Tie as tie
 

@@ -1,9 +1,6 @@
 -- `machine_console::marks::in_bounds` meets its contract. Assumes nothing.
-use mathlib.Core.Path.{refl}
-use native.Mathlib.Omega.{arith}
-use borrow.Author.Tests.{lt-leb, le-leb}
+use Rattle.laws.specs.Basics.{refl, arith, needs, le-leb, lt-leb}
 use Rattle.machine_console.specs.Lent.{mostDone, inBounds}
-use borrow.Author.Needs.{needs}
 use Rattle.machine_console.proofs.marks.in_bounds.Statement.{statement}
 use Rattle.machine_console.proofs.marks.in_bounds.Tie as tie
 

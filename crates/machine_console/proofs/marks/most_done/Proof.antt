@@ -1,8 +1,6 @@
 -- `machine_console::marks::most_done` meets its contract. Assumes nothing.
-use mathlib.Core.Path.{refl}
-use borrow.Author.Tests.{eq-eqb, ne-eqb}
+use Rattle.laws.specs.Basics.{refl, needs, eq-eqb, ne-eqb}
 use Rattle.machine_console.specs.Lent.{mostDone}
-use borrow.Author.Needs.{needs}
 use Rattle.machine_console.proofs.marks.most_done.Statement.{statement}
 use Rattle.machine_console.proofs.marks.most_done.Tie as tie
 

@@ -1,8 +1,6 @@
 -- `machine_console::marks::request` meets its contract. Assumes nothing.
-use mathlib.Core.Path.{refl}
-use borrow.Author.Tests.{ne-eqb}
+use Rattle.laws.specs.Basics.{refl, needs, ne-eqb}
 use Rattle.machine_console.specs.Lent.{asksFor}
-use borrow.Author.Needs.{needs}
 use Rattle.machine_console.proofs.marks.request.Statement.{statement}
 use Rattle.machine_console.proofs.marks.request.Tie as tie
 

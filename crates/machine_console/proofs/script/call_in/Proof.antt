@@ -1,6 +1,6 @@
 -- `machine_console::script::call_in` meets its contract: field by field.
 -- Assumes nothing.
-use borrow.Author.Needs.{needs}
+use Rattle.laws.specs.Basics.{needs}
 use Rattle.machine_console.specs.script.Script.{callIn}
 use Rattle.machine_console.proofs.script.call_in.Statement.{statement}
 use Rattle.machine_console.proofs.script.call_in.Tie as tie

@@ -1,8 +1,7 @@
 -- `machine_console::script::call_of` meets its contract: the operation is judged, then the bytes that must be zero.
 -- Assumes nothing.
-use borrow.Author.Needs.{needs}
-use Rattle.machine_console.proofs.script.Calls.{no-operation, not-clear, asks}
-use Rattle.machine_console.proofs.script.call_of.Statement.{statement}
+use Rattle.laws.specs.Basics.{needs}
+use Rattle.machine_console.proofs.{script.Calls.no-operation, script.Calls.not-clear, script.Calls.asks, script.call_of.Statement.statement}
 use Rattle.machine_console.proofs.script.call_of.Tie as tie
 
 returns : tie.Need-returns

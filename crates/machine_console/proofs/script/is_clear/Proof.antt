@@ -1,8 +1,7 @@
 -- `machine_console::script::is_clear` meets its contract, operation by operation.
 -- Assumes nothing.
-use borrow.Author.Needs.{needs}
-use Rattle.laws.specs.Rows.{and-true}
-use Rattle.laws.specs.Tests.{every}
+use Rattle.laws.specs.Basics.{needs}
+use Rattle.laws.specs.{Rows.and-true, Tests.every}
 use Rattle.machine_console.specs.script.Script.{mustBeZero, isClear}
 use Rattle.machine_console.proofs.script.is_clear.Statement.{statement}
 use Rattle.machine_console.proofs.script.is_clear.Tie as tie

@@ -1,7 +1,6 @@
 -- `machine_console::script::next_of` meets its contract, by how many bytes there are.
 -- Assumes nothing.
-use borrow.Author.Needs.{needs}
-use borrow.Author.Tests.{eq-eqb, ne-eqb, lt-ltb, le-ltb}
+use Rattle.laws.specs.Basics.{needs, eq-eqb, ne-eqb, lt-ltb, le-ltb}
 use Rattle.machine_console.specs.script.Script.{nextOf}
 use Rattle.machine_console.proofs.script.next_of.Statement.{statement}
 use Rattle.machine_console.proofs.script.next_of.Tie as tie

@@ -1,8 +1,6 @@
 -- `machine_console::script::operation_of` meets its contract: the arm of the `match` says which number it is, and the last has 9 alone left.
 -- Assumes nothing.
-use Prim.Native.Nat.{_≤_}
-use mathlib.Core.Path.{_≡_}
-use native.Mathlib.Omega.{arith}
+use Rattle.laws.specs.Basics.{_≡_, _≤_, arith}
 use Rattle.machine_console.specs.script.Script.{operationOf}
 use Rattle.machine_console.proofs.script.operation_of.Statement.{statement}
 use Rattle.machine_console.proofs.script.operation_of.Tie as tie

@@ -1,6 +1,6 @@
 -- `machine_console::script::role_of` meets its contract, test by test.
 -- Assumes nothing.
-use borrow.Author.Tests.{eq-eqb, ne-eqb}
+use Rattle.laws.specs.Basics.{eq-eqb, ne-eqb}
 use Rattle.machine_console.specs.script.Script.{roleOf}
 use Rattle.machine_console.proofs.script.role_of.Statement.{statement}
 use Rattle.machine_console.proofs.script.role_of.Tie as tie

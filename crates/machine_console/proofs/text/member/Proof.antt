@@ -1,9 +1,8 @@
 -- `machine_console::text::member` meets its contract. Assumes nothing.
-use mathlib.Core.Path.{refl, sym, _∙_}
+use Rattle.laws.specs.Basics.{refl, sym, _∙_, needs}
 use Rattle.listing.specs.Lines.{valueIn}
 use Rattle.theory_roles.specs.Console.{entitled}
 use Rattle.machine_console.specs.Text.{memberShown}
-use borrow.Author.Needs.{needs}
 use Rattle.machine_console.proofs.text.member.Statement.{statement}
 use Rattle.machine_console.proofs.text.member.Tie as tie
 

@@ -1,8 +1,6 @@
 -- `machine_console::text::write_entries` meets its contract. Assumes nothing.
-use mathlib.Core.Path.{sym}
-use Rattle.machine_console.proofs.Parts.{entries-members, printed-as}
-use borrow.Author.Needs.{needs}
-use Rattle.machine_console.proofs.text.write_entries.Statement.{statement}
+use Rattle.laws.specs.Basics.{sym, needs}
+use Rattle.machine_console.proofs.{Parts.entries-members, Parts.printed-as, text.write_entries.Statement.statement}
 use Rattle.machine_console.proofs.text.write_entries.Tie as tie
 
 returns : tie.Need-returns

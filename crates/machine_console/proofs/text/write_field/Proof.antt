@@ -1,6 +1,6 @@
 -- `machine_console::text::write_field` meets its contract. Assumes nothing.
+use Rattle.laws.specs.Basics.{needs}
 use Rattle.listing.specs.Lines.{valueIn}
-use borrow.Author.Needs.{needs}
 use Rattle.machine_console.proofs.text.write_field.Statement.{statement}
 use Rattle.machine_console.proofs.text.write_field.Tie as tie
 

@@ -1,16 +1,9 @@
 -- `machine_console::text::write_members` meets its contract. Assumes nothing.
-use mathlib.Core.Path.{_≡_, refl, sym, _∙_, ap}
-use mathlib.Core.List.{_++_}
-use mathlib.Core.Option.{Option}
-use Prim.Native.Nat.{ℕ, _+_, _-_, _*_, _≤_}
-use native.Mathlib.Omega.{arith}
-use lib.ListN.{length, take}
+use Rattle.laws.specs.Basics.{_≡_, refl, sym, _∙_, ap, _++_, Option, ℕ, _+_, _-_, _*_, _≤_, arith, length, take, needs}
 use Rattle.listing.specs.Printed.{Printed}
 use Rattle.listing.proofs.Texts.{then, nothing}
 use Rattle.machine_console.specs.Text.{fieldText, membersText}
-use Rattle.machine_console.proofs.Parts.{members-next, whole-line, printed-as}
-use borrow.Author.Needs.{needs}
-use Rattle.machine_console.proofs.text.write_members.Statement.{statement}
+use Rattle.machine_console.proofs.{Parts.members-next, Parts.whole-line, Parts.printed-as, text.write_members.Statement.statement}
 use Rattle.machine_console.proofs.text.write_members.Tie as tie
 
 abbrev Inv-loop : tie.InvT-loop

@@ -1,14 +1,8 @@
 -- `machine_console::text::write_pairs` meets its contract. Assumes nothing.
-use mathlib.Core.Path.{sym, ap}
-use mathlib.Core.List.{List, _++_}
-use mathlib.Core.Option.{some}
-use Prim.Native.Nat.{ℕ}
-use native.Mathlib.Omega.{arith}
+use Rattle.laws.specs.Basics.{sym, ap, List, _++_, some, ℕ, arith, needs}
 use Rattle.listing.proofs.Texts.{then}
 use Rattle.machine_console.specs.Text.{fieldText, pairsText}
-use Rattle.machine_console.proofs.Parts.{deletions-length, pairs-shown, printed-as}
-use borrow.Author.Needs.{needs}
-use Rattle.machine_console.proofs.text.write_pairs.Statement.{statement}
+use Rattle.machine_console.proofs.{Parts.deletions-length, Parts.pairs-shown, Parts.printed-as, text.write_pairs.Statement.statement}
 use Rattle.machine_console.proofs.text.write_pairs.Tie as tie
 
 write-deletions-requires : tie.Need-write-deletions-requires

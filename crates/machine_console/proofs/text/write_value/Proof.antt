@@ -1,11 +1,9 @@
 -- `machine_console::text::write_value` meets its contract. Assumes nothing.
-use native.Mathlib.Omega.{arith}
+use Rattle.laws.specs.Basics.{arith, needs}
 use Rattle.listing.specs.Lines.{valueIn}
 use Rattle.listing.proofs.Texts.{then}
 use Rattle.machine_console.specs.Text.{fieldText}
-use Rattle.machine_console.proofs.Parts.{value-length}
-use borrow.Author.Needs.{needs}
-use Rattle.machine_console.proofs.text.write_value.Statement.{statement}
+use Rattle.machine_console.proofs.{Parts.value-length, text.write_value.Statement.statement}
 use Rattle.machine_console.proofs.text.write_value.Tie as tie
 
 write-value-requires : tie.Need-write-value-requires

@@ -1,11 +1,8 @@
 -- `machine_judge::text::write_breaks` meets its contract: its four texts stand one after the other.
 -- Assumes nothing.
-use borrow.Author.Needs.{needs}
-use mathlib.Core.Path.{_≡_}
-use native.Mathlib.Omega.{arith}
+use Rattle.laws.specs.Basics.{_≡_, arith, needs}
 use Rattle.listing.proofs.Texts.{then}
-use Rattle.machine_judge.proofs.Lengths.{pair-short, printed-breaks}
-use Rattle.machine_judge.proofs.text.write_breaks.Statement.{statement}
+use Rattle.machine_judge.proofs.{Lengths.pair-short, Lengths.printed-breaks, text.write_breaks.Statement.statement}
 use Rattle.machine_judge.proofs.text.write_breaks.Tie as tie
 
 write-pair-requires : tie.Need-write-pair-requires

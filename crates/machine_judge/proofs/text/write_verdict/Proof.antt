@@ -1,8 +1,7 @@
 -- `machine_judge::text::write_verdict` meets its contract, by the verdict.
 -- Assumes nothing.
-use borrow.Author.Needs.{needs}
-use Rattle.machine_judge.proofs.Lengths.{small-pair, printed-refused, printed-trackable}
-use Rattle.machine_judge.proofs.text.write_verdict.Statement.{statement}
+use Rattle.laws.specs.Basics.{needs}
+use Rattle.machine_judge.proofs.{Lengths.small-pair, Lengths.printed-refused, Lengths.printed-trackable, text.write_verdict.Statement.statement}
 use Rattle.machine_judge.proofs.text.write_verdict.Tie as tie
 
 write-breaks-requires : tie.Need-write-breaks-requires

@@ -1,8 +1,7 @@
 -- `machine_merge::going::after_count` meets its contract.
 -- Assumes nothing.
-use Rattle.machine_merge.proofs.Leading.{counted-four, counted-other}
-use Rattle.machine_merge.proofs.Arriving.{led, arrives-setting}
-use borrow.Author.Needs.{needs}
+use Rattle.laws.specs.Basics.{needs}
+use Rattle.machine_merge.proofs.{Leading.counted-four, Leading.counted-other, Arriving.led, Arriving.arrives-setting}
 use Rattle.machine_merge.proofs.going.after_count.Statement.{statement}
 use Rattle.machine_merge.proofs.going.after_count.Tie as tie
 

@@ -1,12 +1,9 @@
 -- `machine_merge::going::after_name` meets its contract.
 -- Assumes nothing.
-use native.Mathlib.Omega.{arith}
+use Rattle.laws.specs.Basics.{arith, needs}
 use Rattle.machines.specs.Forms.{Between}
 use Rattle.machine_merge.specs.Words.{nameAt, stageOf}
-use Rattle.machine_merge.proofs.Parts.{name-most}
-use Rattle.machine_merge.proofs.Leading.{name-word, name-end, name-failed}
-use Rattle.machine_merge.proofs.Arriving.{led}
-use borrow.Author.Needs.{needs}
+use Rattle.machine_merge.proofs.{Parts.name-most, Leading.name-word, Leading.name-end, Leading.name-failed, Arriving.led}
 use Rattle.machine_merge.proofs.going.after_name.Statement.{statement}
 use Rattle.machine_merge.proofs.going.after_name.Tie as tie
 

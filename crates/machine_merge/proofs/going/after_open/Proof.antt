@@ -1,14 +1,8 @@
 -- `machine_merge::going::after_open` meets its contract.
 -- Assumes nothing.
-use mathlib.Core.Path.{sym, _∙_, ap}
-use mathlib.Core.List.{List}
-use Prim.Native.Nat.{ℕ}
-use Rattle.machine_merge.specs.Merging.{Reading}
-use Rattle.machine_merge.specs.Words.{stageOf, nameOf}
-use Rattle.machine_merge.proofs.Leading.{open-done, open-failed, none-kept}
-use Rattle.machine_merge.proofs.Arriving.{led}
-use borrow.Author.Needs.{needs}
-use Rattle.machine_merge.proofs.going.after_open.Statement.{statement}
+use Rattle.laws.specs.Basics.{sym, _∙_, ap, List, ℕ, needs}
+use Rattle.machine_merge.specs.{Merging.Reading, Words.stageOf, Words.nameOf}
+use Rattle.machine_merge.proofs.{Leading.open-done, Leading.open-failed, Leading.none-kept, Arriving.led, going.after_open.Statement.statement}
 use Rattle.machine_merge.proofs.going.after_open.Tie as tie
 
 returns : tie.Need-returns

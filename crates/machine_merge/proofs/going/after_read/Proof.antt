@@ -1,12 +1,9 @@
 -- `machine_merge::going::after_read` meets its contract.
 -- Assumes nothing.
-use native.Mathlib.Omega.{arith}
+use Rattle.laws.specs.Basics.{arith, needs}
 use Rattle.machines.specs.Forms.{Between}
 use Rattle.machine_merge.specs.Words.{readTo, stageOf, nameOf}
-use Rattle.machine_merge.proofs.Parts.{read-most, wanted-most}
-use Rattle.machine_merge.proofs.Leading.{read-bytes, read-end, read-failed}
-use Rattle.machine_merge.proofs.Arriving.{led}
-use borrow.Author.Needs.{needs}
+use Rattle.machine_merge.proofs.{Parts.read-most, Parts.wanted-most, Leading.read-bytes, Leading.read-end, Leading.read-failed, Arriving.led}
 use Rattle.machine_merge.proofs.going.after_read.Statement.{statement}
 use Rattle.machine_merge.proofs.going.after_read.Tie as tie
 

@@ -1,13 +1,8 @@
 -- `machine_merge::going::after_set` meets its contract.
 -- Assumes nothing.
-use mathlib.Core.Path.{sym}
-use native.Mathlib.Omega.{arith}
-use lib.Seq.{length-take-le}
+use Rattle.laws.specs.Basics.{sym, arith, length-take-le, needs}
 use Rattle.machines.specs.Forms.{Between}
-use Rattle.machine_merge.proofs.Leading.{set-word, set-end, set-failed}
-use Rattle.machine_merge.proofs.Arriving.{led}
-use borrow.Author.Needs.{needs}
-use Rattle.machine_merge.proofs.going.after_set.Statement.{statement}
+use Rattle.machine_merge.proofs.{Leading.set-word, Leading.set-end, Leading.set-failed, Arriving.led, going.after_set.Statement.statement}
 use Rattle.machine_merge.proofs.going.after_set.Tie as tie
 
 slice-aggregate-take-set : tie.Need-slice-aggregate-take-set

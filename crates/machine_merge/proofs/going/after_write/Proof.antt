@@ -1,9 +1,7 @@
 -- `machine_merge::going::after_write` meets its contract.
 -- Assumes nothing.
-use Rattle.machine_merge.proofs.Leading.{write-done, write-failed}
-use Rattle.machine_merge.proofs.Arriving.{led}
-use borrow.Author.Needs.{needs}
-use Rattle.machine_merge.proofs.going.after_write.Statement.{statement}
+use Rattle.laws.specs.Basics.{needs}
+use Rattle.machine_merge.proofs.{Leading.write-done, Leading.write-failed, Arriving.led, going.after_write.Statement.statement}
 use Rattle.machine_merge.proofs.going.after_write.Tie as tie
 
 returns : tie.Need-returns

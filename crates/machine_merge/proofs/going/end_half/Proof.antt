@@ -1,8 +1,7 @@
 -- `machine_merge::going::end_half` meets its contract.
 -- Assumes nothing.
-use Rattle.machine_merge.proofs.Leading.{first-buffered, second-buffered}
-use Rattle.machine_merge.proofs.Arriving.{led, arrives-second}
-use borrow.Author.Needs.{needs}
+use Rattle.laws.specs.Basics.{needs}
+use Rattle.machine_merge.proofs.{Leading.first-buffered, Leading.second-buffered, Arriving.led, Arriving.arrives-second}
 use Rattle.machine_merge.proofs.going.end_half.Statement.{statement}
 use Rattle.machine_merge.proofs.going.end_half.Tie as tie
 

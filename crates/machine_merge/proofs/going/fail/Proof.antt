@@ -1,8 +1,7 @@
 -- `machine_merge::going::fail` meets its contract.
 -- Assumes nothing.
-use Rattle.machine_merge.proofs.Arriving.{printed-failing}
-use borrow.Author.Needs.{needs}
-use Rattle.machine_merge.proofs.going.fail.Statement.{statement}
+use Rattle.laws.specs.Basics.{needs}
+use Rattle.machine_merge.proofs.{Arriving.printed-failing, going.fail.Statement.statement}
 use Rattle.machine_merge.proofs.going.fail.Tie as tie
 
 returns : tie.Need-returns

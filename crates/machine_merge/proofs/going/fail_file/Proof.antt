@@ -1,12 +1,8 @@
 -- `machine_merge::going::fail_file` meets its contract.
 -- Assumes nothing.
-use mathlib.Core.Path.{ap}
-use Rattle.machine_merge.specs.Merging.{Failing}
-use Rattle.machine_merge.specs.Words.{nameOf}
-use Rattle.machine_merge.proofs.Leading.{file-text-none}
-use Rattle.machine_merge.proofs.Arriving.{led, printed-file}
-use borrow.Author.Needs.{needs}
-use Rattle.machine_merge.proofs.going.fail_file.Statement.{statement}
+use Rattle.laws.specs.Basics.{ap, needs}
+use Rattle.machine_merge.specs.{Merging.Failing, Words.nameOf}
+use Rattle.machine_merge.proofs.{Leading.file-text-none, Arriving.led, Arriving.printed-file, going.fail_file.Statement.statement}
 use Rattle.machine_merge.proofs.going.fail_file.Tie as tie
 
 returns : tie.Need-returns

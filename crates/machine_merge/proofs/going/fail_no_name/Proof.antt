@@ -1,11 +1,8 @@
 -- `machine_merge::going::fail_no_name` meets its contract.
 -- Assumes nothing.
-use mathlib.Core.Path.{ap}
+use Rattle.laws.specs.Basics.{ap, needs}
 use Rattle.machine_merge.specs.Merging.{Failing}
-use Rattle.machine_merge.proofs.Leading.{no-name-first, no-name-second}
-use Rattle.machine_merge.proofs.Arriving.{led}
-use borrow.Author.Needs.{needs}
-use Rattle.machine_merge.proofs.going.fail_no_name.Statement.{statement}
+use Rattle.machine_merge.proofs.{Leading.no-name-first, Leading.no-name-second, Arriving.led, going.fail_no_name.Statement.statement}
 use Rattle.machine_merge.proofs.going.fail_no_name.Tie as tie
 
 returns : tie.Need-returns

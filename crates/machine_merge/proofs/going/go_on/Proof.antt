@@ -1,10 +1,8 @@
 -- `machine_merge::going::go_on` meets its contract.
 -- Assumes nothing.
+use Rattle.laws.specs.Basics.{needs}
 use Rattle.machine_merge.specs.Words.{stageOf, nameOf}
-use Rattle.machine_merge.proofs.Leading.{onward-read, onward-end}
-use Rattle.machine_merge.proofs.Arriving.{led}
-use borrow.Author.Needs.{needs}
-use Rattle.machine_merge.proofs.going.go_on.Statement.{statement}
+use Rattle.machine_merge.proofs.{Leading.onward-read, Leading.onward-end, Arriving.led, going.go_on.Statement.statement}
 use Rattle.machine_merge.proofs.going.go_on.Tie as tie
 
 returns : tie.Need-returns

@@ -1,10 +1,8 @@
 -- `machine_merge::going::on` meets its contract.
 -- Assumes nothing.
-use borrow.Author.Tests.{ne-eqb}
+use Rattle.laws.specs.Basics.{needs, ne-eqb}
 use Rattle.machine_merge.specs.Words.{halfAt, stageOf, nameOf, stateIn, placeIn}
-use Rattle.machine_merge.proofs.Arriving.{led, rest-stops}
-use borrow.Author.Needs.{needs}
-use Rattle.machine_merge.proofs.going.on.Statement.{statement}
+use Rattle.machine_merge.proofs.{Arriving.led, Arriving.rest-stops, going.on.Statement.statement}
 use Rattle.machine_merge.proofs.going.on.Tie as tie
 
 returns : tie.Need-returns

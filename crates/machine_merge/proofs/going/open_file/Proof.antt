@@ -1,8 +1,7 @@
 -- `machine_merge::going::open_file` meets its contract.
 -- Assumes nothing.
-use Rattle.machine_merge.proofs.Arriving.{printed-opening}
-use borrow.Author.Needs.{needs}
-use Rattle.machine_merge.proofs.going.open_file.Statement.{statement}
+use Rattle.laws.specs.Basics.{needs}
+use Rattle.machine_merge.proofs.{Arriving.printed-opening, going.open_file.Statement.statement}
 use Rattle.machine_merge.proofs.going.open_file.Tie as tie
 
 returns : tie.Need-returns

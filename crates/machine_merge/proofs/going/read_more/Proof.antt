@@ -1,7 +1,6 @@
 -- `machine_merge::going::read_more` meets its contract.
 -- Assumes nothing.
-use Rattle.machine_merge.proofs.Arriving.{arrives-reading}
-use Rattle.machine_merge.proofs.going.read_more.Statement.{statement}
+use Rattle.machine_merge.proofs.{Arriving.arrives-reading, going.read_more.Statement.statement}
 use Rattle.machine_merge.proofs.going.read_more.Tie as tie
 
 returns : tie.Need-returns

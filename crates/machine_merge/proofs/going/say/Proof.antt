@@ -1,8 +1,7 @@
 -- `machine_merge::going::say` meets its contract.
 -- Assumes nothing.
-use Rattle.machine_merge.proofs.Arriving.{printed-reporting}
-use borrow.Author.Needs.{needs}
-use Rattle.machine_merge.proofs.going.say.Statement.{statement}
+use Rattle.laws.specs.Basics.{needs}
+use Rattle.machine_merge.proofs.{Arriving.printed-reporting, going.say.Statement.statement}
 use Rattle.machine_merge.proofs.going.say.Tie as tie
 
 returns : tie.Need-returns

@@ -1,15 +1,10 @@
 -- `machine_merge::going::show` meets its contract.
 -- Assumes nothing.
-use mathlib.Core.Path.{sym, _∙_, ap}
-use native.Mathlib.Omega.{arith}
-use lib.ListN.{take}
+use Rattle.laws.specs.Basics.{sym, _∙_, ap, arith, take, needs}
 use Rattle.machines.proofs.programs.Texts.{refused-length}
 use Rattle.machine_merge.specs.Printed.{printed}
-use Rattle.machine_merge.proofs.Putting.{worth}
-use Rattle.machine_merge.proofs.Leading.{shown-refusal, shown-trace}
+use Rattle.machine_merge.proofs.{Putting.worth, Leading.shown-refusal, Leading.shown-trace, going.show.Statement.statement}
 use Rattle.machine_merge.proofs.Arriving.{led, printed-reporting, arrives-writing}
-use borrow.Author.Needs.{needs}
-use Rattle.machine_merge.proofs.going.show.Statement.{statement}
 use Rattle.machine_merge.proofs.going.show.Tie as tie
 
 returns : tie.Need-returns

@@ -1,8 +1,7 @@
 -- `machine_merge::going::stop` meets its contract.
 -- Assumes nothing.
-use Rattle.machine_merge.proofs.Arriving.{arrives-stopped}
-use borrow.Author.Needs.{needs}
-use Rattle.machine_merge.proofs.going.stop.Statement.{statement}
+use Rattle.laws.specs.Basics.{needs}
+use Rattle.machine_merge.proofs.{Arriving.arrives-stopped, going.stop.Statement.statement}
 use Rattle.machine_merge.proofs.going.stop.Tie as tie
 
 pub stop-spec : {M : Type 1} → statement M

@@ -1,13 +1,9 @@
 -- `machine_merge::going::take_set` meets its contract.
 -- Assumes nothing.
-use mathlib.Core.Path.{_≡_, sym, _∙_, ap}
-use Prim.Native.Nat.{ℕ}
-use native.Mathlib.Omega.{arith}
+use Rattle.laws.specs.Basics.{_≡_, sym, _∙_, ap, ℕ, arith, needs}
 use Rattle.machines.specs.programs.Numbers.{numberIn, atMost}
 use Rattle.machine_merge.specs.Merging.{Naming, FirstHalf}
-use Rattle.machine_merge.proofs.Leading.{set-none, set-some, at-most}
-use Rattle.machine_merge.proofs.Arriving.{led, arrives-first}
-use borrow.Author.Needs.{needs}
+use Rattle.machine_merge.proofs.{Leading.set-none, Leading.set-some, Leading.at-most, Arriving.led, Arriving.arrives-first}
 use Rattle.machine_merge.proofs.going.take_set.Statement.{statement}
 use Rattle.machine_merge.proofs.going.take_set.Tie as tie
 

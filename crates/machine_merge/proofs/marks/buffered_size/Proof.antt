@@ -1,10 +1,7 @@
 -- `machine_merge::marks::buffered_size` meets its contract.
 -- Assumes nothing.
-use mathlib.Core.Path.{sym}
-use native.Mathlib.Omega.{arith}
-use Rattle.machine_merge.proofs.Standing.{size-short, size-long}
-use borrow.Author.Needs.{needs}
-use Rattle.machine_merge.proofs.marks.buffered_size.Statement.{statement}
+use Rattle.laws.specs.Basics.{sym, arith, needs}
+use Rattle.machine_merge.proofs.{Standing.size-short, Standing.size-long, marks.buffered_size.Statement.statement}
 use Rattle.machine_merge.proofs.marks.buffered_size.Tie as tie
 
 returns : tie.Need-returns

@@ -1,10 +1,7 @@
 -- `machine_merge::marks::half_at` meets its contract.
 -- Assumes nothing.
-use mathlib.Core.Path.{ap}
-use Prim.Native.Nat.{ℕ, _+_}
-use native.Mathlib.Omega.{arith}
+use Rattle.laws.specs.Basics.{ap, ℕ, _+_, arith, needs}
 use Rattle.machine_merge.specs.Words.{halfAt}
-use borrow.Author.Needs.{needs}
 use Rattle.machine_merge.proofs.marks.half_at.Statement.{statement}
 use Rattle.machine_merge.proofs.marks.half_at.Tie as tie
 

@@ -1,9 +1,7 @@
 -- `machine_merge::marks::in_bounds` meets its contract.
 -- Assumes nothing.
-use mathlib.Core.Path.{refl}
-use borrow.Author.Tests.{lt-leb, le-leb, lt-ltb, le-ltb}
-use Rattle.machine_merge.specs.Buffered.{mostCounted}
-use Rattle.machine_merge.specs.Words.{inBounds}
+use Rattle.laws.specs.Basics.{refl, lt-ltb, le-ltb, le-leb, lt-leb}
+use Rattle.machine_merge.specs.{Buffered.mostCounted, Words.inBounds}
 use Rattle.machine_merge.proofs.marks.in_bounds.Statement.{statement}
 use Rattle.machine_merge.proofs.marks.in_bounds.Tie as tie
 

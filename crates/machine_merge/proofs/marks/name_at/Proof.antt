@@ -1,8 +1,6 @@
 -- `machine_merge::marks::name_at` meets its contract.
 -- Assumes nothing.
-use mathlib.Core.Path.{refl}
-use native.Mathlib.Omega.{arith}
-use borrow.Author.Tests.{eq-eqb, ne-eqb}
+use Rattle.laws.specs.Basics.{refl, arith, eq-eqb, ne-eqb}
 use Rattle.machine_merge.specs.Words.{nameAt}
 use Rattle.machine_merge.proofs.marks.name_at.Statement.{statement}
 use Rattle.machine_merge.proofs.marks.name_at.Tie as tie

@@ -1,8 +1,7 @@
 -- `machine_merge::marks::read` meets its contract.
 -- Assumes nothing.
-use mathlib.Core.Path.{refl}
+use Rattle.laws.specs.Basics.{refl, needs}
 use Rattle.machine_merge.specs.Words.{marksOf}
-use borrow.Author.Needs.{needs}
 use Rattle.machine_merge.proofs.marks.read.Statement.{statement}
 use Rattle.machine_merge.proofs.marks.read.Tie as tie
 

@@ -1,8 +1,7 @@
 -- `machine_merge::marks::read_to` meets its contract.
 -- Assumes nothing.
-use native.Mathlib.Omega.{arith}
+use Rattle.laws.specs.Basics.{arith, needs}
 use Rattle.machine_merge.specs.Words.{readTo}
-use borrow.Author.Needs.{needs}
 use Rattle.machine_merge.proofs.marks.read_to.Statement.{statement}
 use Rattle.machine_merge.proofs.marks.read_to.Tie as tie
 

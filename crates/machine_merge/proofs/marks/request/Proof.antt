@@ -1,9 +1,7 @@
 -- `machine_merge::marks::request` meets its contract: the arm of the `match` says which case holds.
 -- Assumes nothing.
-use mathlib.Core.Path.{refl}
-use borrow.Author.Tests.{ne-eqb}
+use Rattle.laws.specs.Basics.{refl, needs, ne-eqb}
 use Rattle.machine_merge.specs.Words.{asksFor}
-use borrow.Author.Needs.{needs}
 use Rattle.machine_merge.proofs.marks.request.Statement.{statement}
 use Rattle.machine_merge.proofs.marks.request.Tie as tie
 

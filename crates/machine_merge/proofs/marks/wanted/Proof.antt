@@ -1,8 +1,7 @@
 -- `machine_merge::marks::wanted` meets its contract.
 -- Assumes nothing.
-use borrow.Author.Tests.{lt-ltb, le-ltb}
+use Rattle.laws.specs.Basics.{needs, lt-ltb, le-ltb}
 use Rattle.machine_merge.specs.Buffered.{wanted}
-use borrow.Author.Needs.{needs}
 use Rattle.machine_merge.proofs.marks.wanted.Statement.{statement}
 use Rattle.machine_merge.proofs.marks.wanted.Tie as tie
 

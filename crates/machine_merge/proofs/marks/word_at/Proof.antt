@@ -1,6 +1,6 @@
 -- `machine_merge::marks::word_at` meets its contract.
 -- Assumes nothing.
-use borrow.Author.Tests.{eq-eqb, ne-eqb}
+use Rattle.laws.specs.Basics.{eq-eqb, ne-eqb}
 use Rattle.machine_merge.specs.Words.{wordAt}
 use Rattle.machine_merge.proofs.marks.word_at.Statement.{statement}
 use Rattle.machine_merge.proofs.marks.word_at.Tie as tie

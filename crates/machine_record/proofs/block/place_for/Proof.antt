@@ -1,8 +1,6 @@
 -- `machine_record::block::place_for` meets its contract. Assumes nothing.
-use mathlib.Core.Path.{refl}
-use borrow.Author.Tests.{lt-ltb, le-ltb}
+use Rattle.laws.specs.Basics.{refl, needs, lt-ltb, le-ltb}
 use Rattle.machine_record.specs.Played.{placeFor}
-use borrow.Author.Needs.{needs}
 use Rattle.machine_record.proofs.block.place_for.Statement.{statement}
 use Rattle.machine_record.proofs.block.place_for.Tie as tie
 

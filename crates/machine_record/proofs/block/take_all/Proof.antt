@@ -1,11 +1,7 @@
 -- `machine_record::block::take_all` meets its contract: so far the records in front of a place are taken. Assumes nothing.
-use mathlib.Core.Path.{_≡_, refl, _∙_}
-use Prim.Native.Nat.{_-_, _+_, _≤_}
-use native.Mathlib.Omega.{arith}
-use lib.ListN.{length}
+use Rattle.laws.specs.Basics.{_≡_, refl, _∙_, _+_, _-_, _≤_, arith, length, needs}
 use Rattle.words.specs.Layout.{runOf}
 use Rattle.machine_record.proofs.Blocks.{SoFar, none-so-far, event-at, one-more, all-so-far}
-use borrow.Author.Needs.{needs}
 use Rattle.machine_record.proofs.block.take_all.Statement.{statement}
 use Rattle.machine_record.proofs.block.take_all.Tie as tie
 

@@ -1,9 +1,7 @@
 -- `machine_record::block::take_one` meets its contract. Assumes nothing.
-use native.Mathlib.Omega.{arith}
+use Rattle.laws.specs.Basics.{arith, needs}
 use Rattle.words.specs.Layout.{runOf}
-use Rattle.machine_record.proofs.Taking.{not-back, at-most-four, enough-left, one-taken}
-use borrow.Author.Needs.{needs}
-use Rattle.machine_record.proofs.block.take_one.Statement.{statement}
+use Rattle.machine_record.proofs.{Taking.not-back, Taking.at-most-four, Taking.enough-left, Taking.one-taken, block.take_one.Statement.statement}
 use Rattle.machine_record.proofs.block.take_one.Tie as tie
 
 sub-more : tie.Need-sub-more

@@ -1,16 +1,11 @@
 -- `machine_record::calls::checkpoint` meets its contract. Assumes nothing.
-use mathlib.Core.Path.{refl}
-use mathlib.Core.Option.{some}
-use lib.ListN.{replicate}
+use Rattle.laws.specs.Basics.{refl, some, replicate, needs}
 use Rattle.model.specs.declared.Event.the-variants.{Checkpoint}
-use Rattle.whole_runs.specs.Outcomes.{checkpointReport}
-use Rattle.whole_runs.specs.Listing.{callOf}
+use Rattle.whole_runs.specs.{Outcomes.checkpointReport, Listing.callOf}
 use Rattle.theory_recording.specs.Recording.{recorded, recordedCheckpoint}
 use Rattle.words.specs.Layout.{runOf}
 use Rattle.machine_record.specs.Recorded.{recordedIn}
-use Rattle.machine_record.proofs.Taking.{plays}
-use borrow.Author.Needs.{needs}
-use Rattle.machine_record.proofs.calls.checkpoint.Statement.{statement}
+use Rattle.machine_record.proofs.{Taking.plays, calls.checkpoint.Statement.statement}
 use Rattle.machine_record.proofs.calls.checkpoint.Tie as tie
 
 returns : tie.Need-returns

@@ -1,5 +1,5 @@
 -- `machine_record::calls::perform` meets its contract: by the cases of the event. Assumes nothing.
-use borrow.Author.Needs.{needs}
+use Rattle.laws.specs.Basics.{needs}
 use Rattle.machine_record.proofs.calls.perform.Statement.{statement}
 use Rattle.machine_record.proofs.calls.perform.Tie as tie
 

@@ -1,7 +1,6 @@
 -- `machine_record::calls::play` meets its contract. Assumes nothing.
-use Rattle.machine_record.proofs.Taking.{plays-malformed, plays-event}
-use borrow.Author.Needs.{needs}
-use Rattle.machine_record.proofs.calls.play.Statement.{statement}
+use Rattle.laws.specs.Basics.{needs}
+use Rattle.machine_record.proofs.{Taking.plays-malformed, Taking.plays-event, calls.play.Statement.statement}
 use Rattle.machine_record.proofs.calls.play.Tie as tie
 
 returns : tie.Need-returns

@@ -1,16 +1,11 @@
 -- `machine_record::calls::send` meets its contract. Assumes nothing.
-use mathlib.Core.Path.{refl}
-use mathlib.Core.Option.{some}
-use lib.ListN.{replicate}
+use Rattle.laws.specs.Basics.{refl, some, replicate, needs}
 use Rattle.model.specs.declared.Event.the-variants.{Send}
-use Rattle.whole_runs.specs.Outcomes.{sendReport}
-use Rattle.whole_runs.specs.Listing.{callOf}
+use Rattle.whole_runs.specs.{Outcomes.sendReport, Listing.callOf}
 use Rattle.theory_recording.specs.Recording.{recorded, recordedSend}
 use Rattle.words.specs.Layout.{runOf}
 use Rattle.machine_record.specs.Recorded.{recordedIn}
-use Rattle.machine_record.proofs.Taking.{plays}
-use borrow.Author.Needs.{needs}
-use Rattle.machine_record.proofs.calls.send.Statement.{statement}
+use Rattle.machine_record.proofs.{Taking.plays, calls.send.Statement.statement}
 use Rattle.machine_record.proofs.calls.send.Tie as tie
 
 returns : tie.Need-returns

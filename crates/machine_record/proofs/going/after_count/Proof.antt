@@ -1,9 +1,7 @@
 -- `machine_record::going::after_count` meets its contract. Assumes nothing.
-use native.Mathlib.Omega.{arith}
-use Rattle.machine_record.proofs.Arriving.{arrives-beginning, arrives-naming}
+use Rattle.laws.specs.Basics.{arith, needs}
+use Rattle.machine_record.proofs.{Arriving.arrives-beginning, Arriving.arrives-naming, going.after_count.Statement.statement}
 use Rattle.machine_record.proofs.Leading.{led, counted-few, counted-two, counted-many, count-bytes, count-end, count-done, count-failed}
-use borrow.Author.Needs.{needs}
-use Rattle.machine_record.proofs.going.after_count.Statement.{statement}
 use Rattle.machine_record.proofs.going.after_count.Tie as tie
 
 returns : tie.Need-returns

@@ -1,9 +1,7 @@
 -- `machine_record::going::after_first` meets its contract. Assumes nothing.
-use native.Mathlib.Omega.{arith}
-use Rattle.machine_record.proofs.Leading.{led, first-byte, first-end, first-failed}
+use Rattle.laws.specs.Basics.{arith, needs}
+use Rattle.machine_record.proofs.{Leading.led, Leading.first-byte, Leading.first-end, Leading.first-failed, going.after_first.Statement.statement}
 use Rattle.machines.specs.Forms.{Between}
-use borrow.Author.Needs.{needs}
-use Rattle.machine_record.proofs.going.after_first.Statement.{statement}
 use Rattle.machine_record.proofs.going.after_first.Tie as tie
 
 shared-slice-read-start : tie.Need-shared-slice-read-start

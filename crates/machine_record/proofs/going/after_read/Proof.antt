@@ -1,9 +1,7 @@
 -- `machine_record::going::after_read` meets its contract. Assumes nothing.
-use native.Mathlib.Omega.{arith}
-use Rattle.machine_record.proofs.Leading.{led, read-block, read-end, read-failed}
+use Rattle.laws.specs.Basics.{arith, needs}
+use Rattle.machine_record.proofs.{Leading.led, Leading.read-block, Leading.read-end, Leading.read-failed, going.after_read.Statement.statement}
 use Rattle.machines.specs.Forms.{Between}
-use borrow.Author.Needs.{needs}
-use Rattle.machine_record.proofs.going.after_read.Statement.{statement}
 use Rattle.machine_record.proofs.going.after_read.Tie as tie
 
 most-to-read-requires : tie.Need-most-to-read-requires

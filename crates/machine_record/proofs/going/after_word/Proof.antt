@@ -1,14 +1,8 @@
 -- `machine_record::going::after_word` meets its contract. Assumes nothing.
-use native.Mathlib.Omega.{arith}
-use mathlib.Core.Path.{_≡_, _∙_, ap}
-use Prim.Native.Nat.{ℕ, _+_, _-_}
-use lib.ListN.{take, drop}
-use Rattle.machines.specs.programs.Numbers.{numberIn}
+use Rattle.laws.specs.Basics.{_≡_, _∙_, ap, ℕ, _+_, _-_, arith, take, drop, needs}
+use Rattle.machines.specs.{programs.Numbers.numberIn, Forms.Between}
 use Rattle.machine_record.specs.Machine.{sized}
-use Rattle.machine_record.proofs.Leading.{led, word-taken, word-end, word-failed}
-use Rattle.machines.specs.Forms.{Between}
-use borrow.Author.Needs.{needs}
-use Rattle.machine_record.proofs.going.after_word.Statement.{statement}
+use Rattle.machine_record.proofs.{Leading.led, Leading.word-taken, Leading.word-end, Leading.word-failed, going.after_word.Statement.statement}
 use Rattle.machine_record.proofs.going.after_word.Tie as tie
 
 add-end : tie.Need-add-end

@@ -1,8 +1,6 @@
 -- `machine_record::going::after_write` meets its contract. Assumes nothing.
-use native.Mathlib.Omega.{arith}
-use Rattle.machine_record.proofs.Leading.{led, write-done, write-failed}
-use borrow.Author.Needs.{needs}
-use Rattle.machine_record.proofs.going.after_write.Statement.{statement}
+use Rattle.laws.specs.Basics.{arith, needs}
+use Rattle.machine_record.proofs.{Leading.led, Leading.write-done, Leading.write-failed, going.after_write.Statement.statement}
 use Rattle.machine_record.proofs.going.after_write.Tie as tie
 
 to-report-requires : tie.Need-to-report-requires

@@ -1,6 +1,5 @@
 -- `machine_record::going::least` meets its contract. Assumes nothing.
-use native.Mathlib.Omega.{arith}
-use borrow.Author.Needs.{needs}
+use Rattle.laws.specs.Basics.{arith, needs}
 use Rattle.machine_record.proofs.going.least.Statement.{statement}
 use Rattle.machine_record.proofs.going.least.Tie as tie
 

@@ -1,11 +1,7 @@
 -- `machine_record::going::on` meets its contract. Assumes nothing.
-use native.Mathlib.Omega.{arith}
-use borrow.Author.Tests.{ne-eqb}
-use Rattle.machine_record.proofs.Arriving.{rest-stops}
-use Rattle.machine_record.proofs.Leading.{led, reported-then-read}
+use Rattle.laws.specs.Basics.{arith, needs, ne-eqb}
+use Rattle.machine_record.proofs.{Arriving.rest-stops, Leading.led, Leading.reported-then-read, going.on.Statement.statement}
 use Rattle.machine_record.specs.Lent.{stateIn}
-use borrow.Author.Needs.{needs}
-use Rattle.machine_record.proofs.going.on.Statement.{statement}
 use Rattle.machine_record.proofs.going.on.Tie as tie
 
 after-word-requires : tie.Need-after-word-requires

@@ -1,12 +1,7 @@
 -- `machine_record::going::start` meets its contract. Assumes nothing.
-use native.Mathlib.Omega.{arith}
-use mathlib.Core.Path.{_≡_, refl, sym, _∙_}
-use lib.ListN.{length, take, drop}
-use lib.Seq.{length-take-le}
-use Rattle.machine_record.proofs.Leading.{led}
+use Rattle.laws.specs.Basics.{_≡_, refl, sym, _∙_, arith, length, take, drop, length-take-le, needs}
+use Rattle.machine_record.proofs.{Leading.led, going.start.Statement.statement}
 use Rattle.machine_record.proofs.Starting.{accepted, number-is, start-refused, start-fine, long-enough, arrives-started}
-use borrow.Author.Needs.{needs}
-use Rattle.machine_record.proofs.going.start.Statement.{statement}
 use Rattle.machine_record.proofs.going.start.Tie as tie
 
 slice-relend-prefix-start : tie.Need-slice-relend-prefix-start

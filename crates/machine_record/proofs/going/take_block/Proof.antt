@@ -1,15 +1,8 @@
 -- `machine_record::going::take_block` meets its contract. Assumes nothing.
-use native.Mathlib.Omega.{arith}
-use mathlib.Core.Path.{_≡_, refl, _∙_, sym, ap}
-use Prim.Native.Nat.{_+_, _-_, _*_}
-use lib.ListN.{length}
+use Rattle.laws.specs.Basics.{_≡_, refl, sym, _∙_, ap, _+_, _-_, _*_, arith, length, length-take-le, needs}
 use Rattle.machine_record.specs.declared.marks.Marks.{Marks}
-use lib.Seq.{length-take-le}
-use Rattle.machine_record.proofs.Arriving.{arrives-write, none-to-write}
-use Rattle.machine_record.proofs.Leading.{led}
+use Rattle.machine_record.proofs.{Arriving.arrives-write, Arriving.none-to-write, Leading.led, going.take_block.Statement.statement}
 use Rattle.machine_record.proofs.Kept.{whole-inside, done-before, left-most, rest-few, block-is}
-use borrow.Author.Needs.{needs}
-use Rattle.machine_record.proofs.going.take_block.Statement.{statement}
 use Rattle.machine_record.proofs.going.take_block.Tie as tie
 
 add-end : tie.Need-add-end

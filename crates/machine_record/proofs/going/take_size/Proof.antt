@@ -1,11 +1,7 @@
 -- `machine_record::going::take_size` meets its contract. Assumes nothing.
-use native.Mathlib.Omega.{arith}
-use Rattle.machine_record.proofs.Arriving.{arrives-beginning}
-use Rattle.machine_record.proofs.Leading.{led, sized-large, sized-small}
-use mathlib.Core.Path.{_∙_, ap}
+use Rattle.laws.specs.Basics.{_∙_, ap, arith, needs}
+use Rattle.machine_record.proofs.{Arriving.arrives-beginning, Leading.led, Leading.sized-large, Leading.sized-small, going.take_size.Statement.statement}
 use Rattle.machine_record.specs.Machine.{sized}
-use borrow.Author.Needs.{needs}
-use Rattle.machine_record.proofs.going.take_size.Statement.{statement}
 use Rattle.machine_record.proofs.going.take_size.Tie as tie
 
 end-with-requires : tie.Need-end-with-requires

@@ -1,9 +1,6 @@
 -- `machine_record::going::to_end` meets its contract. Assumes nothing.
-use native.Mathlib.Omega.{arith}
-use Rattle.machine_record.proofs.Arriving.{none-left, some-left}
-use Rattle.machine_record.proofs.Leading.{led}
-use borrow.Author.Needs.{needs}
-use Rattle.machine_record.proofs.going.to_end.Statement.{statement}
+use Rattle.laws.specs.Basics.{arith, needs}
+use Rattle.machine_record.proofs.{Arriving.none-left, Arriving.some-left, Leading.led, going.to_end.Statement.statement}
 use Rattle.machine_record.proofs.going.to_end.Tie as tie
 
 returns : tie.Need-returns

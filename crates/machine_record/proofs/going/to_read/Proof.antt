@@ -1,9 +1,6 @@
 -- `machine_record::going::to_read` meets its contract. Assumes nothing.
-use native.Mathlib.Omega.{arith}
-use Rattle.machine_record.proofs.Arriving.{arrives-read, arrives-last}
-use Rattle.machine_record.proofs.Leading.{led}
-use borrow.Author.Needs.{needs}
-use Rattle.machine_record.proofs.going.to_read.Statement.{statement}
+use Rattle.laws.specs.Basics.{arith, needs}
+use Rattle.machine_record.proofs.{Arriving.arrives-read, Arriving.arrives-last, Leading.led, going.to_read.Statement.statement}
 use Rattle.machine_record.proofs.going.to_read.Tie as tie
 
 returns : tie.Need-returns

@@ -1,11 +1,6 @@
 -- `machine_record::going::to_report` meets its contract. Assumes nothing.
-use native.Mathlib.Omega.{arith}
-use Rattle.machine_record.proofs.Arriving.{none-to-report, arrives-report}
-use Rattle.machine_record.proofs.Leading.{led}
-use mathlib.Core.Path.{sym}
-use lib.Seq.{length-take-le}
-use borrow.Author.Needs.{needs}
-use Rattle.machine_record.proofs.going.to_report.Statement.{statement}
+use Rattle.laws.specs.Basics.{sym, arith, length-take-le, needs}
+use Rattle.machine_record.proofs.{Arriving.none-to-report, Arriving.arrives-report, Leading.led, going.to_report.Statement.statement}
 use Rattle.machine_record.proofs.going.to_report.Tie as tie
 
 to-read-requires : tie.Need-to-read-requires

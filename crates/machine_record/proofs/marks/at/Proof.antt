@@ -1,6 +1,5 @@
 -- `machine_record::marks::at` meets its contract. Assumes nothing.
-use mathlib.Core.Path.{refl}
-use borrow.Author.Needs.{needs}
+use Rattle.laws.specs.Basics.{refl, needs}
 use Rattle.machine_record.proofs.marks.at.Statement.{statement}
 use Rattle.machine_record.proofs.marks.at.Tie as tie
 

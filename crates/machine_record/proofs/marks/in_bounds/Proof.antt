@@ -1,8 +1,6 @@
 -- `machine_record::marks::in_bounds` meets its contract. Assumes nothing.
-use mathlib.Core.Path.{refl}
-use borrow.Author.Tests.{lt-leb, le-leb}
+use Rattle.laws.specs.Basics.{refl, needs, le-leb, lt-leb}
 use Rattle.machine_record.specs.Lent.{inBounds}
-use borrow.Author.Needs.{needs}
 use Rattle.machine_record.proofs.marks.in_bounds.Statement.{statement}
 use Rattle.machine_record.proofs.marks.in_bounds.Tie as tie
 

@@ -1,8 +1,6 @@
 -- `machine_record::marks::request` meets its contract: the arm of the `match` says which case holds. Assumes nothing.
-use mathlib.Core.Path.{refl}
-use borrow.Author.Tests.{ne-eqb}
+use Rattle.laws.specs.Basics.{refl, needs, ne-eqb}
 use Rattle.machine_record.specs.Lent.{asksFor}
-use borrow.Author.Needs.{needs}
 use Rattle.machine_record.proofs.marks.request.Statement.{statement}
 use Rattle.machine_record.proofs.marks.request.Tie as tie
 

@@ -1,9 +1,6 @@
 -- `machine_record::text::write_line` meets its contract. Assumes nothing.
-use mathlib.Core.Path.{refl}
-use native.Mathlib.Omega.{arith}
-use borrow.Author.Tests.{eq-eqb, ne-eqb}
+use Rattle.laws.specs.Basics.{refl, arith, needs, eq-eqb, ne-eqb}
 use Rattle.machine_record.specs.Recorded.{lineFor}
-use borrow.Author.Needs.{needs}
 use Rattle.machine_record.proofs.text.write_line.Statement.{statement}
 use Rattle.machine_record.proofs.text.write_line.Tie as tie
 

@@ -1,10 +1,8 @@
 -- `machine_record::text::write_refused` meets its contract: its three texts stand one after the other. Assumes nothing.
-use native.Mathlib.Omega.{arith}
-use Rattle.listing.proofs.Bounds.{twenty-digits}
-use Rattle.listing.proofs.Texts.{then}
+use Rattle.laws.specs.Basics.{arith, needs}
+use Rattle.listing.proofs.{Bounds.twenty-digits, Texts.then}
 use Rattle.machines.specs.programs.Texts.{figureText}
 use Rattle.machine_record.specs.Recorded.{refusedLine}
-use borrow.Author.Needs.{needs}
 use Rattle.machine_record.proofs.text.write_refused.Statement.{statement}
 use Rattle.machine_record.proofs.text.write_refused.Tie as tie
 

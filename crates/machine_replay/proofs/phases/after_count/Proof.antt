@@ -1,11 +1,9 @@
 -- `machine_replay::phases::after_count` meets its contract.
 -- Assumes nothing.
-use borrow.Author.Needs.{needs}
-use mathlib.Core.Path.{_≡_, refl, sym, _∙_, ap}
+use Rattle.laws.specs.Basics.{_≡_, refl, sym, _∙_, ap, needs}
 use denote.Ref.{now}
 use Rattle.machine_replay.specs.Replaying.{counted}
-use Rattle.machine_replay.proofs.Places.{plain-counted}
-use Rattle.machine_replay.proofs.phases.after_count.Statement.{statement}
+use Rattle.machine_replay.proofs.{Places.plain-counted, phases.after_count.Statement.statement}
 use Rattle.machine_replay.proofs.phases.after_count.Tie as tie
 
 returns : tie.Need-returns

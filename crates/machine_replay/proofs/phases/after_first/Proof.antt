@@ -1,17 +1,11 @@
 -- `machine_replay::phases::after_first` meets its contract.
 -- Assumes nothing.
-use borrow.Author.Needs.{needs}
-use mathlib.Core.Path.{_≡_, refl, sym, _∙_, ap}
-use mathlib.Core.Bool.{true}
-use native.Mathlib.Omega.{arith}
+use Rattle.laws.specs.Basics.{_≡_, refl, sym, _∙_, ap, true, arith, length, needs}
 use denote.Ref.{now}
-use lib.ListN.{length}
 use Rattle.whole_runs.specs.Listing.{listing}
 use Rattle.machines.specs.Forms.{takenOf, Between}
 use Rattle.machine_replay.specs.Replaying.{ending, opened}
-use Rattle.machine_replay.proofs.Places.{enough-input, enough-out, text-ending}
-use Rattle.machine_replay.proofs.Texts.{front-text}
-use Rattle.machine_replay.proofs.Starts.{first-byte}
+use Rattle.machine_replay.proofs.{Places.enough-input, Places.enough-out, Places.text-ending, Texts.front-text, Starts.first-byte}
 use Rattle.machine_replay.proofs.phases.after_first.Statement.{statement}
 use Rattle.machine_replay.proofs.phases.after_first.Tie as tie
 

@@ -1,12 +1,9 @@
 -- `machine_replay::phases::after_last` meets its contract.
 -- Assumes nothing.
-use borrow.Author.Needs.{needs}
-use mathlib.Core.Path.{_≡_, refl, sym, _∙_, ap}
-use native.Mathlib.Omega.{arith}
+use Rattle.laws.specs.Basics.{_≡_, refl, sym, _∙_, ap, arith, needs}
 use denote.Ref.{now}
 use Rattle.machine_replay.specs.Replaying.{wrote}
-use Rattle.machine_replay.proofs.Places.{text-stopped}
-use Rattle.machine_replay.proofs.phases.after_last.Statement.{statement}
+use Rattle.machine_replay.proofs.{Places.text-stopped, phases.after_last.Statement.statement}
 use Rattle.machine_replay.proofs.phases.after_last.Tie as tie
 
 returns : tie.Need-returns

@@ -1,17 +1,11 @@
 -- `machine_replay::phases::after_word` meets its contract.
 -- Assumes nothing.
-use borrow.Author.Needs.{needs}
-use mathlib.Core.Path.{_≡_, refl, sym, _∙_, ap}
-use mathlib.Core.Bool.{Bool, _&&_}
-use Prim.Native.Nat.{_+_, _≤_}
-use native.Mathlib.Omega.{arith}
+use Rattle.laws.specs.Basics.{_≡_, refl, sym, _∙_, ap, Bool, _&&_, _+_, _≤_, arith, length, needs}
 use denote.Ref.{now}
-use lib.ListN.{length}
 use Rattle.laws.specs.Tests.{same}
 use Rattle.machines.specs.Machines.{Answer, brought}
 use Rattle.machine_replay.specs.Replaying.{opening, next, allWord}
-use Rattle.machine_replay.proofs.Places.{enough-input, plain-opening}
-use Rattle.machine_replay.proofs.phases.after_word.Statement.{statement}
+use Rattle.machine_replay.proofs.{Places.enough-input, Places.plain-opening, phases.after_word.Statement.statement}
 use Rattle.machine_replay.proofs.phases.after_word.Tie as tie
 
 is-all-requires : tie.Need-is-all-requires

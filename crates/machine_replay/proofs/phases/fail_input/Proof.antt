@@ -1,15 +1,9 @@
 -- `machine_replay::phases::fail_input` meets its contract.
 -- Assumes nothing.
-use borrow.Author.Needs.{needs}
-use mathlib.Core.Path.{_≡_, refl, sym, _∙_, ap}
-use Prim.Native.Nat.{_≤_}
-use native.Mathlib.Omega.{arith}
-use lib.ListN.{length}
+use Rattle.laws.specs.Basics.{_≡_, refl, sym, _∙_, ap, _≤_, arith, length, needs}
 use denote.Ref.{now}
 use Rattle.machine_replay.specs.Replaying.{failing}
-use Rattle.machine_replay.proofs.Places.{enough-out, text-failing}
-use Rattle.machine_replay.proofs.Texts.{front-text}
-use Rattle.machine_replay.proofs.phases.fail_input.Statement.{statement}
+use Rattle.machine_replay.proofs.{Places.enough-out, Places.text-failing, Texts.front-text, phases.fail_input.Statement.statement}
 use Rattle.machine_replay.proofs.phases.fail_input.Tie as tie
 
 write-word-requires : tie.Need-write-word-requires

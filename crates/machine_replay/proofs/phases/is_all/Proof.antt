@@ -1,14 +1,9 @@
 -- `machine_replay::phases::is_all` meets its contract.
 -- Assumes nothing.
-use borrow.Author.Needs.{needs}
-use mathlib.Core.Path.{_≡_, refl, sym, _∙_, ap}
-use Prim.Native.Nat.{ℕ, _+_, _-_, _≤_}
-use native.Mathlib.Omega.{arith}
+use Rattle.laws.specs.Basics.{_≡_, refl, sym, _∙_, ap, ℕ, _+_, _-_, _≤_, arith, length, take, drop, needs}
 use denote.Ref.{now}
-use lib.ListN.{length, take, drop}
 use Rattle.laws.specs.Tests.{same}
-use Rattle.machines.specs.Machines.{brought}
-use Rattle.machines.specs.Forms.{takenOf, Between}
+use Rattle.machines.specs.{Machines.brought, Forms.takenOf, Forms.Between}
 use Rattle.machine_replay.proofs.phases.is_all.Statement.{statement}
 use Rattle.machine_replay.proofs.phases.is_all.Tie as tie
 

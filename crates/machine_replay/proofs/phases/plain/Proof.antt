@@ -1,6 +1,6 @@
 -- `machine_replay::phases::plain` meets its contract.
 -- Assumes nothing.
-use mathlib.Core.Path.{refl}
+use Rattle.laws.specs.Basics.{refl}
 use Rattle.machine_replay.specs.Standing.{plainPlace}
 use Rattle.machine_replay.proofs.phases.plain.Statement.{statement}
 use Rattle.machine_replay.proofs.phases.plain.Tie as tie

@@ -1,7 +1,6 @@
 -- `machine_replay::phases::ready_after` meets its contract.
 -- Assumes nothing.
-use borrow.Author.Needs.{needs}
-use borrow.Author.Tests.{eq-eqb, ne-eqb}
+use Rattle.laws.specs.Basics.{needs, eq-eqb, ne-eqb}
 use Rattle.machine_replay.specs.Ready.{bytesState}
 use Rattle.machine_replay.proofs.phases.ready_after.Statement.{statement}
 use Rattle.machine_replay.proofs.phases.ready_after.Tie as tie

@@ -1,12 +1,9 @@
 -- `machine_replay::phases::ready_lines` meets its contract.
 -- Assumes nothing.
-use borrow.Author.Needs.{needs}
-use mathlib.Core.Path.{_≡_, _∙_}
+use Rattle.laws.specs.Basics.{_≡_, _∙_, needs}
 use denote.Ref.{now}
-use Rattle.machine_replay.specs.Replaying.{wrote}
-use Rattle.machine_replay.specs.Ready.{comesTo, Lying, linesState}
-use Rattle.machine_replay.proofs.Places.{lies-there}
-use Rattle.machine_replay.proofs.phases.ready_lines.Statement.{statement}
+use Rattle.machine_replay.specs.{Replaying.wrote, Ready.comesTo, Ready.Lying, Ready.linesState}
+use Rattle.machine_replay.proofs.{Places.lies-there, phases.ready_lines.Statement.statement}
 use Rattle.machine_replay.proofs.phases.ready_lines.Tie as tie
 
 returns : tie.Need-returns

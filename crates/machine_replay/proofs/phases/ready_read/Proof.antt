@@ -1,27 +1,17 @@
 -- `machine_replay::phases::ready_read` meets its contract.
 -- Assumes nothing.
-use borrow.Author.Needs.{needs}
-use mathlib.Core.Path.{_≡_, refl, sym, _∙_, ap}
-use mathlib.Core.List.{List, _++_}
-use Prim.Native.Nat.{ℕ, _+_, _-_, _≤_, _<_}
-use native.Mathlib.Omega.{arith}
+use Rattle.laws.specs.Basics.{_≡_, refl, sym, _∙_, ap, List, _++_, ℕ, _+_, _-_, _≤_, _<_, arith, length, take, drop, length-take-le, needs}
 use denote.Ref.{now}
-use lib.ListN.{length, take, drop}
-use lib.Seq.{length-take-le}
 use Rattle.whole_runs.specs.Listing.{records}
 use Rattle.words.specs.Layout.{runOf}
-use Rattle.machines.specs.declared.heard.Taken as takens
-use Rattle.machines.specs.Machines.{heardRead}
-use Rattle.machines.specs.Forms as form
-use Rattle.machines.specs.Forms.{answerOf, takenOf}
+use Rattle.machines.specs.{Machines.heardRead, Forms.answerOf, Forms.takenOf}
 use Rattle.machine_replay.specs.declared.place.Place.{Place}
 use Rattle.machine_replay.specs.Replaying.{Between, ending, mostToRead, onward, filled}
-use Rattle.machine_replay.specs.Standing.{Lies, betweenIn, holding}
-use Rattle.machine_replay.specs.Ready.{comesTo, Lying, readState}
-use Rattle.machine_replay.proofs.Places.{Inside, inside-out, enough-input, enough-out, text-ending}
-use Rattle.machine_replay.proofs.Texts.{front-text}
-use Rattle.machine_replay.proofs.Starts.{most-same, more-buffered}
-use Rattle.machine_replay.proofs.phases.ready_read.Statement.{statement}
+use Rattle.machine_replay.specs.{Standing.Lies, Standing.betweenIn, Standing.holding, Ready.comesTo, Ready.Lying, Ready.readState}
+use Rattle.machine_replay.proofs.{Places.Inside, Places.inside-out, Places.enough-input, Places.enough-out, Places.text-ending, Texts.front-text}
+use Rattle.machine_replay.proofs.{Starts.most-same, Starts.more-buffered, phases.ready_read.Statement.statement}
+use Rattle.machines.specs.declared.heard.Taken as takens
+use Rattle.machines.specs.Forms as form
 use Rattle.machine_replay.proofs.phases.ready_read.Tie as tie
 
 module _ (s : tie.Start) where

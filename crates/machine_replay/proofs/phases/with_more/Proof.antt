@@ -1,7 +1,6 @@
 -- `machine_replay::phases::with_more` meets its contract.
 -- Assumes nothing.
-use borrow.Author.Needs.{needs}
-use mathlib.Core.Path.{refl}
+use Rattle.laws.specs.Basics.{refl, needs}
 use Rattle.machine_replay.specs.Standing.{holding}
 use Rattle.machine_replay.proofs.phases.with_more.Statement.{statement}
 use Rattle.machine_replay.proofs.phases.with_more.Tie as tie

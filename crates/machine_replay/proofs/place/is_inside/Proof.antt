@@ -1,7 +1,6 @@
 -- `machine_replay::place::is_inside` meets its contract.
 -- Assumes nothing.
-use Prim.Native.Nat.{_-_}
-use borrow.Author.Tests.{eq-eqb, ne-eqb, le-leb, lt-leb, lt-ltb, le-ltb}
+use Rattle.laws.specs.Basics.{_-_, eq-eqb, ne-eqb, lt-ltb, le-ltb, le-leb, lt-leb}
 use Rattle.machine_replay.specs.Standing.{inside}
 use Rattle.machine_replay.proofs.place.is_inside.Statement.{statement}
 use Rattle.machine_replay.proofs.place.is_inside.Tie as tie

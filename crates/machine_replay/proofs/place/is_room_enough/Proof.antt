@@ -1,6 +1,6 @@
 -- `machine_replay::place::is_room_enough` meets its contract.
 -- Assumes nothing.
-use borrow.Author.Tests.{eq-eqb, ne-eqb, le-leb, lt-leb}
+use Rattle.laws.specs.Basics.{eq-eqb, ne-eqb, le-leb, lt-leb}
 use Rattle.machine_replay.specs.Standing.{enoughRoom}
 use Rattle.machine_replay.proofs.place.is_room_enough.Statement.{statement}
 use Rattle.machine_replay.proofs.place.is_room_enough.Tie as tie

@@ -1,7 +1,6 @@
 -- `machine_replay::place::load` meets its contract.
 -- Assumes nothing.
-use borrow.Author.Needs.{needs}
-use mathlib.Core.Path.{refl}
+use Rattle.laws.specs.Basics.{refl, needs}
 use Rattle.machine_replay.specs.Standing.{placeIn}
 use Rattle.machine_replay.proofs.place.load.Statement.{statement}
 use Rattle.machine_replay.proofs.place.load.Tie as tie

@@ -1,14 +1,9 @@
 -- `machine_replay::place::store` meets its contract.
 -- Assumes nothing.
-use borrow.Author.Needs.{needs}
-use mathlib.Core.Path.{_≡_, _∙_, ap}
-use Prim.Native.Nat.{_<_}
-use native.Mathlib.Omega.{arith}
+use Rattle.laws.specs.Basics.{_≡_, _∙_, ap, _<_, arith, length, set, needs}
 use denote.Ref.{now}
-use lib.ListN.{length, set}
 use Rattle.machine_replay.specs.Standing.{bitOf, placeIn}
-use Rattle.machine_replay.proofs.Places.{stored}
-use Rattle.machine_replay.proofs.place.store.Statement.{statement}
+use Rattle.machine_replay.proofs.{Places.stored, place.store.Statement.statement}
 use Rattle.machine_replay.proofs.place.store.Tie as tie
 
 slice-write-memory-2 : tie.Need-slice-write-memory-2

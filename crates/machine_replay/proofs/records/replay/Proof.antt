@@ -1,6 +1,6 @@
 -- `machine_replay::records::replay` meets its contract.
 -- Assumes nothing.
-use borrow.Author.Needs.{needs}
+use Rattle.laws.specs.Basics.{needs}
 use Rattle.machine_replay.proofs.records.replay.Statement.{statement}
 use Rattle.machine_replay.proofs.records.replay.Tie as tie
 

@@ -1,13 +1,7 @@
 -- `machine_replay::records::take` meets its contract.
 -- Assumes nothing.
-use borrow.Author.Needs.{needs}
-use mathlib.Core.Path.{_≡_, refl, sym, _∙_, ap}
-use mathlib.Core.List.{List}
-use Prim.Native.Nat.{ℕ, _+_, _-_}
-use native.Mathlib.Omega.{arith}
+use Rattle.laws.specs.Basics.{_≡_, refl, sym, _∙_, ap, List, ℕ, _+_, _-_, arith, take, drop, needs, not-true, not-false}
 use denote.Ref.{now}
-use lib.ListN.{take, drop}
-use borrow.Author.Tests.{not-true, not-false}
 use Rattle.library_replay.specs.declared.block.Progress.{Progress}
 use Rattle.machine_replay.specs.declared.place.Place.{Place}
 use Rattle.machine_replay.specs.Standing.{Blocked}

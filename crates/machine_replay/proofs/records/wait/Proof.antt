@@ -1,11 +1,9 @@
 -- `machine_replay::records::wait` meets its contract.
 -- Assumes nothing.
-use borrow.Author.Needs.{needs}
-use mathlib.Core.Path.{refl}
+use Rattle.laws.specs.Basics.{refl, needs}
 use denote.Ref.{now}
 use Rattle.machine_replay.specs.Standing.{waitingPlace}
-use Rattle.machine_replay.proofs.Blocks.{kept-front}
-use Rattle.machine_replay.proofs.records.wait.Statement.{statement}
+use Rattle.machine_replay.proofs.{Blocks.kept-front, records.wait.Statement.statement}
 use Rattle.machine_replay.proofs.records.wait.Tie as tie
 
 returns : tie.Need-returns

@@ -1,6 +1,6 @@
 -- `machine_replay::records::with_text` meets its contract.
 -- Assumes nothing.
-use mathlib.Core.Path.{refl}
+use Rattle.laws.specs.Basics.{refl}
 use Rattle.machine_replay.specs.Standing.{textPlace}
 use Rattle.machine_replay.proofs.records.with_text.Statement.{statement}
 use Rattle.machine_replay.proofs.records.with_text.Tie as tie

@@ -1,17 +1,9 @@
 -- `machine_replay::step::after` meets its contract.
 -- Assumes nothing.
-use borrow.Author.Needs.{needs}
-use borrow.Author.Tests.{eq-eqb, ne-eqb, eqb-true, eqb-false}
-use mathlib.Core.Path.{_≡_}
-use mathlib.Core.Bool.{true, _||_}
-use Prim.Native.Nat.{ℕ}
-use native.Mathlib.Omega.{arith}
-use lib.Dec.{eqb}
-use Rattle.laws.specs.Choice.{by-eq}
+use Rattle.laws.specs.Basics.{_≡_, true, _||_, ℕ, arith, eqb, needs, eq-eqb, ne-eqb, eqb-true, eqb-false, by-eq}
 use Rattle.laws.specs.Truth.{or-none}
 use Rattle.machines.specs.Machines.{stepped, heard}
-use Rattle.machine_replay.specs.Replaying.{asks, next}
-use Rattle.machine_replay.specs.Standing.{betweenIn, FromStart}
+use Rattle.machine_replay.specs.{Replaying.asks, Replaying.next, Standing.betweenIn, Standing.FromStart}
 use Rattle.machine_replay.specs.Ready.{bytesState, readState, linesState}
 use Rattle.machine_replay.proofs.Places.{in-lists, is-starting, is-counted, is-opening, is-reading, is-printing, is-ending, is-failing, is-stopped, text-stopped}
 use Rattle.machine_replay.proofs.step.after.Statement.{statement}

@@ -1,16 +1,10 @@
 -- `machine_replay::step::begin` meets its contract.
 -- Assumes nothing.
-use borrow.Author.Needs.{needs}
-use mathlib.Core.Path.{_≡_, refl, sym, _∙_, ap}
-use native.Mathlib.Omega.{arith}
+use Rattle.laws.specs.Basics.{_≡_, refl, sym, _∙_, ap, arith, length, needs}
 use denote.Ref.{now}
-use lib.ListN.{length}
 use Rattle.machines.specs.Forms.{requestOf, Placed, GoesTo}
-use Rattle.machine_replay.specs.Replaying.{starting, asks}
-use Rattle.machine_replay.specs.Standing.{stateOf}
-use Rattle.machine_replay.proofs.Places.{text-starting}
-use Rattle.machine_replay.proofs.Steps.{state-of}
-use Rattle.machine_replay.proofs.step.begin.Statement.{statement}
+use Rattle.machine_replay.specs.{Replaying.starting, Replaying.asks, Standing.stateOf}
+use Rattle.machine_replay.proofs.{Places.text-starting, Steps.state-of, step.begin.Statement.statement}
 use Rattle.machine_replay.proofs.step.begin.Tie as tie
 
 returns : tie.Need-returns

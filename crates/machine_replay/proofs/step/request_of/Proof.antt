@@ -1,17 +1,10 @@
 -- `machine_replay::step::request_of` meets its contract.
 -- Assumes nothing.
-use borrow.Author.Needs.{needs}
-use mathlib.Core.Path.{refl, sym, _∙_, ap}
-use Prim.Native.Nat.{ℕ, _-_}
-use native.Mathlib.Omega.{arith}
-use borrow.Author.Tests.{not-true, not-false}
-use Rattle.machines.specs.Machines.{Read}
-use Rattle.machines.specs.Forms.{requestOf, Placed, GoesTo}
-use Rattle.machine_replay.specs.Replaying.{asks}
-use Rattle.machine_replay.specs.Standing.{Holds}
+use Rattle.laws.specs.Basics.{refl, sym, _∙_, ap, ℕ, _-_, arith, needs, not-true, not-false}
+use Rattle.machines.specs.{Machines.Read, Forms.requestOf, Forms.Placed, Forms.GoesTo}
+use Rattle.machine_replay.specs.{Replaying.asks, Standing.Holds}
 use Rattle.machine_replay.proofs.Places.{in-lists, enough-input, outside-stopped, is-starting, is-counted, is-opening, is-reading, is-printing, is-ending, is-failing, is-stopped}
-use Rattle.machine_replay.proofs.Starts.{most-same}
-use Rattle.machine_replay.proofs.step.request_of.Statement.{statement}
+use Rattle.machine_replay.proofs.{Starts.most-same, step.request_of.Statement.statement}
 use Rattle.machine_replay.proofs.step.request_of.Tie as tie
 
 -- Where the numbers lie inside.

@@ -1,7 +1,6 @@
 -- `machine_replay::step::step` meets its contract.
 -- Assumes nothing.
-use borrow.Author.Needs.{needs}
-use mathlib.Core.Bool.{false≢true}
+use Rattle.laws.specs.Basics.{false≢true, needs}
 use Rattle.machine_replay.proofs.step.step.Statement.{statement}
 use Rattle.machine_replay.proofs.step.step.Tie as tie
 

@@ -1,14 +1,10 @@
 -- `machine_replay::step::step_from` meets its contract.
 -- Assumes nothing.
-use borrow.Author.Needs.{needs}
-use mathlib.Core.Path.{_≡_, refl, sym, _∙_}
-use native.Mathlib.Omega.{arith}
-use borrow.Author.Tests.{not-true, not-false}
+use Rattle.laws.specs.Basics.{_≡_, refl, sym, _∙_, arith, needs, not-true, not-false}
 use Rattle.machine_replay.specs.declared.place.Place.{Place}
 use Rattle.machine_replay.specs.Standing.{Holds, stateIn, stateOf}
-use Rattle.machine_replay.proofs.Places.{narrow-stopped, outside-stopped}
+use Rattle.machine_replay.proofs.{Places.narrow-stopped, Places.outside-stopped, step.step_from.Statement.statement}
 use Rattle.machine_replay.proofs.Steps.{state-of, stepped-there, asks-there, too-short, stays, asks-stop}
-use Rattle.machine_replay.proofs.step.step_from.Statement.{statement}
 use Rattle.machine_replay.proofs.step.step_from.Tie as tie
 
 -- Where a state stands in the lists.

@@ -1,8 +1,7 @@
 -- `machine_replay::step::step_reached` meets its contract.
 -- Assumes nothing.
-use borrow.Author.Needs.{needs}
-use Rattle.machine_replay.proofs.Steps.{from-start-on}
-use Rattle.machine_replay.proofs.step.step_reached.Statement.{statement}
+use Rattle.laws.specs.Basics.{needs}
+use Rattle.machine_replay.proofs.{Steps.from-start-on, step.step_reached.Statement.statement}
 use Rattle.machine_replay.proofs.step.step_reached.Tie as tie
 
 returns : tie.Need-returns

@@ -1,9 +1,7 @@
 -- `machine_simulate::print::write_field` meets its contract.
 -- Assumes nothing.
-use borrow.Author.Needs.{needs}
-use native.Mathlib.Omega.{arith}
-use Rattle.listing.proofs.Bounds.{twenty-digits}
-use Rattle.listing.proofs.Texts.{then}
+use Rattle.laws.specs.Basics.{arith, needs}
+use Rattle.listing.proofs.{Bounds.twenty-digits, Texts.then}
 use Rattle.machine_simulate.proofs.print.write_field.Statement.{statement}
 use Rattle.machine_simulate.proofs.print.write_field.Tie as tie
 

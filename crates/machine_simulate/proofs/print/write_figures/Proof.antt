@@ -1,9 +1,6 @@
 -- `machine_simulate::print::write_figures` meets its contract: its five lines stand one after the other.
 -- Assumes nothing.
-use borrow.Author.Needs.{needs}
-use Prim.Native.Nat.{_≤_}
-use native.Mathlib.Omega.{arith}
-use lib.ListN.{length}
+use Rattle.laws.specs.Basics.{_≤_, arith, length, needs}
 use Rattle.listing.proofs.Texts.{then}
 use Rattle.machine_simulate.specs.Text.{longestText, figuresText}
 use Rattle.machine_simulate.proofs.print.write_figures.Statement.{statement}

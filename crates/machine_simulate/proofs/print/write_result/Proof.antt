@@ -1,7 +1,6 @@
 -- `machine_simulate::print::write_result` meets its contract, by the answer.
 -- Assumes nothing.
-use borrow.Author.Needs.{needs}
-use native.Mathlib.Omega.{arith}
+use Rattle.laws.specs.Basics.{arith, needs}
 use Rattle.machine_simulate.specs.Text.{figuresText, answerText, resultText}
 use Rattle.machine_simulate.proofs.print.write_result.Statement.{statement}
 use Rattle.machine_simulate.proofs.print.write_result.Tie as tie

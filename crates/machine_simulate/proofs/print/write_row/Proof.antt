@@ -1,11 +1,7 @@
 -- `machine_simulate::print::write_row` meets its contract: its seven texts stand one after the other.
 -- Assumes nothing.
-use borrow.Author.Needs.{needs}
-use Prim.Native.Nat.{_≤_}
-use native.Mathlib.Omega.{arith}
-use lib.ListN.{length}
-use Rattle.listing.proofs.Bounds.{twenty-digits}
-use Rattle.listing.proofs.Texts.{then}
+use Rattle.laws.specs.Basics.{_≤_, arith, length, needs}
+use Rattle.listing.proofs.{Bounds.twenty-digits, Texts.then}
 use Rattle.machine_simulate.specs.Text.{longestText, rowText}
 use Rattle.machine_simulate.proofs.print.write_row.Statement.{statement}
 use Rattle.machine_simulate.proofs.print.write_row.Tie as tie

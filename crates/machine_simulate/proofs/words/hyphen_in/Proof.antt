@@ -1,11 +1,7 @@
 -- `machine_simulate::words::hyphen_in` meets its contract. The loop's invariant: the first hyphen of the bytes passed.
 -- Assumes nothing.
-use mathlib.Core.Path.{_≡_}
-use Prim.Native.Nat.{_-_, _≤_}
-use native.Mathlib.Omega.{arith}
-use lib.ListN.{length, getD}
+use Rattle.laws.specs.Basics.{_≡_, _-_, _≤_, arith, length, getD, needs}
 use denote.Ref.{now}
-use borrow.Author.Needs.{needs}
 use Rattle.laws.specs.Loops.{iter, iter-none, iter-more}
 use Rattle.machine_simulate.specs.Arguments.{hyphenOr, hyphenIn}
 use Rattle.machine_simulate.proofs.words.hyphen_in.Statement.{statement}

@@ -1,8 +1,7 @@
 -- `machine_simulate::words::hyphen_or` meets its contract.
 -- Assumes nothing.
-use borrow.Author.Needs.{needs}
-use Rattle.machine_simulate.proofs.Numbers.{hyphen-known, hyphen-here, no-hyphen}
-use Rattle.machine_simulate.proofs.words.hyphen_or.Statement.{statement}
+use Rattle.laws.specs.Basics.{needs}
+use Rattle.machine_simulate.proofs.{Numbers.hyphen-known, Numbers.hyphen-here, Numbers.no-hyphen, words.hyphen_or.Statement.statement}
 use Rattle.machine_simulate.proofs.words.hyphen_or.Tie as tie
 
 returns : tie.Need-returns

@@ -1,6 +1,6 @@
 -- `machine_simulate::words::is_refused` meets its contract.
 -- Assumes nothing.
-use borrow.Author.Needs.{needs}
+use Rattle.laws.specs.Basics.{needs}
 use Rattle.machine_simulate.specs.Arguments.{isRefused}
 use Rattle.machine_simulate.proofs.words.is_refused.Statement.{statement}
 use Rattle.machine_simulate.proofs.words.is_refused.Tie as tie

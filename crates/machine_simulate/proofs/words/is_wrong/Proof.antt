@@ -1,6 +1,6 @@
 -- `machine_simulate::words::is_wrong` meets its contract.
 -- Assumes nothing.
-use borrow.Author.Needs.{needs}
+use Rattle.laws.specs.Basics.{needs}
 use Rattle.machine_simulate.specs.Arguments.{isWrong}
 use Rattle.machine_simulate.proofs.words.is_wrong.Statement.{statement}
 use Rattle.machine_simulate.proofs.words.is_wrong.Tie as tie

@@ -1,15 +1,10 @@
 -- `machine_simulate::words::spacings_in` meets its contract.
 -- Assumes nothing.
-use borrow.Author.Needs.{needs}
+use Rattle.laws.specs.Basics.{sym, _∙_, ap, _+_, _-_, arith, length, drop, length-drop, length-take-le, needs}
 use denote.Ref.{now}
-use mathlib.Core.Path.{sym, _∙_, ap}
-use Prim.Native.Nat.{_+_, _-_}
-use native.Mathlib.Omega.{arith}
-use lib.ListN.{length, drop, length-drop}
-use lib.Seq.{length-take-le, take-all}
+use lib.Seq.{take-all}
 use Rattle.machines.specs.programs.Numbers.{numberIn}
-use Rattle.machine_simulate.proofs.Numbers.{one-spacing, two-spacings}
-use Rattle.machine_simulate.proofs.words.spacings_in.Statement.{statement}
+use Rattle.machine_simulate.proofs.{Numbers.one-spacing, Numbers.two-spacings, words.spacings_in.Statement.statement}
 use Rattle.machine_simulate.proofs.words.spacings_in.Tie as tie
 
 slice-aggregate-number-in : tie.Need-slice-aggregate-number-in

@@ -1,7 +1,7 @@
 -- `machine_simulate::words::with_word` meets its contract.
 -- Assumes nothing.
+use Rattle.laws.specs.Basics.{needs}
 use Rattle.machine_simulate.proofs.Numbers.{word-first, word-second, word-third, word-fourth}
-use borrow.Author.Needs.{needs}
 use Rattle.machine_simulate.proofs.words.with_word.Statement.{statement}
 use Rattle.machine_simulate.proofs.words.with_word.Tie as tie
 

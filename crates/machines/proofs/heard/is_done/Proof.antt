@@ -1,6 +1,6 @@
 -- `machines::heard::is_done` meets its contract, by the kind of the answer.
 -- Assumes nothing.
-use borrow.Author.Needs.{needs}
+use Rattle.laws.specs.Basics.{needs}
 use Rattle.machines.proofs.Hearing.{done-number, done-bytes, done-end, done-done, done-failed}
 use Rattle.machines.proofs.heard.is_done.Statement.{statement}
 use Rattle.machines.proofs.heard.is_done.Tie as tie

@@ -1,6 +1,6 @@
 -- `machines::heard::is_number` meets its contract, by the kind of the answer.
 -- Assumes nothing.
-use borrow.Author.Needs.{needs}
+use Rattle.laws.specs.Basics.{needs}
 use Rattle.machines.proofs.Hearing.{number-number, number-bytes, number-end, number-done, number-failed}
 use Rattle.machines.proofs.heard.is_number.Statement.{statement}
 use Rattle.machines.proofs.heard.is_number.Tie as tie

@@ -1,6 +1,6 @@
 -- `machines::heard::read` meets its contract, by the kind of the answer.
 -- Assumes nothing.
-use borrow.Author.Needs.{needs}
+use Rattle.laws.specs.Basics.{needs}
 use Rattle.machines.proofs.Hearing.{read-number, read-end, read-done, read-failed, read-few, read-many, read-some}
 use Rattle.machines.proofs.heard.read.Statement.{statement}
 use Rattle.machines.proofs.heard.read.Tie as tie

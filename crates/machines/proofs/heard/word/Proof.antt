@@ -1,6 +1,6 @@
 -- `machines::heard::word` meets its contract, by the kind of the answer.
 -- Assumes nothing.
-use borrow.Author.Needs.{needs}
+use Rattle.laws.specs.Basics.{needs}
 use Rattle.machines.proofs.Hearing.{word-number, word-end, word-done, word-failed, word-many, word-some}
 use Rattle.machines.proofs.heard.word.Statement.{statement}
 use Rattle.machines.proofs.heard.word.Tie as tie

@@ -1,10 +1,9 @@
 -- `machines::packed::pack` meets its contract, by the kind of the request.
 -- Assumes nothing.
 use Rattle.machines.specs.declared.Request.the-variants as request
+use Rattle.laws.specs.Basics.{needs}
 use Rattle.machines.specs.Packed.{packed}
-use Rattle.machines.proofs.Places.{packs-as}
-use borrow.Author.Needs.{needs}
-use Rattle.machines.proofs.packed.pack.Statement.{statement}
+use Rattle.machines.proofs.{Places.packs-as, packed.pack.Statement.statement}
 use Rattle.machines.proofs.packed.pack.Tie as tie
 
 returns : tie.Need-returns

@@ -1,9 +1,7 @@
 -- `machines::packed::put_four` meets its contract.
 -- Assumes nothing.
+use Rattle.laws.specs.Basics.{arith, set, length-set, needs}
 use denote.Ref.{now}
-use native.Mathlib.Omega.{arith}
-use lib.ListN.{set, length-set}
-use borrow.Author.Needs.{needs}
 use Rattle.machines.proofs.packed.put_four.Statement.{statement}
 use Rattle.machines.proofs.packed.put_four.Tie as tie
 

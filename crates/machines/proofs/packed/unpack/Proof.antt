@@ -1,6 +1,6 @@
 -- `machines::packed::unpack` meets its contract, by its tests.
 -- Assumes nothing.
-use borrow.Author.Tests.{eq-eqb, ne-eqb}
+use Rattle.laws.specs.Basics.{eq-eqb, ne-eqb}
 use Rattle.machines.specs.Packed.{unpacked}
 use Rattle.machines.proofs.packed.unpack.Statement.{statement}
 use Rattle.machines.proofs.packed.unpack.Tie as tie

@@ -1,9 +1,8 @@
 -- `machines::system::argument` meets its contract: the call changes nothing around the place that it is given.
 -- Assumes nothing.
+use Rattle.laws.specs.Basics.{needs}
 use denote.Ref.{now}
-use Rattle.machines.proofs.Places.{around-put}
-use borrow.Author.Needs.{needs}
-use Rattle.machines.proofs.system.argument.Statement.{statement}
+use Rattle.machines.proofs.{Places.around-put, system.argument.Statement.statement}
 use Rattle.machines.proofs.system.argument.Tie as tie
 
 returns : tie.Need-returns

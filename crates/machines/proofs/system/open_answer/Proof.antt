@@ -1,9 +1,8 @@
 -- `machines::system::open_answer` meets its contract, by its test.
 -- Assumes nothing.
-use mathlib.Core.Path.{refl}
+use Rattle.laws.specs.Basics.{refl}
 use mir.Facts.{toZ-ofZ}
-use Rattle.machines.proofs.Hearing.{open-below, open-done, no-failure}
-use Rattle.machines.proofs.system.open_answer.Statement.{statement}
+use Rattle.machines.proofs.{Hearing.open-below, Hearing.open-done, Hearing.no-failure, system.open_answer.Statement.statement}
 use Rattle.machines.proofs.system.open_answer.Tie as tie
 
 returns : tie.Need-returns

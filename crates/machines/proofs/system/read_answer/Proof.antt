@@ -1,8 +1,7 @@
 -- `machines::system::read_answer` meets its contract, by its tests.
 -- Assumes nothing.
 use mir.Facts.{toZ-ofZ}
-use Rattle.machines.proofs.Hearing.{read-below, read-nothing, read-bytes}
-use Rattle.machines.proofs.system.read_answer.Statement.{statement}
+use Rattle.machines.proofs.{Hearing.read-below, Hearing.read-nothing, Hearing.read-bytes, system.read_answer.Statement.statement}
 use Rattle.machines.proofs.system.read_answer.Tie as tie
 
 returns : tie.Need-returns

@@ -1,9 +1,7 @@
 -- `machines::system::say` is safe.
 -- Assumes nothing.
-use borrow.Author.Needs.{needs}
-use mathlib.Core.Path.{sym}
+use Rattle.laws.specs.Basics.{sym, length-take-le, needs}
 use denote.Ref.{now}
-use lib.Seq.{length-take-le}
 use Rattle.machines.proofs.system.say.Statement.{statement}
 use Rattle.machines.proofs.system.say.Tie as tie
 

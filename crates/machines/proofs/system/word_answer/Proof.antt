@@ -1,7 +1,6 @@
 -- `machines::system::word_answer` meets its contract, by its test.
 -- Assumes nothing.
-use Rattle.machines.proofs.Hearing.{word-whole, word-error}
-use Rattle.machines.proofs.system.word_answer.Statement.{statement}
+use Rattle.machines.proofs.{Hearing.word-whole, Hearing.word-error, system.word_answer.Statement.statement}
 use Rattle.machines.proofs.system.word_answer.Tie as tie
 
 returns : tie.Need-returns

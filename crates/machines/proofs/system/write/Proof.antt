@@ -1,9 +1,7 @@
 -- `machines::system::write` is safe.
 -- Assumes nothing.
-use mathlib.Core.Path.{sym}
+use Rattle.laws.specs.Basics.{sym, length-take-le, needs}
 use denote.Ref.{now}
-use lib.Seq.{length-take-le}
-use borrow.Author.Needs.{needs}
 use Rattle.machines.proofs.system.write.Statement.{statement}
 use Rattle.machines.proofs.system.write.Tie as tie
 

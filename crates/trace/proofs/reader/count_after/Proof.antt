@@ -1,11 +1,6 @@
 -- `trace::reader::count_after` meets its contract: the callee's answer is the definition's test.
 -- Assumes nothing.
-use mathlib.Core.Path.{sym, _∙_}
-use Prim.Native.Nat.{_+_, _*_}
-use native.Mathlib.Omega.{arith}
-use lib.ListN.{length}
-use borrow.Author.Tests.{leb-true}
-use borrow.Author.Needs.{needs}
+use Rattle.laws.specs.Basics.{sym, _∙_, _+_, _*_, arith, length, needs, leb-true}
 use denote.Ref.{now}
 use Rattle.trace.specs.reader.Reading.{recordLeft, takenAfter}
 use Rattle.trace.proofs.reader.count_after.Statement.{statement}

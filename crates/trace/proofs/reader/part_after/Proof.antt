@@ -1,13 +1,10 @@
 -- `trace::reader::part_after` meets its contract: below a fourth of the length the record's place is the callee's to judge; from there on no whole
 -- record has room after the first byte.
 -- Assumes nothing.
-use lib.ListN.{length}
-use borrow.Author.Needs.{needs}
+use Rattle.laws.specs.Basics.{length, needs}
 use denote.Ref.{now}
-use Rattle.trace.specs.Answers.{recordAt}
-use Rattle.trace.specs.reader.Reading.{recordAfter}
-use Rattle.trace.proofs.reader.Room.{no-room}
-use Rattle.trace.proofs.reader.part_after.Statement.{statement}
+use Rattle.trace.specs.{Answers.recordAt, reader.Reading.recordAfter}
+use Rattle.trace.proofs.{reader.Room.no-room, reader.part_after.Statement.statement}
 use Rattle.trace.proofs.reader.part_after.Tie as tie
 
 returns-2 : tie.Need-returns-2

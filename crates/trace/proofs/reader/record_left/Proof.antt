@@ -1,13 +1,10 @@
 -- `trace::reader::record_left` meets its contract: below a fourth of the length the bytes after the records taken are counted; from there on a whole
 -- record and the first byte have no room.
 -- Assumes nothing.
-use mathlib.Core.Path.{sym}
-use lib.ListN.{length}
-use borrow.Author.Needs.{needs}
+use Rattle.laws.specs.Basics.{sym, length, needs}
 use denote.Ref.{now}
 use Rattle.trace.specs.reader.Reading.{recordLeft}
-use Rattle.trace.proofs.reader.Room.{room-counted, no-room}
-use Rattle.trace.proofs.reader.record_left.Statement.{statement}
+use Rattle.trace.proofs.{reader.Room.room-counted, reader.Room.no-room, reader.record_left.Statement.statement}
 use Rattle.trace.proofs.reader.record_left.Tie as tie
 
 returns : tie.Need-returns

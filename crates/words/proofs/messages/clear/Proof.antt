@@ -1,11 +1,7 @@
 -- `words::messages::clear` meets its contract. Assumes nothing.
-use mathlib.Core.Path.{_∙_}
-use native.Mathlib.Omega.{arith}
-use lib.ListN.{length-set}
-use borrow.Author.Needs.{needs}
-use Rattle.words.proofs.Reading.{set-is-put}
+use Rattle.laws.specs.Basics.{_∙_, arith, length-set, needs}
+use Rattle.words.proofs.{Reading.set-is-put, messages.clear.Statement.statement}
 use Rattle.words.specs.messages.Places.{cleared}
-use Rattle.words.proofs.messages.clear.Statement.{statement}
 use Rattle.words.proofs.messages.clear.Tie as tie
 
 pub clear-spec : {M : Type 1} → statement M

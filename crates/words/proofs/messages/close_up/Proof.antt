@@ -1,16 +1,7 @@
 -- `words::messages::close_up` meets its contract. Assumes nothing.
-use Prim.Native.Nat.{ℕ, _≤_, _-_}
-use mathlib.Core.Path.{_≡_, refl, sym, _∙_, ap}
-use mathlib.Core.List.{List, [], _∷_}
-use native.Mathlib.Omega.{arith}
-use lib.ListN.{length, set, length-set}
-use borrow.Author.Needs.{needs}
-use Rattle.words.specs.Layout.{stateSize}
-use Rattle.words.specs.Puts.{puts, one}
-use Rattle.words.proofs.Reading.{set-is-put}
-use Rattle.words.specs.messages.Places.{closing, clearedFrom, closedUp}
-use Rattle.words.proofs.messages.Closed.{closing-closed}
-use Rattle.words.proofs.messages.close_up.Statement.{statement}
+use Rattle.laws.specs.Basics.{_≡_, refl, sym, _∙_, ap, List, [], _∷_, ℕ, _-_, _≤_, arith, length, set, length-set, needs}
+use Rattle.words.specs.{Layout.stateSize, Puts.puts, Puts.one, messages.Places.closing, messages.Places.clearedFrom, messages.Places.closedUp}
+use Rattle.words.proofs.{Reading.set-is-put, messages.Closed.closing-closed, messages.close_up.Statement.statement}
 use Rattle.words.proofs.messages.close_up.Tie as tie
 
 closed-by : (w : List ℕ) (k m : ℕ) → k ≡ m → set (clearedFrom w k (64 - k)) 12 k ≡ puts (clearedFrom w m (64 - m)) (one 12 m ∷ [])

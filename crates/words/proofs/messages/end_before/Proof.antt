@@ -1,12 +1,6 @@
 -- `words::messages::end_before` meets its contract. Assumes nothing.
-use Prim.Native.Nat.{ℕ, zero, suc, _≤_, _<_, _-_}
-use mathlib.Core.Path.{_≡_, refl, sym, _∙_, ap}
-use mathlib.Core.Bool.{true, false}
-use mathlib.Core.List.{List}
-use native.Mathlib.Omega.{arith}
-use borrow.Author.Needs.{needs}
-use Rattle.words.specs.Layout.{messageIn, isMessage}
-use Rattle.words.specs.messages.Places.{endBelow}
+use Rattle.laws.specs.Basics.{_≡_, refl, sym, _∙_, ap, true, false, List, ℕ, zero, suc, _-_, _≤_, _<_, arith, needs}
+use Rattle.words.specs.{Layout.messageIn, Layout.isMessage, messages.Places.endBelow}
 use Rattle.words.proofs.messages.end_before.Statement.{statement}
 use Rattle.words.proofs.messages.end_before.Tie as tie
 

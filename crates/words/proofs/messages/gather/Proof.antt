@@ -1,13 +1,6 @@
 -- `words::messages::gather` meets its contract. Assumes nothing.
-use Prim.Native.Nat.{ℕ, zero, suc, _≤_, _<_, _-_, _+_}
-use mathlib.Core.Path.{_≡_, refl, sym, _∙_, ap}
-use mathlib.Core.Bool.{true, false}
-use mathlib.Core.List.{List}
+use Rattle.laws.specs.Basics.{_≡_, refl, sym, _∙_, ap, true, false, List, ℕ, zero, suc, _+_, _-_, _≤_, _<_, arith, length, needs, pick, by-bool}
 use native.Mathlib.Numerals.{add-one}
-use native.Mathlib.Omega.{arith}
-use lib.ListN.{length}
-use borrow.Author.Needs.{needs}
-use Rattle.laws.specs.Choice.{pick, by-bool}
 use Rattle.words.specs.Layout.{messageIn, isMessage}
 use Rattle.words.specs.messages.Places.{Closing, movedTo, closeStep, closing}
 use Rattle.words.proofs.messages.gather.Statement.{statement}

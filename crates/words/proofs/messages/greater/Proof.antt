@@ -1,6 +1,5 @@
 -- `words::messages::greater` meets its contract. Assumes nothing.
-use mathlib.Core.Path.{refl}
-use borrow.Author.Tests.{lt-ltb, le-ltb}
+use Rattle.laws.specs.Basics.{refl, lt-ltb, le-ltb}
 use Rattle.words.proofs.messages.greater.Statement.{statement}
 use Rattle.words.proofs.messages.greater.Tie as tie
 

@@ -1,6 +1,5 @@
 -- `words::messages::hit` meets its contract. Assumes nothing.
-use mathlib.Core.Path.{refl}
-use borrow.Author.Needs.{needs}
+use Rattle.laws.specs.Basics.{refl, needs}
 use Rattle.words.proofs.messages.hit.Statement.{statement}
 use Rattle.words.proofs.messages.hit.Tie as tie
 

@@ -1,9 +1,6 @@
 -- `words::messages::make_room` meets its contract. Assumes nothing.
-use mathlib.Core.Path.{_≡_, refl, sym, _∙_, ap}
-use borrow.Author.Needs.{needs}
-use borrow.Author.Tests.{eq-eqb, ne-eqb}
-use Rattle.words.specs.Layout.{endOf}
-use Rattle.words.specs.messages.Places.{withRoom}
+use Rattle.laws.specs.Basics.{_≡_, refl, sym, _∙_, ap, needs, eq-eqb, ne-eqb}
+use Rattle.words.specs.{Layout.endOf, messages.Places.withRoom}
 use Rattle.words.proofs.messages.make_room.Statement.{statement}
 use Rattle.words.proofs.messages.make_room.Tie as tie
 

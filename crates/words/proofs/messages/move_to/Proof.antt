@@ -1,16 +1,9 @@
 -- `words::messages::move_to` meets its contract. Assumes nothing.
-use mathlib.Core.Path.{_≡_, refl, sym, _∙_, ap}
-use mathlib.Core.List.{List}
-use Prim.Native.Nat.{ℕ}
-use native.Mathlib.Omega.{arith}
-use lib.ListN.{length-set}
-use borrow.Author.Needs.{needs}
+use Rattle.laws.specs.Basics.{_≡_, refl, sym, _∙_, ap, List, ℕ, arith, length-set, needs}
 use Rattle.model.specs.declared.Interval.{Interval}
-use Rattle.words.specs.Layout.{word, senderAt, receiverAt, carriedAt, vectorIn, messageIn}
-use Rattle.words.specs.Puts.{puts}
-use Rattle.words.proofs.Reading.{set-is-put}
+use Rattle.words.specs.{Layout.word, Layout.senderAt, Layout.receiverAt, Layout.carriedAt, Layout.vectorIn, Layout.messageIn, Puts.puts}
+use Rattle.words.proofs.{Reading.set-is-put, messages.move_to.Statement.statement}
 use Rattle.words.specs.messages.Places.{messagePuts, movedTo}
-use Rattle.words.proofs.messages.move_to.Statement.{statement}
 use Rattle.words.proofs.messages.move_to.Tie as tie
 
 -- What was read is the message that stands there.

@@ -1,8 +1,5 @@
 -- `words::messages::number_at` meets its contract. Assumes nothing.
-use Prim.Native.Nat.{_+_, _*_}
-use mathlib.Core.Path.{_≡_, refl}
-use native.Mathlib.Omega.{arith}
-use borrow.Author.Needs.{needs}
+use Rattle.laws.specs.Basics.{_≡_, refl, _+_, _*_, arith, needs}
 use Rattle.words.specs.Layout.{messageIn}
 use Rattle.words.proofs.messages.number_at.Statement.{statement}
 use Rattle.words.proofs.messages.number_at.Tie as tie

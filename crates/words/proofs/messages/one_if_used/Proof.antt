@@ -1,6 +1,5 @@
 -- `words::messages::one_if_used` meets its contract. Assumes nothing.
-use mathlib.Core.Path.{refl, sym, _∙_}
-use borrow.Author.Needs.{needs}
+use Rattle.laws.specs.Basics.{refl, sym, _∙_, needs}
 use Rattle.words.proofs.messages.one_if_used.Statement.{statement}
 use Rattle.words.proofs.messages.one_if_used.Tie as tie
 

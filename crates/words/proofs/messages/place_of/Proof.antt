@@ -1,16 +1,7 @@
 -- `words::messages::place_of` meets its contract. Assumes nothing.
-use Prim.Native.Nat.{ℕ, zero, suc, _≤_, _<_, _-_, _+_, _*_, _/_, _%_}
-use mathlib.Core.Path.{_≡_, refl, sym, _∙_, ap}
-use mathlib.Core.Bool.{Bool, true, false, _&&_}
-use mathlib.Core.List.{List}
+use Rattle.laws.specs.Basics.{_≡_, refl, sym, _∙_, ap, Bool, true, false, _&&_, List, ℕ, zero, suc, _+_, _-_, _*_, _/_, _%_, _≤_, _<_, arith, eqb, ltb, needs, eq-eqb, ne-eqb, eqb-true, lt-ltb, le-ltb, pick, by-bool}
 use native.Mathlib.Numerals.{add-one}
-use native.Mathlib.Omega.{arith}
-use lib.Dec.{eqb, ltb}
-use borrow.Author.Needs.{needs}
-use borrow.Author.Tests.{eq-eqb, ne-eqb, eqb-true, lt-ltb, le-ltb}
-use Rattle.laws.specs.Choice.{pick, by-bool}
-use Rattle.laws.specs.Elements.{same-test}
-use Rattle.laws.specs.Truth.{and-out, and-both}
+use Rattle.laws.specs.{Elements.same-test, Truth.and-out, Truth.and-both}
 use Rattle.words.specs.Layout.{word, endOf, lowAt, highAt, messageIn}
 use Rattle.words.specs.declared.messages.Found.the-variants.{At}
 use Rattle.words.specs.messages.Places.{placeBelow, placeOf, foundAt}

@@ -1,10 +1,6 @@
 -- `words::messages::put` meets its contract. Assumes nothing.
-use mathlib.Core.Path.{_∙_}
-use native.Mathlib.Omega.{arith}
-use lib.ListN.{length-set}
-use borrow.Author.Needs.{needs}
-use Rattle.words.proofs.Reading.{set-is-put}
-use Rattle.words.proofs.messages.put.Statement.{statement}
+use Rattle.laws.specs.Basics.{_∙_, arith, length-set, needs}
+use Rattle.words.proofs.{Reading.set-is-put, messages.put.Statement.statement}
 use Rattle.words.proofs.messages.put.Tie as tie
 
 pub put-spec : {M : Type 1} → statement M

@@ -1,11 +1,7 @@
 -- `words::messages::put_last` meets its contract. Assumes nothing.
-use mathlib.Core.Path.{_≡_, refl, sym, _∙_, ap}
-use native.Mathlib.Omega.{arith}
-use lib.ListN.{length-set}
-use borrow.Author.Needs.{needs}
-use Rattle.words.proofs.Reading.{set-is-put}
+use Rattle.laws.specs.Basics.{_≡_, refl, sym, _∙_, ap, arith, length-set, needs}
+use Rattle.words.proofs.{Reading.set-is-put, messages.put_last.Statement.statement}
 use Rattle.words.specs.messages.Places.{putLast}
-use Rattle.words.proofs.messages.put_last.Statement.{statement}
 use Rattle.words.proofs.messages.put_last.Tie as tie
 
 pub put-last-spec : {M : Type 1} → statement M

@@ -1,15 +1,7 @@
 -- `words::messages::take_out` meets its contract. Assumes nothing.
-use Prim.Native.Nat.{ℕ, _≤_, _<_, _-_}
-use mathlib.Core.Path.{_≡_, refl, sym, _∙_, ap}
-use native.Mathlib.Omega.{arith}
-use mathlib.Core.List.{List}
-use lib.ListN.{getD, set, length-set}
-use borrow.Author.Needs.{needs}
-use Rattle.words.specs.Layout.{word, endOf}
-use Rattle.words.proofs.Reading.{set-is-put}
-use Rattle.words.specs.messages.Places.{endBelow, cleared, takenOut}
-use Rattle.words.proofs.messages.Selected.{end-under}
-use Rattle.words.proofs.messages.take_out.Statement.{statement}
+use Rattle.laws.specs.Basics.{_≡_, refl, sym, _∙_, ap, List, ℕ, _-_, _≤_, _<_, arith, getD, set, length-set, needs}
+use Rattle.words.specs.{Layout.word, Layout.endOf, messages.Places.endBelow, messages.Places.cleared, messages.Places.takenOut}
+use Rattle.words.proofs.{Reading.set-is-put, messages.Selected.end-under, messages.take_out.Statement.statement}
 use Rattle.words.proofs.messages.take_out.Tie as tie
 
 taken-by : (w u : List ℕ) (k e : ℕ) → u ≡ cleared w k → e ≡ endBelow u (endOf w) → set (set u 1 (word w 1 - 1)) 12 e ≡ takenOut w k

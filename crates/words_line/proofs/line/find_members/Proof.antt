@@ -1,18 +1,9 @@
 -- `words_line::line::find_members` meets its contract. The loop's invariant: the places of the members of the processes passed so far, and whether each has one.
 -- Assumes nothing.
-use Prim.Native.Nat.{ℕ, _≤_, _-_}
-use mathlib.Core.Path.{_≡_, ap, _∙_}
-use mathlib.Core.Bool.{not}
-use native.Mathlib.Omega.{arith}
-use lib.Dec.{eqb}
-use lib.ListN.{length}
-use borrow.Author.Needs.{needs}
-use Rattle.laws.specs.Below.{all-and}
-use Rattle.laws.specs.Loops.{setBelow, below-none, below-length, step-set, all-zero}
-use Rattle.laws.specs.Search.{allBelow}
+use Rattle.laws.specs.Basics.{_≡_, _∙_, ap, not, ℕ, _-_, _≤_, arith, eqb, length, needs}
+use Rattle.laws.specs.{Below.all-and, Loops.setBelow, Loops.below-none, Loops.below-length, Loops.step-set, Loops.all-zero, Search.allBelow}
 use Rattle.words_line.specs.Line.{pastLatest, hasMembers, pastsIn}
-use Rattle.words_line.proofs.LineRule.{past-most}
-use Rattle.words_line.proofs.line.find_members.Statement.{statement}
+use Rattle.words_line.proofs.{LineRule.past-most, line.find_members.Statement.statement}
 use Rattle.words_line.proofs.line.find_members.Tie as tie
 
 abbrev Inv-loop : tie.InvT-loop

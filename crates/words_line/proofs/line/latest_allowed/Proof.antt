@@ -1,6 +1,5 @@
 -- `words_line::line::latest_allowed` meets its contract, by whether the live state is within the limits. Assumes nothing.
-use mathlib.Core.Path.{_≡_, sym, ap, _∙_}
-use borrow.Author.Needs.{needs}
+use Rattle.laws.specs.Basics.{_≡_, sym, _∙_, ap, needs}
 use Rattle.words.specs.Layout.{partAt, vectorIn}
 use Rattle.words_line.specs.Line.{isWithin, pastLatest}
 use Rattle.words_line.proofs.line.latest_allowed.Statement.{statement}

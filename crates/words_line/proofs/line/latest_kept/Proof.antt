@@ -1,11 +1,6 @@
 -- `words_line::line::latest_kept` meets its contract. The loop's invariant: no checkpoint from place `past` on is within the limits.
 -- Assumes nothing.
-use Prim.Native.Nat.{ℕ, zero, suc, _≤_, _<_, _-_}
-use mathlib.Core.Path.{_≡_, refl, sym, _∙_, ap}
-use mathlib.Core.Bool.{true, false}
-use mathlib.Core.List.{List}
-use native.Mathlib.Omega.{arith}
-use borrow.Author.Needs.{needs}
+use Rattle.laws.specs.Basics.{_≡_, refl, sym, _∙_, ap, true, false, List, ℕ, zero, suc, _-_, _≤_, _<_, arith, needs}
 use Rattle.model.specs.declared.Interval.{Interval}
 use Rattle.words.specs.Layout.{storedAt, vectorIn}
 use Rattle.words_line.specs.Line.{isWithin, pastKept}

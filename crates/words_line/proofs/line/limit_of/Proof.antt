@@ -1,5 +1,5 @@
 -- `words_line::line::limit_of` meets its contract. Assumes nothing.
-use borrow.Author.Needs.{needs}
+use Rattle.laws.specs.Basics.{needs}
 use Rattle.words_line.proofs.line.limit_of.Statement.{statement}
 use Rattle.words_line.proofs.line.limit_of.Tie as tie
 

@@ -1,14 +1,7 @@
 -- `words_line::line::limits_of` meets its contract. The loop's invariant: what is left of the failed set is its bits from f on, and the limits passed so far stand.
 -- Assumes nothing.
-use Prim.Native.Nat.{ℕ, _+_, _/_, _%_, _^_, _≤_, _-_}
-use mathlib.Core.Path.{_≡_, ap, _∙_}
-use mathlib.Core.Bool.{Bool}
-use native.Mathlib.Omega.{arith}
-use borrow.Author.Needs.{needs}
-use lib.Dec.{eqb}
-use Rattle.laws.specs.Bits.{bits-all, bits-next}
-use Rattle.laws.specs.Choice.{pick}
-use Rattle.laws.specs.Loops.{setBelow, below-none, step-set}
+use Rattle.laws.specs.Basics.{_≡_, _∙_, ap, Bool, ℕ, _+_, _-_, _/_, _%_, _^_, _≤_, arith, eqb, needs, pick}
+use Rattle.laws.specs.{Bits.bits-all, Bits.bits-next, Loops.setBelow, Loops.below-none, Loops.step-set}
 use Rattle.model.specs.declared.Interval.{Interval}
 use Rattle.words.specs.Layout.{word, partAt}
 use Rattle.words_line.specs.Line.{limitOf, limitsIn}

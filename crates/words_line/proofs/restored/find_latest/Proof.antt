@@ -1,12 +1,7 @@
 -- `words_line::restored::find_latest` meets its contract. The loop's invariant: what is found of the checkpoints passed so far.
 -- Assumes nothing.
-use Prim.Native.Nat.{ℕ, _+_, _≤_, _-_}
-use mathlib.Core.Path.{_≡_, refl, sym, ap, _∙_}
-use mathlib.Core.List.{List}
+use Rattle.laws.specs.Basics.{_≡_, refl, sym, _∙_, ap, List, ℕ, _+_, _-_, _≤_, arith, replicate, needs}
 use native.Mathlib.Numerals.{add-one}
-use native.Mathlib.Omega.{arith}
-use lib.ListN.{replicate}
-use borrow.Author.Needs.{needs}
 use Rattle.model.specs.declared.Interval.{Interval}
 use Rattle.words.specs.Layout.{word, indexAt, storedAt, vectorIn}
 use Rattle.words_line.specs.Restored.{foundRow, foundIn}

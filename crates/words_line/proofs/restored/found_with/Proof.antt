@@ -1,12 +1,6 @@
 -- `words_line::restored::found_with` meets its contract. The loop's invariant: the pins passed so far stand.
 -- Assumes nothing.
-use Prim.Native.Nat.{ℕ, _≤_, _-_}
-use mathlib.Core.Path.{_≡_, refl, _∙_}
-use native.Mathlib.Omega.{arith}
-use lib.Dec.{eqb}
-use lib.ListN.{getD}
-use borrow.Author.Needs.{needs}
-use Rattle.laws.specs.Choice.{pick}
+use Rattle.laws.specs.Basics.{_≡_, refl, _∙_, ℕ, _-_, _≤_, arith, eqb, getD, needs, pick}
 use Rattle.laws.specs.Loops.{setBelow, below-none, step-set, below-all}
 use Rattle.model.specs.Words.{entry, below}
 use Rattle.words_line.specs.Restored.{foundRow}

@@ -1,16 +1,9 @@
 -- `words_line::restored::roll_back` meets its contract. Assumes nothing.
-use mathlib.Core.Path.{_≡_, _∙_, ap}
-use mathlib.Core.List.{List, [], _∷_}
-use Prim.Native.Nat.{ℕ}
-use native.Mathlib.Omega.{arith}
-use borrow.Author.Needs.{needs}
+use Rattle.laws.specs.Basics.{_≡_, _∙_, ap, List, [], _∷_, ℕ, arith, needs}
 use Rattle.model.specs.declared.Interval.{Interval}
-use Rattle.model.specs.Words.{entry}
-use Rattle.model.specs.Steps.{advanced}
-use Rattle.words.specs.Layout.{markAt, partAt, storedAt}
-use Rattle.words.specs.Puts.{putFrom, puts, vectorPut}
-use Rattle.words.proofs.Reading.{set-is-put}
-use Rattle.words.proofs.Same.{vector-word}
+use Rattle.model.specs.{Words.entry, Steps.advanced}
+use Rattle.words.specs.{Layout.markAt, Layout.partAt, Layout.storedAt, Puts.putFrom, Puts.puts, Puts.vectorPut}
+use Rattle.words.proofs.{Reading.set-is-put, Same.vector-word}
 use Rattle.words_line.proofs.restored.roll_back.Statement.{statement}
 use Rattle.words_line.proofs.restored.roll_back.Tie as tie
 

@@ -1,13 +1,6 @@
 -- `words_line::sifted::is_lost` meets its contract. Assumes nothing.
-use mathlib.Core.Path.{_≡_, refl, sym, _∙_, ap}
-use mathlib.Core.List.{List}
-use Prim.Native.Nat.{ℕ, _+_, _<_}
-use native.Mathlib.Omega.{arith}
-use lib.Dec.{ltb}
-use lib.ListN.{getD}
-use borrow.Author.Needs.{needs}
-use Rattle.model.specs.declared.CheckpointIndex.{CheckpointIndex}
-use Rattle.model.specs.declared.Interval.{Interval}
+use Rattle.laws.specs.Basics.{_≡_, refl, sym, _∙_, ap, List, ℕ, _+_, _<_, arith, ltb, getD, needs}
+use Rattle.model.specs.declared.{CheckpointIndex.CheckpointIndex, Interval.Interval}
 use Rattle.words.specs.Layout.{word, senderAt, carriedAt, intervalOf, messageIn}
 use Rattle.words.proofs.Same.{vector-word}
 use Rattle.words_line.specs.Sifted.{lostTo}

@@ -1,19 +1,11 @@
 -- `words_line::sifted::sift` meets its contract. Assumes nothing.
-use mathlib.Core.Path.{_≡_, refl, sym, _∙_, ap}
-use mathlib.Core.List.{List}
-use Prim.Native.Nat.{ℕ, _≤_, _<_}
-use native.Mathlib.Omega.{arith}
-use lib.ListN.{length, set, length-set}
-use borrow.Author.Needs.{needs}
+use Rattle.laws.specs.Basics.{_≡_, refl, sym, _∙_, ap, List, ℕ, _≤_, _<_, arith, length, set, length-set, needs}
 use Rattle.laws.specs.Lists.{select, table}
 use Rattle.model.specs.declared.CheckpointIndex.{CheckpointIndex}
-use Rattle.words.specs.Layout.{stateSize, endOf, messageIn}
-use Rattle.words.proofs.Reading.{set-is-put}
-use Rattle.words.specs.messages.Places.{endBelow}
-use Rattle.words.proofs.messages.Selected.{end-under}
+use Rattle.words.specs.{Layout.stateSize, Layout.endOf, Layout.messageIn, messages.Places.endBelow}
+use Rattle.words.proofs.{Reading.set-is-put, messages.Selected.end-under}
 use Rattle.words_line.specs.Sifted.{remains, siftedBelow, Sifted}
-use Rattle.words_line.proofs.Sifting.{siftedWords, is-sifted}
-use Rattle.words_line.proofs.sifted.sift.Statement.{statement}
+use Rattle.words_line.proofs.{Sifting.siftedWords, Sifting.is-sifted, sifted.sift.Statement.statement}
 use Rattle.words_line.proofs.sifted.sift.Tie as tie
 
 sifted-by : (indexes : List CheckpointIndex) (w u : List ℕ) (left e : ℕ) → length w ≡ stateSize → endOf w ≤ 64 → u ≡ siftedBelow indexes w (endOf w)

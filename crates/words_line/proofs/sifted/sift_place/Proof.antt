@@ -1,14 +1,7 @@
 -- `words_line::sifted::sift_place` meets its contract: the place is not in use, or its message is lost, or it remains. Assumes nothing.
-use mathlib.Core.Path.{_≡_, refl, sym, _∙_, ap}
-use mathlib.Core.Bool.{true, false}
-use mathlib.Core.List.{List}
-use Prim.Native.Nat.{ℕ}
-use borrow.Author.Needs.{needs}
-use borrow.Author.Tests.{not-true, not-false}
-use Rattle.laws.specs.Choice.{pick}
+use Rattle.laws.specs.Basics.{_≡_, refl, sym, _∙_, ap, true, false, List, ℕ, needs, not-true, not-false, pick}
 use Rattle.model.specs.declared.CheckpointIndex.{CheckpointIndex}
-use Rattle.words.specs.Layout.{messageIn, isMessage}
-use Rattle.words.specs.messages.Places.{cleared}
+use Rattle.words.specs.{Layout.messageIn, Layout.isMessage, messages.Places.cleared}
 use Rattle.words_line.specs.Sifted.{lostTo, remains, siftedPlace}
 use Rattle.words_line.proofs.sifted.sift_place.Statement.{statement}
 use Rattle.words_line.proofs.sifted.sift_place.Tie as tie

@@ -1,22 +1,13 @@
 -- `words_line::sifted::sift_places` meets its contract. The loop's invariant: the places passed so far are without the lost messages, and that many are left in them.
 -- Assumes nothing.
-use mathlib.Core.Path.{_≡_, refl, sym, _∙_, ap}
-use mathlib.Core.Bool.{true, false}
-use mathlib.Core.List.{List, [], _∷_}
-use Prim.Native.Nat.{ℕ, _≤_, _<_, _-_, _+_}
+use Rattle.laws.specs.Basics.{_≡_, refl, sym, _∙_, ap, true, false, List, [], _∷_, ℕ, _+_, _-_, _≤_, _<_, arith, length, length-append, needs, pick, by-bool}
 use native.Mathlib.Numerals.{add-one}
-use native.Mathlib.Omega.{arith}
-use lib.ListN.{length, length-append}
-use borrow.Author.Needs.{needs}
-use Rattle.laws.specs.Choice.{pick, by-bool}
 use Rattle.laws.specs.Lists.{select, table}
-use Rattle.model.specs.declared.CheckpointIndex.{CheckpointIndex}
-use Rattle.model.specs.declared.Message.{Message}
+use Rattle.model.specs.declared.{CheckpointIndex.CheckpointIndex, Message.Message}
 use Rattle.words.specs.Layout.{stateSize, word, senderAt, messageIn, isMessage}
 use Rattle.words.proofs.messages.Selected.{select-more, select-less}
 use Rattle.words_line.specs.Sifted.{remains, siftedPlace, siftedBelow, SendersPresent}
-use Rattle.words_line.proofs.Sifting.{sifted-below}
-use Rattle.words_line.proofs.sifted.sift_places.Statement.{statement}
+use Rattle.words_line.proofs.{Sifting.sifted-below, sifted.sift_places.Statement.statement}
 use Rattle.words_line.proofs.sifted.sift_places.Tie as tie
 
 abbrev left-of : List CheckpointIndex → List ℕ → ℕ → ℕ

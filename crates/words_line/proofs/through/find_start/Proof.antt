@@ -1,13 +1,7 @@
 -- `words_line::through::find_start` meets its contract. The loop's invariant: where the vector starts, if one of the checkpoints passed so far is the one.
 -- Assumes nothing.
-use Prim.Native.Nat.{ℕ, _+_, _≤_, _-_}
-use mathlib.Core.Path.{_≡_, refl, sym, _∙_}
-use mathlib.Core.Bool.{true, false}
-use mathlib.Core.List.{List}
+use Rattle.laws.specs.Basics.{_≡_, refl, sym, _∙_, true, false, List, ℕ, _+_, _-_, _≤_, arith, eqb, needs}
 use native.Mathlib.Numerals.{add-one}
-use native.Mathlib.Omega.{arith}
-use lib.Dec.{eqb}
-use borrow.Author.Needs.{needs}
 use Rattle.laws.specs.Loops.{either}
 use Rattle.words.specs.Layout.{word, keptCountAt, indexAt, storedAt}
 use Rattle.words_line.specs.Through.{startOf}

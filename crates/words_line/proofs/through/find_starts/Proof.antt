@@ -1,18 +1,10 @@
 -- `words_line::through::find_starts` meets its contract. The loop's invariant: where the vectors of the pairs passed so far start, and whether each is kept.
 -- Assumes nothing.
-use Prim.Native.Nat.{ℕ, _≤_, _-_}
-use mathlib.Core.Path.{_≡_, ap}
-use mathlib.Core.Bool.{not}
-use native.Mathlib.Omega.{arith}
-use lib.Dec.{eqb}
-use borrow.Author.Needs.{needs}
-use Rattle.laws.specs.Below.{all-and}
-use Rattle.laws.specs.Loops.{setBelow, below-none, step-set, all-zero}
-use Rattle.laws.specs.Search.{allBelow}
+use Rattle.laws.specs.Basics.{_≡_, ap, not, ℕ, _-_, _≤_, arith, eqb, needs}
+use Rattle.laws.specs.{Below.all-and, Loops.setBelow, Loops.below-none, Loops.step-set, Loops.all-zero, Search.allBelow}
 use Rattle.words.specs.Layout.{word, keptCountAt}
 use Rattle.words_line.specs.Through.{processOf, indexOf, startAt, startsIn}
-use Rattle.words_line.proofs.Reaching.{start-most}
-use Rattle.words_line.proofs.through.find_starts.Statement.{statement}
+use Rattle.words_line.proofs.{Reaching.start-most, through.find_starts.Statement.statement}
 use Rattle.words_line.proofs.through.find_starts.Tie as tie
 
 abbrev Inv-loop : tie.InvT-loop

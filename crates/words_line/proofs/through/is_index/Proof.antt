@@ -1,7 +1,5 @@
 -- `words_line::through::is_index` meets its contract. Assumes nothing.
-use mathlib.Core.Path.{ap}
-use lib.Dec.{eqb}
-use borrow.Author.Needs.{needs}
+use Rattle.laws.specs.Basics.{ap, eqb, needs}
 use Rattle.model.specs.declared.CheckpointIndex.{CheckpointIndex}
 use Rattle.words_line.proofs.through.is_index.Statement.{statement}
 use Rattle.words_line.proofs.through.is_index.Tie as tie

@@ -1,14 +1,9 @@
 -- `words_line::through::is_ordered` meets its contract. The loop's invariant: whether a checkpoint passed so far comes before one of the states.
 -- Assumes nothing.
-use Prim.Native.Nat.{ℕ, _≤_, _-_}
-use mathlib.Core.Path.{_≡_}
-use native.Mathlib.Omega.{arith}
-use borrow.Author.Needs.{needs}
-use Rattle.laws.specs.Loops.{any-zero}
-use Rattle.laws.specs.Search.{anyBelow}
+use Rattle.laws.specs.Basics.{_≡_, ℕ, _-_, _≤_, arith, needs}
+use Rattle.laws.specs.{Loops.any-zero, Search.anyBelow}
 use Rattle.words_line.specs.Through.{processOf, indexOf, beforeSome}
-use Rattle.words_line.proofs.Iterations.{any-or}
-use Rattle.words_line.proofs.through.is_ordered.Statement.{statement}
+use Rattle.words_line.proofs.{Iterations.any-or, through.is_ordered.Statement.statement}
 use Rattle.words_line.proofs.through.is_ordered.Tie as tie
 
 abbrev Inv-loop : tie.InvT-loop

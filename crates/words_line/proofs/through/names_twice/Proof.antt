@@ -1,14 +1,9 @@
 -- `words_line::through::names_twice` meets its contract. The loop's invariant: whether a pair passed so far names a process that one before it names.
 -- Assumes nothing.
-use Prim.Native.Nat.{_≤_, _-_}
-use mathlib.Core.Path.{_≡_}
-use native.Mathlib.Omega.{arith}
-use borrow.Author.Needs.{needs}
-use Rattle.laws.specs.Loops.{any-zero}
-use Rattle.laws.specs.Search.{anyBelow}
+use Rattle.laws.specs.Basics.{_≡_, _-_, _≤_, arith, needs}
+use Rattle.laws.specs.{Loops.any-zero, Search.anyBelow}
 use Rattle.words_line.specs.Through.{processOf, amongFirst, twiceIn}
-use Rattle.words_line.proofs.Iterations.{any-or}
-use Rattle.words_line.proofs.through.names_twice.Statement.{statement}
+use Rattle.words_line.proofs.{Iterations.any-or, through.names_twice.Statement.statement}
 use Rattle.words_line.proofs.through.names_twice.Tie as tie
 
 abbrev Inv-loop : tie.InvT-loop

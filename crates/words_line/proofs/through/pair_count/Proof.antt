@@ -1,6 +1,5 @@
 -- `words_line::through::pair_count` meets its contract. Assumes nothing.
-use Prim.Native.Nat.{_%_}
-use borrow.Author.Tests.{eq-eqb, ne-eqb}
+use Rattle.laws.specs.Basics.{_%_, eq-eqb, ne-eqb}
 use Rattle.words_line.specs.Through.{pairCount}
 use Rattle.words_line.proofs.through.pair_count.Statement.{statement}
 use Rattle.words_line.proofs.through.pair_count.Tie as tie

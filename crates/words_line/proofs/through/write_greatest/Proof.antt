@@ -1,12 +1,7 @@
 -- `words_line::through::write_greatest` meets its contract. The loop's invariant: the entries passed so far are written, and nothing else in the lent list has changed.
 -- Assumes nothing.
-use Prim.Native.Nat.{ℕ, _≤_, _-_}
-use mathlib.Core.Path.{_≡_, refl, _∙_}
-use native.Mathlib.Omega.{arith}
-use lib.ListN.{length, length-set}
-use borrow.Author.Needs.{needs}
-use Rattle.laws.specs.Below.{below-written}
-use Rattle.laws.specs.Loops.{setBelow, below-none, step-set}
+use Rattle.laws.specs.Basics.{_≡_, refl, _∙_, ℕ, _-_, _≤_, arith, length, length-set, needs}
+use Rattle.laws.specs.{Below.below-written, Loops.setBelow, Loops.below-none, Loops.step-set}
 use Rattle.words_line.specs.Through.{greatestIn}
 use Rattle.words_line.proofs.through.write_greatest.Statement.{statement}
 use Rattle.words_line.proofs.through.write_greatest.Tie as tie

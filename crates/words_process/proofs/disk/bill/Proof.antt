@@ -1,7 +1,6 @@
 -- `words_process::disk::bill` meets its contract. Assumes nothing.
-use mathlib.Core.Path.{_∙_}
+use Rattle.laws.specs.Basics.{_∙_, needs}
 use Rattle.words.proofs.Frames.{disk-then}
-use borrow.Author.Needs.{needs}
 use Rattle.words_process.proofs.disk.bill.Statement.{statement}
 use Rattle.words_process.proofs.disk.bill.Tie as tie
 

@@ -1,17 +1,9 @@
 -- `words_process::disk::bill_deleted` meets its contract. Assumes nothing.
-use mathlib.Core.Path.{_≡_, refl, _∙_, ap}
-use native.Mathlib.Omega.{arith}
+use Rattle.laws.specs.Basics.{_≡_, refl, _∙_, ap, List, ℕ, _+_, _*_, _≤_, _<_, arith, length, needs}
 use Rattle.words.proofs.Frames.{disk-stays}
-use Rattle.words_process.proofs.Billing.{deleted-only, deleted-is, written-stays}
-use mathlib.Core.List.{List}
-use Prim.Native.Nat.{ℕ, _+_, _*_, _≤_, _<_}
+use Rattle.words_process.proofs.{Billing.deleted-only, Billing.deleted-is, Billing.written-stays, disk.bill_deleted.Statement.statement}
 use native.Mathlib.Nat.{mul-le-mul, zero-mul}
-use lib.ListN.{length}
-use Rattle.words.specs.Frames.{OnlyDisk}
-use Rattle.words.specs.Layout.{wide4}
-use Rattle.words.specs.Puts.{puts, puts4}
-use borrow.Author.Needs.{needs}
-use Rattle.words_process.proofs.disk.bill_deleted.Statement.{statement}
+use Rattle.words.specs.{Frames.OnlyDisk, Layout.wide4, Puts.puts, Puts.puts4}
 use Rattle.words_process.proofs.disk.bill_deleted.Tie as tie
 
 small-product : (gone blocks : ℕ) → gone ≤ 256 → blocks < 65536 → gone * blocks ≤ 16777216

@@ -1,18 +1,8 @@
 -- `words_process::disk::bill_stored` meets its contract. Assumes nothing.
-use mathlib.Core.Path.{_≡_, refl, _∙_, ap}
-use native.Mathlib.Omega.{arith}
+use Rattle.laws.specs.Basics.{_≡_, refl, _∙_, ap, Bool, true, false, List, ℕ, _+_, arith, length, needs, pick}
 use Rattle.words.proofs.Frames.{disk-stays}
-use Rattle.words_process.proofs.Billing.{written-only, written-is, deleted-stays}
-use mathlib.Core.List.{List}
-use mathlib.Core.Bool.{Bool, true, false}
-use Prim.Native.Nat.{ℕ, _+_}
-use lib.ListN.{length}
-use Rattle.laws.specs.Choice.{pick}
-use Rattle.words.specs.Frames.{OnlyDisk}
-use Rattle.words.specs.Layout.{wide4}
-use Rattle.words.specs.Puts.{puts, puts4}
-use borrow.Author.Needs.{needs}
-use Rattle.words_process.proofs.disk.bill_stored.Statement.{statement}
+use Rattle.words_process.proofs.{Billing.written-only, Billing.written-is, Billing.deleted-stays, disk.bill_stored.Statement.statement}
+use Rattle.words.specs.{Frames.OnlyDisk, Layout.wide4, Puts.puts, Puts.puts4}
 use Rattle.words_process.proofs.disk.bill_stored.Tie as tie
 
 module _ (w : List ℕ) where

@@ -1,9 +1,6 @@
 -- `words_process::kept::clear` meets its contract. Assumes nothing.
-use mathlib.Core.Path.{_∙_}
-use native.Mathlib.Omega.{arith}
-use lib.ListN.{length-set}
+use Rattle.laws.specs.Basics.{_∙_, arith, length-set, needs}
 use Rattle.words.proofs.Reading.{set-is-put}
-use borrow.Author.Needs.{needs}
 use Rattle.words_process.proofs.kept.clear.Statement.{statement}
 use Rattle.words_process.proofs.kept.clear.Tie as tie
 

@@ -1,12 +1,7 @@
 -- `words_process::kept::clear_from` meets its contract. Assumes nothing.
-use mathlib.Core.Path.{_≡_, refl, _∙_}
-use native.Mathlib.Omega.{arith}
-use Prim.Native.Nat.{_≤_, _-_}
-use lib.ListN.{length}
+use Rattle.laws.specs.Basics.{_≡_, refl, _∙_, _-_, _≤_, arith, length, needs}
 use Rattle.words_process.specs.Kept.{Cleared}
-use Rattle.words_process.proofs.Collecting.{cleared-none, cleared-step}
-use borrow.Author.Needs.{needs}
-use Rattle.words_process.proofs.kept.clear_from.Statement.{statement}
+use Rattle.words_process.proofs.{Collecting.cleared-none, Collecting.cleared-step, kept.clear_from.Statement.statement}
 use Rattle.words_process.proofs.kept.clear_from.Tie as tie
 
 abbrev Inv-loop : tie.InvT-loop

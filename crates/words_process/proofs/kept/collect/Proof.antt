@@ -1,9 +1,7 @@
 -- `words_process::kept::collect` meets its contract. Assumes nothing.
-use mathlib.Core.Path.{_∙_}
+use Rattle.laws.specs.Basics.{_∙_, needs}
 use Rattle.words_process.specs.Pins.{pinRow}
-use Rattle.words_process.proofs.Collecting.{collected}
-use borrow.Author.Needs.{needs}
-use Rattle.words_process.proofs.kept.collect.Statement.{statement}
+use Rattle.words_process.proofs.{Collecting.collected, kept.collect.Statement.statement}
 use Rattle.words_process.proofs.kept.collect.Tie as tie
 
 split-requires : tie.Need-split-requires

@@ -1,19 +1,10 @@
 -- `words_process::kept::first_unpinned` meets its contract. Assumes nothing.
-use mathlib.Core.Path.{_≡_, sym, _∙_}
-use native.Mathlib.Omega.{arith}
-use mathlib.Core.Bool.{true}
-use mathlib.Core.List.{List}
-use Prim.Native.Nat.{ℕ, _≤_, _<_, _-_, _+_}
-use borrow.Author.Tests.{not-false}
-use Rattle.laws.specs.Choice.{by-eq}
+use Rattle.laws.specs.Basics.{_≡_, sym, _∙_, true, List, ℕ, _+_, _-_, _≤_, _<_, arith, needs, not-false, by-eq}
 use Rattle.model.specs.declared.Pin.{Pin}
 use Rattle.model.specs.Words.{isPinned}
 use Rattle.words.specs.Layout.{word, indexAt, checkpointIn}
-use Rattle.words_process.specs.Kept.{Used, AllPinned}
-use Rattle.words_process.specs.Pins.{pinRow}
-use Rattle.words_process.proofs.Collecting.{pinned-is}
-use borrow.Author.Needs.{needs}
-use Rattle.words_process.proofs.kept.first_unpinned.Statement.{statement}
+use Rattle.words_process.specs.{Kept.Used, Kept.AllPinned, Pins.pinRow}
+use Rattle.words_process.proofs.{Collecting.pinned-is, kept.first_unpinned.Statement.statement}
 use Rattle.words_process.proofs.kept.first_unpinned.Tie as tie
 
 used-at : (w : List ℕ) (p n : ℕ) → Used w p n → (k : ℕ) → k < n → 1 ≤ word w (indexAt p k)

@@ -1,10 +1,7 @@
 -- `words_process::kept::move_up` meets its contract. Assumes nothing.
-use mathlib.Core.Path.{_∙_}
-use native.Mathlib.Omega.{arith}
-use lib.ListN.{length-set}
+use Rattle.laws.specs.Basics.{_∙_, arith, length-set, needs}
 use Rattle.words.proofs.Reading.{set-is-put}
 use Rattle.words_process.specs.Kept.{movedUp}
-use borrow.Author.Needs.{needs}
 use Rattle.words_process.proofs.kept.move_up.Statement.{statement}
 use Rattle.words_process.proofs.kept.move_up.Tie as tie
 

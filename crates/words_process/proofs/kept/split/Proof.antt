@@ -1,23 +1,12 @@
 -- `words_process::kept::split` meets its contract. Assumes nothing.
-use mathlib.Core.Path.{_≡_, refl, sym, _∙_, ap}
-use native.Mathlib.Omega.{arith}
-use mathlib.Core.Bool.{true, false, not}
-use mathlib.Core.List.{List, []}
-use Prim.Native.Nat.{ℕ, _≤_, _<_, _-_, _+_, _*_}
-use lib.ListN.{length, set}
-use lib.Seq.{sets}
-use Rattle.laws.specs.Loops.{either}
-use Rattle.laws.specs.Tests.{some-of}
-use Rattle.model.specs.Words.{names, isPinned}
-use Rattle.model.specs.declared.Checkpoint.{Checkpoint}
-use Rattle.model.specs.Steps.{listed}
-use Rattle.model.specs.declared.CheckpointIndex.{CheckpointIndex}
+use Rattle.laws.specs.Basics.{_≡_, refl, sym, _∙_, ap, true, false, not, List, [], ℕ, _+_, _-_, _*_, _≤_, _<_, arith, length, set, sets, needs}
+use Rattle.laws.specs.{Loops.either, Tests.some-of}
+use Rattle.model.specs.{Words.names, Words.isPinned, Steps.listed}
+use Rattle.model.specs.declared.{Checkpoint.Checkpoint, CheckpointIndex.CheckpointIndex}
 use Rattle.whole_runs.specs.Outcomes.{pairs}
 use Rattle.words.specs.Layout.{word, indexAt, indexOf, checkpointIn}
-use Rattle.words_process.specs.Kept.{Used, Split}
-use Rattle.words_process.specs.Pins.{pinRow}
+use Rattle.words_process.specs.{Kept.Used, Kept.Split, Pins.pinRow}
 use Rattle.words_process.proofs.Collecting.{pinned-is, index-is, index-there, split-first, split-stays, split-moves, unpinned, unpinned-none, unpinned-same, one-more, pair-more, pairs-none}
-use borrow.Author.Needs.{needs}
 use Rattle.words_process.proofs.kept.split.Statement.{statement}
 use Rattle.words_process.proofs.kept.split.Tie as tie
 

@@ -1,13 +1,7 @@
 -- `words_process::kept::store` meets its contract. Assumes nothing.
-use mathlib.Core.Path.{_∙_, ap}
-use native.Mathlib.Omega.{arith}
-use Prim.Native.Nat.{ℕ}
-use mathlib.Core.List.{[], _∷_}
-use lib.ListN.{set, length-set}
-use Rattle.words.specs.Layout.{indexAt, causeAt, storedAt}
-use Rattle.words.specs.Puts.{puts, vectorPut}
+use Rattle.laws.specs.Basics.{_∙_, ap, [], _∷_, ℕ, arith, set, length-set, needs}
+use Rattle.words.specs.{Layout.indexAt, Layout.causeAt, Layout.storedAt, Puts.puts, Puts.vectorPut}
 use Rattle.words.proofs.Reading.{set-is-put}
-use borrow.Author.Needs.{needs}
 use Rattle.words_process.proofs.kept.store.Statement.{statement}
 use Rattle.words_process.proofs.kept.store.Tie as tie
 

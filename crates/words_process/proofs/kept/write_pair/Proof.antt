@@ -1,7 +1,5 @@
 -- `words_process::kept::write_pair` meets its contract. Assumes nothing.
-use native.Mathlib.Omega.{arith}
-use lib.ListN.{length-set}
-use borrow.Author.Needs.{needs}
+use Rattle.laws.specs.Basics.{arith, length-set, needs}
 use Rattle.words_process.proofs.kept.write_pair.Statement.{statement}
 use Rattle.words_process.proofs.kept.write_pair.Tie as tie
 

@@ -1,9 +1,7 @@
 -- `words_process::pins::bit` meets its contract. Assumes nothing.
-use mathlib.Core.Path.{_∙_}
-use native.Mathlib.Omega.{arith}
+use Rattle.laws.specs.Basics.{_∙_, arith, needs}
 use native.Mathlib.Nat.{one-mul}
 use lib.Pow.{shl-exact}
-use borrow.Author.Needs.{needs}
 use Rattle.words_process.proofs.pins.bit.Statement.{statement}
 use Rattle.words_process.proofs.pins.bit.Tie as tie
 

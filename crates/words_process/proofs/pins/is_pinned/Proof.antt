@@ -1,17 +1,8 @@
 -- `words_process::pins::is_pinned` meets its contract. Assumes nothing.
-use mathlib.Core.Path.{_≡_, sym, _∙_, ap}
-use native.Mathlib.Omega.{arith}
-use Prim.Native.Nat.{ℕ, _≤_, _-_, _+_}
-use mathlib.Core.Bool.{Bool, _||_}
+use Rattle.laws.specs.Basics.{_≡_, sym, _∙_, ap, Bool, _||_, ℕ, _+_, _-_, _≤_, arith, eqb, getD, needs}
 use native.Mathlib.Numerals.{add-one}
-use lib.Dec.{eqb}
-use lib.ListN.{getD}
-use Rattle.laws.specs.Loops.{any-zero}
-use Rattle.laws.specs.Search.{anyBelow}
-use Rattle.laws.specs.Select.{or-swap}
-use Rattle.words_process.proofs.PinRows.{pinned-row}
-use borrow.Author.Needs.{needs}
-use Rattle.words_process.proofs.pins.is_pinned.Statement.{statement}
+use Rattle.laws.specs.{Loops.any-zero, Search.anyBelow, Select.or-swap}
+use Rattle.words_process.proofs.{PinRows.pinned-row, pins.is_pinned.Statement.statement}
 use Rattle.words_process.proofs.pins.is_pinned.Tie as tie
 
 one-more-step : (t : ℕ → Bool) (i : ℕ) (b : Bool) → b ≡ anyBelow i t → (b || t i) ≡ anyBelow (i + 1) t

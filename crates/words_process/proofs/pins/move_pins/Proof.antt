@@ -1,13 +1,8 @@
 -- `words_process::pins::move_pins` meets its contract. Assumes nothing.
-use mathlib.Core.Path.{_≡_, _∙_}
-use native.Mathlib.Omega.{arith}
-use Prim.Native.Nat.{_≤_, _-_}
-use lib.ListN.{getD}
-use Rattle.laws.specs.Choice.{pick}
+use Rattle.laws.specs.Basics.{_≡_, _∙_, _-_, _≤_, arith, getD, needs, pick}
 use Rattle.laws.specs.Loops.{setBelow, below-none, below-all, step-set}
 use Rattle.model.specs.Words.{inSet}
 use Rattle.words_process.specs.Pins.{movedRow}
-use borrow.Author.Needs.{needs}
 use Rattle.words_process.proofs.pins.move_pins.Statement.{statement}
 use Rattle.words_process.proofs.pins.move_pins.Tie as tie
 

@@ -1,7 +1,6 @@
 -- `words_process::pins::moved_pin` meets its contract. Assumes nothing.
-use Rattle.words_process.proofs.Sets.{and-none, and-some}
-use borrow.Author.Needs.{needs}
-use Rattle.words_process.proofs.pins.moved_pin.Statement.{statement}
+use Rattle.laws.specs.Basics.{needs}
+use Rattle.words_process.proofs.{Sets.and-none, Sets.and-some, pins.moved_pin.Statement.statement}
 use Rattle.words_process.proofs.pins.moved_pin.Tie as tie
 
 returns : tie.Need-returns

@@ -1,17 +1,10 @@
 -- `words_process::pins::taken_pins` meets its contract. Assumes nothing.
-use mathlib.Core.Path.{_≡_, _∙_, ap}
-use mathlib.Core.Bool.{Bool}
-use mathlib.Core.List.{List}
-use Prim.Native.Nat.{ℕ, _^_}
+use Rattle.laws.specs.Basics.{_≡_, _∙_, ap, Bool, List, ℕ, _^_, getD, needs, pick}
 use lib.Bits.{bitOr}
-use lib.ListN.{getD}
-use Rattle.laws.specs.Choice.{pick}
 use Rattle.laws.specs.Tables.{table-same}
 use Rattle.model.specs.Words.{inSet}
 use Rattle.words_process.specs.Pins.{movedRow, risenOrOwn}
-use Rattle.words_process.proofs.Sets.{with-one}
-use borrow.Author.Needs.{needs}
-use Rattle.words_process.proofs.pins.taken_pins.Statement.{statement}
+use Rattle.words_process.proofs.{Sets.with-one, pins.taken_pins.Statement.statement}
 use Rattle.words_process.proofs.pins.taken_pins.Tie as tie
 
 moved-same : (rose i : ℕ) (pins : List ℕ) (own : ℕ) → movedRow (inSet (bitOr rose (2 ^ i))) pins own ≡ movedRow (risenOrOwn rose i) pins own

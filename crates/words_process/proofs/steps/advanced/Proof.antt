@@ -1,20 +1,8 @@
 -- `words_process::steps::advanced` meets its contract. Assumes nothing.
-use mathlib.Core.Path.{_≡_, refl, sym, _∙_, ap}
-use native.Mathlib.Omega.{arith}
-use Prim.Native.Nat.{ℕ, _≤_, _-_, _+_, _<_}
-use mathlib.Core.List.{List}
-use lib.Dec.{eqb}
-use lib.ListN.{length, set, length-set}
-use lib.Seq.{getD-set-same, getD-set-other}
-use borrow.Author.Tests.{eq-eqb, ne-eqb, eqb-true}
-use Rattle.laws.specs.Choice.{pick, by-eq}
-use Rattle.laws.specs.Loops.{setBelow, below-none, below-all, step-set}
-use Rattle.laws.specs.Lists.{table}
-use Rattle.laws.specs.Tables.{table-is}
+use Rattle.laws.specs.Basics.{_≡_, refl, sym, _∙_, ap, List, ℕ, _+_, _-_, _≤_, _<_, arith, eqb, length, set, length-set, getD-set-same, getD-set-other, needs, eq-eqb, ne-eqb, eqb-true, pick, by-eq}
+use Rattle.laws.specs.{Loops.setBelow, Loops.below-none, Loops.below-all, Loops.step-set, Lists.table, Tables.table-is}
 use Rattle.model.specs.declared.Interval.{Interval}
-use Rattle.model.specs.Words.{entry}
-use Rattle.model.specs.Steps.{advanced}
-use borrow.Author.Needs.{needs}
+use Rattle.model.specs.{Words.entry, Steps.advanced}
 use Rattle.words_process.proofs.steps.advanced.Statement.{statement}
 use Rattle.words_process.proofs.steps.advanced.Tie as tie
 

@@ -1,27 +1,15 @@
 -- `words_process::steps::checkpoint` meets its contract. Assumes nothing.
-use mathlib.Core.Path.{_≡_, _∙_, ap}
-use native.Mathlib.Omega.{arith}
-use mathlib.Core.Bool.{true, false}
-use mathlib.Core.List.{List, [], _∷_}
-use Prim.Native.Nat.{ℕ, _+_, _*_, _-_, _<_}
-use lib.ListN.{length, length-set}
-use lib.Seq.{sets}
-use Rattle.model.specs.declared.Interval.{Interval}
-use Rattle.model.specs.declared.CheckpointIndex.{CheckpointIndex}
-use Rattle.model.specs.Sound.{sound}
-use Rattle.model.specs.Words.{basic, entry, liveIndex, blocksOf}
+use Rattle.laws.specs.Basics.{_≡_, _∙_, ap, true, false, List, [], _∷_, ℕ, _+_, _-_, _*_, _<_, arith, length, length-set, sets, needs}
+use Rattle.model.specs.declared.{Interval.Interval, CheckpointIndex.CheckpointIndex}
+use Rattle.model.specs.{Sound.sound, Words.basic, Words.entry, Words.liveIndex, Words.blocksOf}
 use Rattle.model.specs.Steps.{listed, settled, gone, deletions, billed, advanced, checkpointed}
 use Rattle.whole_runs.specs.Outcomes.{pairs}
-use Rattle.words_process.specs.receipts.Receipt.{keptThen}
+use Rattle.words_process.specs.{receipts.Receipt.keptThen, Moves.diskIn, Moves.Moves, Pins.pinRow, Pins.movedRow, Pins.risenOrOwn}
 use Rattle.words.specs.Layout.{word, countOf, keptCountAt, blocksAt, partAt, pinsAt, rowIn, vectorIn, runOf}
-use Rattle.words.specs.Parts.{processIn}
-use Rattle.words.specs.Puts.{puts, vectorPut}
+use Rattle.words.specs.{Parts.processIn, Puts.puts, Puts.vectorPut}
 use Rattle.words.proofs.Same.{vector-length}
-use Rattle.words_process.specs.Moves.{diskIn, Moves}
-use Rattle.words_process.specs.Pins.{pinRow, movedRow, risenOrOwn}
 use Rattle.words_process.specs.Steps.{storedIn, placesOf, unpinnedIn, settledPart}
 use Rattle.words_process.proofs.Stepping.{in-range, kept-count-most, words, facts, ready, checkpoint-part, checkpoint-gone, checkpoint-room, checkpoint-pinned, own-number, moved, deletes, lists}
-use borrow.Author.Needs.{needs}
 use Rattle.words_process.proofs.steps.checkpoint.Statement.{statement}
 use Rattle.words_process.proofs.steps.checkpoint.Tie as tie
 

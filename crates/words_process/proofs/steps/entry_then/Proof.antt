@@ -1,5 +1,5 @@
 -- `words_process::steps::entry_then` meets its contract. Assumes nothing.
-use borrow.Author.Needs.{needs}
+use Rattle.laws.specs.Basics.{needs}
 use Rattle.words_process.proofs.steps.entry_then.Statement.{statement}
 use Rattle.words_process.proofs.steps.entry_then.Tie as tie
 

@@ -1,6 +1,5 @@
 -- `words_process::steps::kept_count_then` meets its contract. Assumes nothing.
-use native.Mathlib.Omega.{arith}
-use borrow.Author.Needs.{needs}
+use Rattle.laws.specs.Basics.{arith, needs}
 use Rattle.words_process.proofs.steps.kept_count_then.Statement.{statement}
 use Rattle.words_process.proofs.steps.kept_count_then.Tie as tie
 

@@ -1,5 +1,5 @@
 -- `words_process::steps::own_pin` meets its contract. Assumes nothing.
-use borrow.Author.Needs.{needs}
+use Rattle.laws.specs.Basics.{needs}
 use Rattle.words_process.proofs.steps.own_pin.Statement.{statement}
 use Rattle.words_process.proofs.steps.own_pin.Tie as tie
 

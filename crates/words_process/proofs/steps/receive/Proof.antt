@@ -1,28 +1,16 @@
 -- `words_process::steps::receive` meets its contract. Assumes nothing.
-use mathlib.Core.Path.{_≡_, _∙_, ap}
-use native.Mathlib.Omega.{arith}
-use mathlib.Core.Bool.{Bool, true, false}
-use mathlib.Core.List.{List, [], _∷_}
-use Prim.Native.Nat.{ℕ, _+_, _*_, _-_, _<_}
-use lib.ListN.{length, getD}
-use lib.Seq.{sets}
-use Rattle.laws.specs.Choice.{pick}
+use Rattle.laws.specs.Basics.{_≡_, _∙_, ap, Bool, true, false, List, [], _∷_, ℕ, _+_, _-_, _*_, _<_, arith, length, getD, sets, needs, pick}
 use Rattle.laws.specs.Tables.{length-table}
-use Rattle.model.specs.declared.Interval.{Interval}
-use Rattle.model.specs.declared.CheckpointIndex.{CheckpointIndex}
-use Rattle.model.specs.Sound.{sound}
-use Rattle.model.specs.Words.{forced, entry, liveIndex, blocksOf}
+use Rattle.model.specs.declared.{Interval.Interval, CheckpointIndex.CheckpointIndex}
+use Rattle.model.specs.{Sound.sound, Words.forced, Words.entry, Words.liveIndex, Words.blocksOf}
 use Rattle.model.specs.Steps.{listed, settled, gone, deletions, billed, takenVector, risen}
 use Rattle.whole_runs.specs.Outcomes.{pairs}
-use Rattle.words_process.specs.receipts.Receipt.{vectorFirst, keptThen}
+use Rattle.words_process.specs.{receipts.Receipt.vectorFirst, receipts.Receipt.keptThen, Moves.diskIn, Moves.Moves}
 use Rattle.words.specs.Layout.{markIn, word, countOf, blocksAt, partAt, pinsAt, rowIn, vectorIn, runOf}
-use Rattle.words.specs.Parts.{processIn}
-use Rattle.words.specs.Puts.{puts, vectorPut}
-use Rattle.words_process.specs.Moves.{diskIn, Moves}
+use Rattle.words.specs.{Parts.processIn, Puts.puts, Puts.vectorPut}
 use Rattle.words_process.specs.Pins.{pinRow, movedRow, risenOrOwn}
 use Rattle.words_process.specs.Steps.{storedIn, placesOf, unpinnedIn, settledPart, received}
 use Rattle.words_process.proofs.Stepping.{in-range, words, facts, ready, receive-part, receive-gone, receive-room, pinned-none, own-number, moved, deletes, lists}
-use borrow.Author.Needs.{needs}
 use Rattle.words_process.proofs.steps.receive.Statement.{statement}
 use Rattle.words_process.proofs.steps.receive.Tie as tie
 

@@ -1,23 +1,12 @@
 -- `words_process::steps::settle` meets its contract. Assumes nothing.
-use mathlib.Core.Path.{_≡_, refl, _∙_, ap}
-use native.Mathlib.Omega.{arith}
-use Prim.Native.Nat.{ℕ, _≤_, _<_, _-_}
-use mathlib.Core.Bool.{not}
-use mathlib.Core.List.{List}
-use lib.ListN.{length, length-set}
-use lib.Seq.{sets}
-use Rattle.laws.specs.Lists.{select, table}
-use Rattle.laws.specs.Tables.{length-table}
+use Rattle.laws.specs.Basics.{_≡_, refl, _∙_, ap, not, List, ℕ, _-_, _≤_, _<_, arith, length, length-set, sets, needs}
+use Rattle.laws.specs.{Lists.select, Lists.table, Tables.length-table}
 use Rattle.model.specs.declared.Checkpoint.{Checkpoint}
-use Rattle.model.specs.Steps.{listed}
-use Rattle.model.specs.Words.{isPinned}
+use Rattle.model.specs.{Steps.listed, Words.isPinned}
 use Rattle.whole_runs.specs.Outcomes.{pairs}
 use Rattle.words.specs.Layout.{word, keptCountAt, checkpointIn}
-use Rattle.words_process.specs.Pins.{pinRow}
-use Rattle.words_process.specs.Steps.{placesOf, unpinnedIn}
-use Rattle.words_process.specs.Kept.{Collected}
+use Rattle.words_process.specs.{Pins.pinRow, Steps.placesOf, Steps.unpinnedIn, Kept.Collected}
 use Rattle.words_process.proofs.Settling.{pinned, pinned-places, pinned-used, pinned-still, end-size, end-disk, end-moves}
-use borrow.Author.Needs.{needs}
 use Rattle.words_process.proofs.steps.settle.Statement.{statement}
 use Rattle.words_process.proofs.steps.settle.Tie as tie
 

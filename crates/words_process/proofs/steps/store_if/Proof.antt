@@ -1,13 +1,7 @@
 -- `words_process::steps::store_if` meets its contract. Assumes nothing.
-use mathlib.Core.Path.{_∙_, ap}
-use native.Mathlib.Omega.{arith}
-use Prim.Native.Nat.{ℕ}
-use mathlib.Core.List.{List}
-use Rattle.words.specs.Layout.{markAt}
-use Rattle.words.specs.Puts.{putFrom}
-use lib.ListN.{length-set}
+use Rattle.laws.specs.Basics.{_∙_, ap, List, ℕ, arith, length-set, needs}
+use Rattle.words.specs.{Layout.markAt, Puts.putFrom}
 use Rattle.words.proofs.Reading.{set-is-put}
-use borrow.Author.Needs.{needs}
 use Rattle.words_process.proofs.steps.store_if.Statement.{statement}
 use Rattle.words_process.proofs.steps.store_if.Tie as tie
 

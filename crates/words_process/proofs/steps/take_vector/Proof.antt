@@ -1,20 +1,12 @@
 -- `words_process::steps::take_vector` meets its contract. Assumes nothing.
-use mathlib.Core.Path.{_≡_, _∙_, ap}
-use native.Mathlib.Omega.{arith}
-use mathlib.Core.Bool.{Bool, true, false}
-use mathlib.Core.List.{List, [], _∷_}
-use Prim.Native.Nat.{ℕ, _<_}
-use lib.ListN.{length, length-set}
+use Rattle.laws.specs.Basics.{_≡_, _∙_, ap, Bool, true, false, List, [], _∷_, ℕ, _<_, arith, length, length-set, needs}
 use Rattle.laws.specs.Loops.{either}
 use Rattle.model.specs.declared.Interval.{Interval}
 use Rattle.model.specs.Steps.{advanced, takenVector, risen}
 use Rattle.words_process.specs.receipts.Receipt.{vectorFirst}
-use Rattle.words.specs.Layout.{partAt, vectorIn}
-use Rattle.words.specs.Puts.{puts, vectorPut}
+use Rattle.words.specs.{Layout.partAt, Layout.vectorIn, Puts.puts, Puts.vectorPut}
 use Rattle.words.proofs.Same.{vector-back, vector-length}
-use Rattle.words_process.proofs.Stepping.{put-again}
-use borrow.Author.Needs.{needs}
-use Rattle.words_process.proofs.steps.take_vector.Statement.{statement}
+use Rattle.words_process.proofs.{Stepping.put-again, steps.take_vector.Statement.statement}
 use Rattle.words_process.proofs.steps.take_vector.Tie as tie
 
 -- Where a checkpoint is stored, and where none is.

@@ -1,10 +1,7 @@
 -- `words_process::taking_in::bit_if_risen` meets its contract. Assumes nothing.
-use mathlib.Core.Path.{_∙_}
-use native.Mathlib.Omega.{arith}
+use Rattle.laws.specs.Basics.{_∙_, arith, needs, lt-ltb, le-ltb}
 use native.Mathlib.Nat.{one-mul}
 use lib.Pow.{shl-exact}
-use borrow.Author.Tests.{lt-ltb, le-ltb}
-use borrow.Author.Needs.{needs}
 use Rattle.words_process.proofs.taking_in.bit_if_risen.Statement.{statement}
 use Rattle.words_process.proofs.taking_in.bit_if_risen.Tie as tie
 

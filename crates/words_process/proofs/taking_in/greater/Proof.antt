@@ -1,5 +1,5 @@
 -- `words_process::taking_in::greater` meets its contract. Assumes nothing.
-use borrow.Author.Tests.{lt-ltb, le-ltb}
+use Rattle.laws.specs.Basics.{lt-ltb, le-ltb}
 use Rattle.words_process.proofs.taking_in.greater.Statement.{statement}
 use Rattle.words_process.proofs.taking_in.greater.Tie as tie
 

@@ -1,19 +1,12 @@
 -- `words_process::taking_in::take_entry` meets its contract. Assumes nothing.
-use mathlib.Core.Path.{_≡_, _∙_, ap}
+use Rattle.laws.specs.Basics.{_≡_, _∙_, ap, List, [], _∷_, ℕ, _+_, _^_, _<_, set, needs, pick}
 use Rattle.words.proofs.Reading.{set-is-put}
 use Rattle.words_process.specs.TakingIn.{takenWord, risenBit}
-use Rattle.words_process.proofs.TakingIn.{or-risen, risen-less}
-use mathlib.Core.List.{List, [], _∷_}
-use Prim.Native.Nat.{ℕ, _+_, _^_, _<_}
+use Rattle.words_process.proofs.{TakingIn.or-risen, TakingIn.risen-less, taking_in.take_entry.Statement.statement}
 use lib.Bits.{bitOr}
-use lib.ListN.{set}
-use Rattle.laws.specs.Choice.{pick}
 use Rattle.model.specs.declared.Interval.{Interval}
 use Rattle.model.specs.Words.{entry, below}
-use Rattle.words.specs.Layout.{word, intervalOf}
-use Rattle.words.specs.Puts.{puts, one}
-use borrow.Author.Needs.{needs}
-use Rattle.words_process.proofs.taking_in.take_entry.Statement.{statement}
+use Rattle.words.specs.{Layout.word, Layout.intervalOf, Puts.puts, Puts.one}
 use Rattle.words_process.proofs.taking_in.take_entry.Tie as tie
 
 written : (w : List ℕ) (at : ℕ) (carried : List Interval) (f rose : ℕ) → rose < 2 ^ f → (own most : Interval) (b : ℕ) → own ≡ intervalOf (word w (at + f))

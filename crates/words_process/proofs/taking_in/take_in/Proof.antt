@@ -1,13 +1,9 @@
 -- `words_process::taking_in::take_in` meets its contract. Assumes nothing.
-use mathlib.Core.Path.{_≡_, refl, _∙_}
-use native.Mathlib.Omega.{arith}
-use Prim.Native.Nat.{_≤_, _<_, _-_, _^_}
-use lib.ListN.{length}
+use Rattle.laws.specs.Basics.{_≡_, refl, _∙_, _-_, _^_, _≤_, _<_, arith, length, needs}
 use Rattle.laws.specs.Bits.{bitsOf}
 use Rattle.words.specs.Puts.{putFrom}
 use Rattle.words.proofs.Reading.{put-none}
 use Rattle.words_process.proofs.TakingIn.{rises, word-then, step-words, step-rose, rises-none, all-rose, all-taken}
-use borrow.Author.Needs.{needs}
 use Rattle.words_process.proofs.taking_in.take_in.Statement.{statement}
 use Rattle.words_process.proofs.taking_in.take_in.Tie as tie
 

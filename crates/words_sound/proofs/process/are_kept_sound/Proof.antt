@@ -1,7 +1,5 @@
 -- `words_sound::process::are_kept_sound` meets its contract. Assumes nothing.
-use borrow.Author.Needs.{needs}
-use Prim.Native.Nat.{ℕ, _-_}
-use mathlib.Core.Path.{ap}
+use Rattle.laws.specs.Basics.{ap, ℕ, _-_, needs}
 use Rattle.words.specs.Layout.{word}
 use Rattle.words_sound.proofs.Judging.{Walked, none-walked, one-walked, walk-stops, walk-misses, walk-ends, last-is}
 use Rattle.words_sound.proofs.process.are_kept_sound.Statement.{statement}

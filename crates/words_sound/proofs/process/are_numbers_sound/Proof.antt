@@ -1,7 +1,6 @@
 -- `words_sound::process::are_numbers_sound` meets its contract. Assumes nothing.
-use borrow.Author.Needs.{needs}
-use Rattle.words_sound.proofs.Judging.{numbers-are}
-use Rattle.words_sound.proofs.process.are_numbers_sound.Statement.{statement}
+use Rattle.laws.specs.Basics.{needs}
+use Rattle.words_sound.proofs.{Judging.numbers-are, process.are_numbers_sound.Statement.statement}
 use Rattle.words_sound.proofs.process.are_numbers_sound.Tie as tie
 
 returns : tie.Need-returns

@@ -1,5 +1,5 @@
 -- `words_sound::process::is_cause_sound` meets its contract. Assumes nothing.
-use borrow.Author.Tests.{eq-eqb, ne-eqb}
+use Rattle.laws.specs.Basics.{eq-eqb, ne-eqb}
 use Rattle.model.specs.Sound.{causeSound}
 use Rattle.words_sound.proofs.process.is_cause_sound.Statement.{statement}
 use Rattle.words_sound.proofs.process.is_cause_sound.Tie as tie

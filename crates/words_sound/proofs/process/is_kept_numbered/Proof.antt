@@ -1,8 +1,6 @@
 -- `words_sound::process::is_kept_numbered` meets its contract. Assumes nothing.
-use borrow.Author.Needs.{needs}
-use borrow.Author.Tests.{le-ltb}
-use Rattle.words_sound.proofs.Judging.{numbered}
-use Rattle.words_sound.proofs.process.is_kept_numbered.Statement.{statement}
+use Rattle.laws.specs.Basics.{needs, le-ltb}
+use Rattle.words_sound.proofs.{Judging.numbered, process.is_kept_numbered.Statement.statement}
 use Rattle.words_sound.proofs.process.is_kept_numbered.Tie as tie
 
 returns : tie.Need-returns

@@ -1,8 +1,6 @@
 -- `words_sound::process::is_kept_sound` meets its contract. Assumes nothing.
-use borrow.Author.Needs.{needs}
-use mathlib.Core.Path.{_∙_}
-use Rattle.words_sound.proofs.Judging.{pinned-row, kept-unnumbered, kept-whole}
-use Rattle.words_sound.proofs.process.is_kept_sound.Statement.{statement}
+use Rattle.laws.specs.Basics.{_∙_, needs}
+use Rattle.words_sound.proofs.{Judging.pinned-row, Judging.kept-unnumbered, Judging.kept-whole, process.is_kept_sound.Statement.statement}
 use Rattle.words_sound.proofs.process.is_kept_sound.Tie as tie
 
 returns : tie.Need-returns

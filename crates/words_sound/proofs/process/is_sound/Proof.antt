@@ -1,8 +1,5 @@
 -- `words_sound::process::is_sound` meets its contract. Assumes nothing.
-use borrow.Author.Needs.{needs}
-use Prim.Native.Nat.{ℕ, _-_}
-use native.Mathlib.Omega.{arith}
-use mathlib.Core.Path.{_≡_, _∙_, ap}
+use Rattle.laws.specs.Basics.{_≡_, _∙_, ap, ℕ, _-_, arith, needs}
 use Rattle.words.specs.Layout.{word, keptCountAt}
 use Rattle.words_sound.proofs.Judging.{numbers-fail, process-whole, numbers-few, numbers-own}
 use Rattle.words_sound.proofs.process.is_sound.Statement.{statement}

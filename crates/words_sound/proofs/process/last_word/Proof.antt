@@ -1,10 +1,6 @@
 -- `words_sound::process::last_word` meets its contract. Assumes nothing.
-use borrow.Author.Needs.{needs}
-use native.Mathlib.Omega.{arith}
-use Prim.Native.Nat.{ℕ, _+_, _-_}
-use mathlib.Core.Path.{_≡_, _∙_, ap}
-use Rattle.model.specs.declared.Interval.{Interval}
-use Rattle.model.specs.declared.CheckpointIndex.{CheckpointIndex}
+use Rattle.laws.specs.Basics.{_≡_, _∙_, ap, ℕ, _+_, _-_, arith, needs}
+use Rattle.model.specs.declared.{Interval.Interval, CheckpointIndex.CheckpointIndex}
 use Rattle.model.specs.Words.{lastStored}
 use Rattle.words_sound.proofs.process.last_word.Statement.{statement}
 use Rattle.words_sound.proofs.process.last_word.Tie as tie

@@ -1,8 +1,6 @@
 -- `words_sound::process::rows_off` meets its contract. Assumes nothing.
-use borrow.Author.Needs.{needs}
-use native.Mathlib.Omega.{arith}
-use Rattle.words_sound.proofs.Judging.{rows-are}
-use Rattle.words_sound.proofs.process.rows_off.Statement.{statement}
+use Rattle.laws.specs.Basics.{arith, needs}
+use Rattle.words_sound.proofs.{Judging.rows-are, process.rows_off.Statement.statement}
 use Rattle.words_sound.proofs.process.rows_off.Tie as tie
 
 returns : tie.Need-returns

@@ -1,15 +1,8 @@
 -- `words_sound::rows::are_zero` meets its contract: the gathered word is 0 exactly if every word so far is. Assumes nothing.
-use Prim.Native.Nat.{_≤_, _-_}
-use mathlib.Core.Path.{_≡_, refl}
-use native.Mathlib.Omega.{arith}
-use lib.Dec.{eqb}
-use lib.ListN.{getD}
-use borrow.Author.Needs.{needs}
-use mathlib.Core.Bool.{_&&_}
+use Rattle.laws.specs.Basics.{_≡_, refl, _&&_, _-_, _≤_, arith, eqb, getD, needs}
 use lib.Bits.{bitOr}
 use Rattle.laws.specs.Search.{allBelow}
-use Rattle.words_sound.proofs.rows.Ors.{or-zero, or-step}
-use Rattle.words_sound.proofs.rows.are_zero.Statement.{statement}
+use Rattle.words_sound.proofs.{rows.Ors.or-zero, rows.Ors.or-step, rows.are_zero.Statement.statement}
 use Rattle.words_sound.proofs.rows.are_zero.Tie as tie
 
 abbrev Inv-loop : tie.InvT-loop

@@ -1,14 +1,7 @@
 -- `words_sound::rows::is_among` meets its contract: the gathered word is 0 exactly if no word so far is x. Assumes nothing.
-use Prim.Native.Nat.{_≤_, _-_}
-use mathlib.Core.Path.{_≡_}
-use native.Mathlib.Omega.{arith}
-use lib.Dec.{eqb}
-use lib.ListN.{getD}
-use borrow.Author.Needs.{needs}
-use mathlib.Core.Bool.{not}
+use Rattle.laws.specs.Basics.{_≡_, not, _-_, _≤_, arith, eqb, getD, needs}
 use Rattle.laws.specs.Search.{anyBelow}
-use Rattle.words_sound.proofs.rows.Ors.{any-none, any-step, any-end}
-use Rattle.words_sound.proofs.rows.is_among.Statement.{statement}
+use Rattle.words_sound.proofs.{rows.Ors.any-none, rows.Ors.any-step, rows.Ors.any-end, rows.is_among.Statement.statement}
 use Rattle.words_sound.proofs.rows.is_among.Tie as tie
 
 abbrev Inv-loop : tie.InvT-loop

@@ -1,13 +1,8 @@
 -- `words_sound::rows::is_within` meets its contract: the gathered word is 0 exactly if every entry so far is within its limit. Assumes nothing.
-use Prim.Native.Nat.{ℕ, _≤_, _-_}
-use mathlib.Core.Path.{_≡_, refl, _∙_, ap}
-use native.Mathlib.Omega.{arith}
-use lib.Dec.{eqb, leb}
-use borrow.Author.Needs.{needs}
+use Rattle.laws.specs.Basics.{_≡_, refl, _∙_, ap, ℕ, _-_, _≤_, arith, eqb, leb, needs}
 use Rattle.laws.specs.Search.{allBelow}
 use Rattle.model.specs.Words.{entry}
-use Rattle.words_sound.proofs.rows.Ors.{or-step, less-zero}
-use Rattle.words_sound.proofs.rows.is_within.Statement.{statement}
+use Rattle.words_sound.proofs.{rows.Ors.or-step, rows.Ors.less-zero, rows.is_within.Statement.statement}
 use Rattle.words_sound.proofs.rows.is_within.Tie as tie
 
 abbrev Inv-loop : tie.InvT-loop

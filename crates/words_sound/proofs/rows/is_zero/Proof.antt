@@ -1,13 +1,7 @@
 -- `words_sound::rows::is_zero` meets its contract: the gathered word is 0 exactly if every word so far is. Assumes nothing.
-use Prim.Native.Nat.{_≤_, _-_}
-use mathlib.Core.Path.{_≡_, refl}
-use native.Mathlib.Omega.{arith}
-use lib.Dec.{eqb}
-use lib.ListN.{getD}
-use borrow.Author.Needs.{needs}
+use Rattle.laws.specs.Basics.{_≡_, refl, _-_, _≤_, arith, eqb, getD, needs}
 use Rattle.laws.specs.Search.{allBelow}
-use Rattle.words_sound.proofs.rows.Ors.{or-step}
-use Rattle.words_sound.proofs.rows.is_zero.Statement.{statement}
+use Rattle.words_sound.proofs.{rows.Ors.or-step, rows.is_zero.Statement.statement}
 use Rattle.words_sound.proofs.rows.is_zero.Tie as tie
 
 abbrev Inv-loop : tie.InvT-loop

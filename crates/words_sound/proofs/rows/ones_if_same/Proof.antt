@@ -1,5 +1,5 @@
 -- `words_sound::rows::ones_if_same` meets its contract. Assumes nothing.
-use borrow.Author.Tests.{eq-eqb, ne-eqb}
+use Rattle.laws.specs.Basics.{eq-eqb, ne-eqb}
 use Rattle.words_sound.proofs.rows.ones_if_same.Statement.{statement}
 use Rattle.words_sound.proofs.rows.ones_if_same.Tie as tie
 

@@ -1,9 +1,5 @@
 -- `words_sound::rows::over_by` meets its contract. Assumes nothing.
-use Prim.Native.Nat.{ℕ, _≤_, _-_}
-use mathlib.Core.Path.{_≡_, _∙_, ap}
-use native.Mathlib.Omega.{arith}
-use lib.ListN.{getD}
-use borrow.Author.Needs.{needs}
+use Rattle.laws.specs.Basics.{_≡_, _∙_, ap, ℕ, _-_, _≤_, arith, getD, needs}
 use lib.Bits.{bitOr}
 use Rattle.laws.specs.Loops.{setBelow, below-none, step-set, below-all}
 use Rattle.model.specs.Words.{entry}

@@ -1,9 +1,5 @@
 -- `words_sound::rows::row_over` meets its contract. Assumes nothing.
-use Prim.Native.Nat.{_≤_, _-_}
-use mathlib.Core.Path.{_≡_, _∙_}
-use native.Mathlib.Omega.{arith}
-use lib.ListN.{getD}
-use borrow.Author.Needs.{needs}
+use Rattle.laws.specs.Basics.{_≡_, _∙_, _-_, _≤_, arith, getD, needs}
 use Rattle.laws.specs.Loops.{setBelow, below-none, step-set, below-all}
 use Rattle.words_sound.proofs.rows.row_over.Statement.{statement}
 use Rattle.words_sound.proofs.rows.row_over.Tie as tie

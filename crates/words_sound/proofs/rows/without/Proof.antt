@@ -1,11 +1,5 @@
 -- `words_sound::rows::without` meets its contract. Assumes nothing.
-use Prim.Native.Nat.{_≤_, _-_}
-use mathlib.Core.Path.{_≡_, _∙_}
-use native.Mathlib.Omega.{arith}
-use lib.Dec.{eqb}
-use lib.ListN.{getD}
-use borrow.Author.Needs.{needs}
-use Rattle.laws.specs.Choice.{pick}
+use Rattle.laws.specs.Basics.{_≡_, _∙_, _-_, _≤_, arith, eqb, getD, needs, pick}
 use Rattle.laws.specs.Loops.{setBelow, below-none, step-set, below-all}
 use Rattle.words_sound.proofs.rows.without.Statement.{statement}
 use Rattle.words_sound.proofs.rows.without.Tie as tie

@@ -1,7 +1,6 @@
 -- `words_sound::under_way::are_ends_sound` meets its contract. Assumes nothing.
-use borrow.Author.Needs.{needs}
-use Rattle.words_sound.proofs.Judging.{ends-are}
-use Rattle.words_sound.proofs.under_way.are_ends_sound.Statement.{statement}
+use Rattle.laws.specs.Basics.{needs}
+use Rattle.words_sound.proofs.{Judging.ends-are, under_way.are_ends_sound.Statement.statement}
 use Rattle.words_sound.proofs.under_way.are_ends_sound.Tie as tie
 
 returns : tie.Need-returns

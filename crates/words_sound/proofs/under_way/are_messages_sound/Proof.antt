@@ -1,6 +1,5 @@
 -- `words_sound::under_way::are_messages_sound` meets its contract. Assumes nothing.
-use borrow.Author.Needs.{needs}
-use mathlib.Core.Path.{refl}
+use Rattle.laws.specs.Basics.{refl, needs}
 use Rattle.words.specs.Layout.{wide2}
 use Rattle.words_sound.proofs.Judging.{end-far, last-far, end-off, messages-whole}
 use Rattle.words_sound.proofs.under_way.are_messages_sound.Statement.{statement}

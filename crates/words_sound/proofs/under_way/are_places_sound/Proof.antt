@@ -1,7 +1,5 @@
 -- `words_sound::under_way::are_places_sound` meets its contract. Assumes nothing.
-use borrow.Author.Needs.{needs}
-use Prim.Native.Nat.{_-_}
-use native.Mathlib.Omega.{arith}
+use Rattle.laws.specs.Basics.{_-_, arith, needs}
 use Rattle.laws.specs.Loops.{either}
 use Rattle.words_sound.proofs.Judging.{Read, none-read, one-read, none-there, read-fails, all-read}
 use Rattle.words_sound.proofs.under_way.are_places_sound.Statement.{statement}

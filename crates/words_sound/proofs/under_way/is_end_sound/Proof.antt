@@ -1,10 +1,5 @@
 -- `words_sound::under_way::is_end_sound` meets its contract. Assumes nothing.
-use borrow.Author.Needs.{needs}
-use Prim.Native.Nat.{ℕ, _-_}
-use mathlib.Core.Path.{ap}
-use mathlib.Core.Bool.{not}
-use lib.Dec.{eqb}
-use borrow.Author.Tests.{eq-eqb, ne-eqb}
+use Rattle.laws.specs.Basics.{ap, not, ℕ, _-_, eqb, needs, eq-eqb, ne-eqb}
 use Rattle.words_sound.proofs.under_way.is_end_sound.Statement.{statement}
 use Rattle.words_sound.proofs.under_way.is_end_sound.Tie as tie
 

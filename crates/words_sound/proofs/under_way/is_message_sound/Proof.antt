@@ -1,8 +1,6 @@
 -- `words_sound::under_way::is_message_sound` meets its contract. Assumes nothing.
-use borrow.Author.Needs.{needs}
-use native.Mathlib.Omega.{arith}
-use Rattle.words_sound.proofs.Judging.{order-fails, message-whole}
-use Rattle.words_sound.proofs.under_way.is_message_sound.Statement.{statement}
+use Rattle.laws.specs.Basics.{arith, needs}
+use Rattle.words_sound.proofs.{Judging.order-fails, Judging.message-whole, under_way.is_message_sound.Statement.statement}
 use Rattle.words_sound.proofs.under_way.is_message_sound.Tie as tie
 
 returns : tie.Need-returns

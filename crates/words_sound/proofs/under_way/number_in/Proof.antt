@@ -1,7 +1,6 @@
 -- `words_sound::under_way::number_in` meets its contract. Assumes nothing.
-use borrow.Author.Needs.{needs}
-use Rattle.words_sound.proofs.Judging.{number-is}
-use Rattle.words_sound.proofs.under_way.number_in.Statement.{statement}
+use Rattle.laws.specs.Basics.{needs}
+use Rattle.words_sound.proofs.{Judging.number-is, under_way.number_in.Statement.statement}
 use Rattle.words_sound.proofs.under_way.number_in.Tie as tie
 
 returns : tie.Need-returns

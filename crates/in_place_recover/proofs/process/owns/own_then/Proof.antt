@@ -1,9 +1,5 @@
 -- `in_place_recover::process::owns::own_then` meets its contract, by whether the member is stored. Assumes nothing.
-use Prim.Native.Nat.{_≤_}
-use native.Mathlib.Omega.{arith}
-use lib.Dec.{ltb, leb}
-use borrow.Author.Needs.{needs}
-use borrow.Author.Tests.{ltb-true, leb-true}
+use Rattle.laws.specs.Basics.{_≤_, arith, ltb, leb, needs, ltb-true, leb-true}
 use Rattle.laws.specs.Truth.{and-out}
 use Rattle.words.specs.Layout.{word, keptCountAt}
 use Rattle.in_place_recover.specs.Restored.{restoredOwn}

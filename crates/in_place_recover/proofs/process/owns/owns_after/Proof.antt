@@ -1,10 +1,6 @@
 -- `in_place_recover::process::owns::owns_after` meets its contract. The loop's invariant: the own entries of the processes passed so far stand.
 -- Assumes nothing.
-use Prim.Native.Nat.{_≤_, _-_}
-use mathlib.Core.Path.{_≡_, refl, _∙_}
-use native.Mathlib.Omega.{arith}
-use lib.ListN.{getD}
-use borrow.Author.Needs.{needs}
+use Rattle.laws.specs.Basics.{_≡_, refl, _∙_, _-_, _≤_, arith, getD, needs}
 use Rattle.laws.specs.Loops.{setBelow, below-none, step-set, below-all}
 use Rattle.in_place_recover.specs.Restored.{restoredOwn, ownsAfter}
 use Rattle.in_place_recover.proofs.process.owns.owns_after.Statement.{statement}

@@ -1,10 +1,5 @@
 -- `in_place_recover::process::restore::restore_live` meets its contract, by whether a pin becomes none. Assumes nothing.
-use mathlib.Core.Path.{sym, _∙_, ap}
-use mathlib.Core.List.{List}
-use Prim.Native.Nat.{_*_}
-use lib.ListN.{length}
-use lib.Seq.{sets}
-use borrow.Author.Needs.{needs}
+use Rattle.laws.specs.Basics.{sym, _∙_, ap, List, _*_, length, sets, needs}
 use Rattle.model.specs.declared.Checkpoint.{Checkpoint}
 use Rattle.model.specs.Steps.{listed}
 use Rattle.whole_runs.specs.Outcomes.{pairs}

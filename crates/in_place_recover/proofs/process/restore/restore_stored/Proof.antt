@@ -1,13 +1,6 @@
 -- `in_place_recover::process::restore::restore_stored` meets its contract. Assumes nothing.
-use mathlib.Core.Path.{_∙_, ap}
-use mathlib.Core.List.{List}
-use Prim.Native.Nat.{_*_}
-use native.Mathlib.Omega.{arith}
-use lib.ListN.{length}
-use lib.Seq.{sets}
-use borrow.Author.Needs.{needs}
-use Rattle.model.specs.declared.Checkpoint.{Checkpoint}
-use Rattle.model.specs.declared.Disk.{Disk}
+use Rattle.laws.specs.Basics.{_∙_, ap, List, _*_, arith, length, sets, needs}
+use Rattle.model.specs.declared.{Checkpoint.Checkpoint, Disk.Disk}
 use Rattle.model.specs.Steps.{listed}
 use Rattle.whole_runs.specs.Outcomes.{pairs}
 use Rattle.in_place_recover.proofs.ProcessRestoring.{stored-ready, stored-gone, stored-moves}

@@ -1,11 +1,5 @@
 -- `in_place_recover::process::restore::settle` meets its contract. Assumes nothing.
-use mathlib.Core.Path.{_∙_, ap}
-use mathlib.Core.List.{List}
-use Prim.Native.Nat.{_*_}
-use native.Mathlib.Omega.{arith}
-use lib.ListN.{length, length-set}
-use lib.Seq.{sets}
-use borrow.Author.Needs.{needs}
+use Rattle.laws.specs.Basics.{_∙_, ap, List, _*_, arith, length, length-set, sets, needs}
 use Rattle.model.specs.declared.Checkpoint.{Checkpoint}
 use Rattle.model.specs.Steps.{listed}
 use Rattle.whole_runs.specs.Outcomes.{pairs}

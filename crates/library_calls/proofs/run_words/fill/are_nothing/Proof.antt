@@ -1,13 +1,8 @@
 -- `library_calls::run_words::fill::are_nothing` meets its contract. Assumes nothing.
-use mathlib.Core.Bool.{_&&_}
-use mathlib.Core.Path.{_≡_, refl}
-use Prim.Native.Nat.{_≤_, _-_}
-use lib.ListN.{drop}
-use Rattle.laws.specs.Rows.{every-step, every-end}
-use Rattle.laws.specs.Tests.{every}
+use Rattle.laws.specs.Basics.{_≡_, refl, _&&_, _-_, _≤_, drop, needs}
+use Rattle.laws.specs.{Rows.every-step, Rows.every-end, Tests.every}
 use Rattle.model.specs.declared.Pin.the-variants.{Nothing}
 use Rattle.model.specs.Sound.{isNothing, nothingFrom}
-use borrow.Author.Needs.{needs}
 use Rattle.library_calls.proofs.run_words.fill.are_nothing.Statement.{statement}
 use Rattle.library_calls.proofs.run_words.fill.are_nothing.Tie as tie
 

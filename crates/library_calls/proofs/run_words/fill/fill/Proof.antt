@@ -1,10 +1,7 @@
 -- `library_calls::run_words::fill::fill` meets its contract. Assumes nothing.
-use mathlib.Core.Path.{_≡_, _∙_}
-use lib.ListN.{length}
-use Rattle.library_calls.proofs.run_words.Sizes.{sizes}
+use Rattle.laws.specs.Basics.{_≡_, _∙_, length, needs}
+use Rattle.library_calls.proofs.{run_words.Sizes.sizes, run_words.fill.fill.Statement.statement}
 use Rattle.library_calls.proofs.run_words.Filling.{refused, many-processes, many-messages, fill-ends}
-use borrow.Author.Needs.{needs}
-use Rattle.library_calls.proofs.run_words.fill.fill.Statement.{statement}
 use Rattle.library_calls.proofs.run_words.fill.fill.Tie as tie
 
 returns : tie.Need-returns

@@ -1,6 +1,6 @@
 -- `library_calls::run_words::fill::is_pin_fit` meets its contract. Assumes nothing.
+use Rattle.laws.specs.Basics.{needs}
 use Rattle.library_calls.specs.run_words.Fits.{pinFits}
-use borrow.Author.Needs.{needs}
 use Rattle.library_calls.proofs.run_words.fill.is_pin_fit.Statement.{statement}
 use Rattle.library_calls.proofs.run_words.fill.is_pin_fit.Tie as tie
 

@@ -1,14 +1,9 @@
 -- `library_calls::run_words::fill::is_zero` meets its contract. Assumes nothing.
-use Prim.Native.Nat.{_≤_, _-_}
-use mathlib.Core.Path.{_≡_, refl, _∙_}
-use native.Mathlib.Omega.{arith}
-use lib.Dec.{eqb}
+use Rattle.laws.specs.Basics.{_≡_, refl, _∙_, _-_, _≤_, arith, eqb, needs}
 use Rattle.laws.specs.Search.{allBelow}
 use Rattle.model.specs.Words.{entry}
 use Rattle.words_sound.proofs.rows.Ors.{or-step}
-use Rattle.library_calls.proofs.run_words.Tests.{zero-all}
-use borrow.Author.Needs.{needs}
-use Rattle.library_calls.proofs.run_words.fill.is_zero.Statement.{statement}
+use Rattle.library_calls.proofs.{run_words.Tests.zero-all, run_words.fill.is_zero.Statement.statement}
 use Rattle.library_calls.proofs.run_words.fill.is_zero.Tie as tie
 
 abbrev Inv-loop : tie.InvT-loop

@@ -1,6 +1,6 @@
 -- `library_calls::run_words::fill::mark_word` meets its contract. Assumes nothing.
+use Rattle.laws.specs.Basics.{needs}
 use Rattle.library_calls.specs.run_words.Filled.{markWord}
-use borrow.Author.Needs.{needs}
 use Rattle.library_calls.proofs.run_words.fill.mark_word.Statement.{statement}
 use Rattle.library_calls.proofs.run_words.fill.mark_word.Tie as tie
 

@@ -1,11 +1,6 @@
 -- `library_calls::run_words::fill::put_checkpoint` meets its contract. Assumes nothing.
-use mathlib.Core.Path.{_∙_}
-use native.Mathlib.Omega.{arith}
-use lib.ListN.{length-set}
-use Rattle.library_calls.proofs.run_words.Tests.{index-below}
-use Rattle.library_calls.proofs.run_words.Steps.{checkpoint-put}
-use borrow.Author.Needs.{needs}
-use Rattle.library_calls.proofs.run_words.fill.put_checkpoint.Statement.{statement}
+use Rattle.laws.specs.Basics.{_∙_, arith, length-set, needs}
+use Rattle.library_calls.proofs.{run_words.Tests.index-below, run_words.Steps.checkpoint-put, run_words.fill.put_checkpoint.Statement.statement}
 use Rattle.library_calls.proofs.run_words.fill.put_checkpoint.Tie as tie
 
 returns : tie.Need-returns

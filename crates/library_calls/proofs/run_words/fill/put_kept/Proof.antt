@@ -1,18 +1,9 @@
 -- `library_calls::run_words::fill::put_kept` meets its contract. Assumes nothing.
-use mathlib.Core.Path.{_≡_, refl, _∙_}
-use native.Mathlib.Omega.{arith}
-use Prim.Native.Nat.{_≤_, _-_, _/_, _%_}
-use lib.ListN.{length, getD, length-set}
-use mathlib.Core.List.{[]}
-use Rattle.laws.specs.Below.{all-and}
-use Rattle.laws.specs.Loops.{iter, iter-none, iter-more, all-zero}
-use Rattle.laws.specs.Search.{allBelow}
+use Rattle.laws.specs.Basics.{_≡_, refl, _∙_, [], _-_, _/_, _%_, _≤_, arith, length, getD, length-set, needs}
+use Rattle.laws.specs.{Below.all-and, Loops.iter, Loops.iter-none, Loops.iter-more, Loops.all-zero, Search.allBelow}
 use Rattle.model.specs.Words.{pastEnd}
-use Rattle.library_calls.specs.run_words.Fits.{placeFits, keptFits}
-use Rattle.library_calls.specs.run_words.Filled.{keptFilled}
-use Rattle.library_calls.proofs.run_words.Steps.{place-more}
-use borrow.Author.Needs.{needs}
-use Rattle.library_calls.proofs.run_words.fill.put_kept.Statement.{statement}
+use Rattle.library_calls.specs.{run_words.Fits.placeFits, run_words.Fits.keptFits, run_words.Filled.keptFilled}
+use Rattle.library_calls.proofs.{run_words.Steps.place-more, run_words.fill.put_kept.Statement.statement}
 use Rattle.library_calls.proofs.run_words.fill.put_kept.Tie as tie
 
 abbrev Inv-loop : tie.InvT-loop

@@ -1,9 +1,6 @@
 -- `library_calls::run_words::fill::put_message` meets its contract. Assumes nothing.
-use mathlib.Core.Path.{_∙_}
-use native.Mathlib.Omega.{arith}
-use lib.ListN.{length-set}
+use Rattle.laws.specs.Basics.{_∙_, arith, length-set, needs}
 use Rattle.words.proofs.Reading.{set-is-put}
-use borrow.Author.Needs.{needs}
 use Rattle.library_calls.proofs.run_words.fill.put_message.Statement.{statement}
 use Rattle.library_calls.proofs.run_words.fill.put_message.Tie as tie
 

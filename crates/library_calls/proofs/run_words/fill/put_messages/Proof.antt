@@ -1,14 +1,7 @@
 -- `library_calls::run_words::fill::put_messages` meets its contract. Assumes nothing.
-use mathlib.Core.Path.{_≡_, refl, _∙_}
-use native.Mathlib.Omega.{arith}
-use Prim.Native.Nat.{_≤_, _-_}
-use lib.ListN.{length, getD}
-use Rattle.laws.specs.Below.{all-and}
-use Rattle.laws.specs.Loops.{iter, iter-none, iter-more, all-zero}
-use Rattle.laws.specs.Search.{allBelow}
-use Rattle.library_calls.specs.run_words.Fits.{pastMessages, oneFits, messagesFit}
-use Rattle.library_calls.specs.run_words.Filled.{messagesFilled}
-use borrow.Author.Needs.{needs}
+use Rattle.laws.specs.Basics.{_≡_, refl, _∙_, _-_, _≤_, arith, length, getD, needs}
+use Rattle.laws.specs.{Below.all-and, Loops.iter, Loops.iter-none, Loops.iter-more, Loops.all-zero, Search.allBelow}
+use Rattle.library_calls.specs.{run_words.Fits.pastMessages, run_words.Fits.oneFits, run_words.Fits.messagesFit, run_words.Filled.messagesFilled}
 use Rattle.library_calls.proofs.run_words.fill.put_messages.Statement.{statement}
 use Rattle.library_calls.proofs.run_words.fill.put_messages.Tie as tie
 

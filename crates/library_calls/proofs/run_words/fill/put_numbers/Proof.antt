@@ -1,10 +1,6 @@
 -- `library_calls::run_words::fill::put_numbers` meets its contract. Assumes nothing.
-use mathlib.Core.Path.{_≡_, sym, _∙_}
-use native.Mathlib.Omega.{arith}
-use lib.ListN.{length, length-set}
-use Rattle.library_calls.proofs.run_words.Steps.{numbers-put}
-use borrow.Author.Needs.{needs}
-use Rattle.library_calls.proofs.run_words.fill.put_numbers.Statement.{statement}
+use Rattle.laws.specs.Basics.{_≡_, sym, _∙_, arith, length, length-set, needs}
+use Rattle.library_calls.proofs.{run_words.Steps.numbers-put, run_words.fill.put_numbers.Statement.statement}
 use Rattle.library_calls.proofs.run_words.fill.put_numbers.Tie as tie
 
 -- How many words there are after each step.

@@ -1,8 +1,7 @@
 -- `library_calls::run_words::fill::put_one` meets its contract. Assumes nothing.
+use Rattle.laws.specs.Basics.{needs}
 use Rattle.library_calls.proofs.run_words.Steps.{denied, granted, one-refused, one-put, one-unused}
-use Rattle.library_calls.proofs.run_words.Tests.{message-words}
-use borrow.Author.Needs.{needs}
-use Rattle.library_calls.proofs.run_words.fill.put_one.Statement.{statement}
+use Rattle.library_calls.proofs.{run_words.Tests.message-words, run_words.fill.put_one.Statement.statement}
 use Rattle.library_calls.proofs.run_words.fill.put_one.Tie as tie
 
 returns : tie.Need-returns

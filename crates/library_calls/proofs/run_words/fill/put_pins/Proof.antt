@@ -1,17 +1,10 @@
 -- `library_calls::run_words::fill::put_pins` meets its contract. Assumes nothing.
-use mathlib.Core.Path.{_≡_, refl}
-use native.Mathlib.Omega.{arith}
-use Prim.Native.Nat.{_≤_, _-_}
-use lib.ListN.{length, getD, length-set}
-use Rattle.laws.specs.Below.{all-and}
-use Rattle.laws.specs.Loops.{all-zero}
-use Rattle.laws.specs.Search.{allBelow}
+use Rattle.laws.specs.Basics.{_≡_, refl, _-_, _≤_, arith, length, getD, length-set, needs}
+use Rattle.laws.specs.{Below.all-and, Loops.all-zero, Search.allBelow}
 use Rattle.model.specs.declared.Pin.the-variants.{Nothing}
 use Rattle.words.specs.Puts.{putFrom}
 use Rattle.words.proofs.Reading.{put-none, put-step}
-use Rattle.library_calls.specs.run_words.Fits.{pinFits}
-use Rattle.library_calls.specs.run_words.Filled.{pinWord}
-use borrow.Author.Needs.{needs}
+use Rattle.library_calls.specs.{run_words.Fits.pinFits, run_words.Filled.pinWord}
 use Rattle.library_calls.proofs.run_words.fill.put_pins.Statement.{statement}
 use Rattle.library_calls.proofs.run_words.fill.put_pins.Tie as tie
 

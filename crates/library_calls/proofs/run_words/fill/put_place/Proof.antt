@@ -1,6 +1,6 @@
 -- `library_calls::run_words::fill::put_place` meets its contract. Assumes nothing.
+use Rattle.laws.specs.Basics.{needs}
 use Rattle.library_calls.proofs.run_words.Steps.{denied, granted, place-refused, place-put, place-unused}
-use borrow.Author.Needs.{needs}
 use Rattle.library_calls.proofs.run_words.fill.put_place.Statement.{statement}
 use Rattle.library_calls.proofs.run_words.fill.put_place.Tie as tie
 

@@ -1,10 +1,6 @@
 -- `library_calls::run_words::fill::put_process` meets its contract. Assumes nothing.
-use mathlib.Core.Path.{_∙_}
-use native.Mathlib.Omega.{arith}
-use lib.ListN.{length-set}
-use Rattle.library_calls.proofs.run_words.Steps.{process-put}
-use borrow.Author.Needs.{needs}
-use Rattle.library_calls.proofs.run_words.fill.put_process.Statement.{statement}
+use Rattle.laws.specs.Basics.{_∙_, arith, length-set, needs}
+use Rattle.library_calls.proofs.{run_words.Steps.process-put, run_words.fill.put_process.Statement.statement}
 use Rattle.library_calls.proofs.run_words.fill.put_process.Tie as tie
 
 slice-write-w-2 : tie.Need-slice-write-w-2

@@ -1,6 +1,6 @@
 -- `library_calls::run_words::fill::put_row` meets its contract. Assumes nothing.
+use Rattle.laws.specs.Basics.{needs}
 use Rattle.library_calls.proofs.run_words.Steps.{row-refused, row-put, row-unused}
-use borrow.Author.Needs.{needs}
 use Rattle.library_calls.proofs.run_words.fill.put_row.Statement.{statement}
 use Rattle.library_calls.proofs.run_words.fill.put_row.Tie as tie
 

@@ -1,8 +1,6 @@
 -- `library_calls::run_words::fill::word_of_index` meets its contract. Assumes nothing.
-use native.Mathlib.Omega.{arith}
-use borrow.Author.Tests.{eq-eqb, ne-eqb}
+use Rattle.laws.specs.Basics.{arith, needs, eq-eqb, ne-eqb}
 use Rattle.library_calls.specs.run_words.Fits.{indexFits}
-use borrow.Author.Needs.{needs}
 use Rattle.library_calls.proofs.run_words.fill.word_of_index.Statement.{statement}
 use Rattle.library_calls.proofs.run_words.fill.word_of_index.Tie as tie
 

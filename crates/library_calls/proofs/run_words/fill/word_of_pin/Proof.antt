@@ -1,6 +1,6 @@
 -- `library_calls::run_words::fill::word_of_pin` meets its contract. Assumes nothing.
+use Rattle.laws.specs.Basics.{needs}
 use Rattle.library_calls.specs.run_words.Filled.{pinWord}
-use borrow.Author.Needs.{needs}
 use Rattle.library_calls.proofs.run_words.fill.word_of_pin.Statement.{statement}
 use Rattle.library_calls.proofs.run_words.fill.word_of_pin.Tie as tie
 

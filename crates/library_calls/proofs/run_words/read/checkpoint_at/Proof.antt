@@ -1,6 +1,6 @@
 -- `library_calls::run_words::read::checkpoint_at` meets its contract. Assumes nothing.
+use Rattle.laws.specs.Basics.{needs}
 use Rattle.words.specs.Layout.{checkpointIn}
-use borrow.Author.Needs.{needs}
 use Rattle.library_calls.proofs.run_words.read.checkpoint_at.Statement.{statement}
 use Rattle.library_calls.proofs.run_words.read.checkpoint_at.Tie as tie
 

@@ -1,6 +1,6 @@
 -- `library_calls::run_words::read::is_kept` meets its contract. Assumes nothing.
+use Rattle.laws.specs.Basics.{needs}
 use Rattle.words.specs.Layout.{isKeptIn}
-use borrow.Author.Needs.{needs}
 use Rattle.library_calls.proofs.run_words.read.is_kept.Statement.{statement}
 use Rattle.library_calls.proofs.run_words.read.is_kept.Tie as tie
 

@@ -1,12 +1,8 @@
 -- `library_calls::run_words::read::kept_count_of` meets its contract. Assumes nothing.
-use Prim.Native.Nat.{_≤_, _-_}
-use mathlib.Core.Path.{_≡_, _∙_}
-use native.Mathlib.Omega.{arith}
+use Rattle.laws.specs.Basics.{_≡_, _∙_, _-_, _≤_, arith, needs}
 use Rattle.laws.specs.Loops.{setBelow, below-none, step-set}
 use Rattle.words.specs.Layout.{word, keptCountAt}
-use Rattle.library_calls.proofs.run_words.Tables.{rows-of}
-use borrow.Author.Needs.{needs}
-use Rattle.library_calls.proofs.run_words.read.kept_count_of.Statement.{statement}
+use Rattle.library_calls.proofs.{run_words.Tables.rows-of, run_words.read.kept_count_of.Statement.statement}
 use Rattle.library_calls.proofs.run_words.read.kept_count_of.Tie as tie
 
 abbrev Inv-loop : tie.InvT-loop

@@ -1,13 +1,8 @@
 -- `library_calls::run_words::read::marks_of` meets its contract. Assumes nothing.
-use Prim.Native.Nat.{_≤_, _-_}
-use mathlib.Core.Path.{_≡_, refl, _∙_}
-use native.Mathlib.Omega.{arith}
+use Rattle.laws.specs.Basics.{_≡_, refl, _∙_, false, _-_, _≤_, arith, needs}
 use Rattle.laws.specs.Loops.{setBelow, below-none, step-set}
 use Rattle.words.specs.Layout.{markIn}
-use mathlib.Core.Bool.{false}
-use Rattle.library_calls.proofs.run_words.Tables.{rows-of}
-use borrow.Author.Needs.{needs}
-use Rattle.library_calls.proofs.run_words.read.marks_of.Statement.{statement}
+use Rattle.library_calls.proofs.{run_words.Tables.rows-of, run_words.read.marks_of.Statement.statement}
 use Rattle.library_calls.proofs.run_words.read.marks_of.Tie as tie
 
 abbrev Inv-loop : tie.InvT-loop

@@ -1,6 +1,6 @@
 -- `library_calls::run_words::read::message_at` meets its contract. Assumes nothing.
+use Rattle.laws.specs.Basics.{needs}
 use Rattle.words.specs.Layout.{messageIn}
-use borrow.Author.Needs.{needs}
 use Rattle.library_calls.proofs.run_words.read.message_at.Statement.{statement}
 use Rattle.library_calls.proofs.run_words.read.message_at.Tie as tie
 

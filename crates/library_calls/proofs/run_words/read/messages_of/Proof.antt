@@ -1,16 +1,10 @@
 -- `library_calls::run_words::read::messages_of` meets its contract. Assumes nothing.
-use Prim.Native.Nat.{_≤_, _-_}
-use mathlib.Core.Path.{_≡_, refl, ap, _∙_}
-use native.Mathlib.Omega.{arith}
-use lib.ListN.{length, replicate}
-use Rattle.laws.specs.Loops.{either}
-use Rattle.laws.specs.Lists.{select, table, placed}
-use Rattle.laws.specs.Prefixes.{placed-none}
+use Rattle.laws.specs.Basics.{_≡_, refl, _∙_, ap, _-_, _≤_, arith, length, replicate, needs}
+use Rattle.laws.specs.{Loops.either, Lists.select, Lists.table, Lists.placed, Prefixes.placed-none}
 use Rattle.model.specs.declared.Message.{Message}
 use Rattle.model.specs.Words.{noMessage}
 use Rattle.words.specs.Layout.{endOf, messagesIn}
 use Rattle.library_calls.proofs.run_words.Tables.{firstMessages, first-messages-used, first-messages-unused}
-use borrow.Author.Needs.{needs}
 use Rattle.library_calls.proofs.run_words.read.messages_of.Statement.{statement}
 use Rattle.library_calls.proofs.run_words.read.messages_of.Tie as tie
 

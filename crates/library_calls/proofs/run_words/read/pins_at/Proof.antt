@@ -1,10 +1,7 @@
 -- `library_calls::run_words::read::pins_at` meets its contract. Assumes nothing.
-use Prim.Native.Nat.{_≤_, _-_, _+_}
-use mathlib.Core.Path.{_≡_, refl, _∙_}
-use native.Mathlib.Omega.{arith}
+use Rattle.laws.specs.Basics.{_≡_, refl, _∙_, _+_, _-_, _≤_, arith, needs}
 use Rattle.laws.specs.Loops.{setBelow, below-none, step-set, below-all}
 use Rattle.words.specs.Layout.{word, pinOf, pinsIn}
-use borrow.Author.Needs.{needs}
 use Rattle.library_calls.proofs.run_words.read.pins_at.Statement.{statement}
 use Rattle.library_calls.proofs.run_words.read.pins_at.Tie as tie
 

@@ -1,19 +1,11 @@
 -- `library_calls::run_words::read::read` meets its contract. Assumes nothing.
-use mathlib.Core.Path.{_≡_, sym, ap, _∙_}
-use mathlib.Core.List.{List}
-use Prim.Native.Nat.{_*_, _%_, _-_, _≤_}
-use native.Mathlib.Omega.{arith}
-use lib.ListN.{length}
+use Rattle.laws.specs.Basics.{_≡_, sym, _∙_, ap, List, _-_, _*_, _%_, _≤_, arith, length, needs}
 use Rattle.laws.specs.Loops.{either}
-use Rattle.model.specs.declared.Interval.{Interval}
-use Rattle.model.specs.declared.Pin.{Pin}
-use Rattle.model.specs.declared.Checkpoint.{Checkpoint}
+use Rattle.model.specs.declared.{Interval.Interval, Pin.Pin, Checkpoint.Checkpoint}
 use Rattle.words.specs.Layout.{countOf}
 use Rattle.words.proofs.View.{fits-size, fits-end, end-most}
-use Rattle.library_calls.proofs.run_words.ReadOut.{read-ends}
+use Rattle.library_calls.proofs.{run_words.ReadOut.read-ends, run_words.read.read.Statement.statement}
 use Rattle.library_calls.proofs.run_words.Tables.{soFar, unused-rows, so-far-step, so-far-keep, so-far-all, kept-some}
-use borrow.Author.Needs.{needs}
-use Rattle.library_calls.proofs.run_words.read.read.Statement.{statement}
 use Rattle.library_calls.proofs.run_words.read.read.Tie as tie
 
 abbrev Inv-loop : tie.InvT-loop

@@ -1,11 +1,7 @@
 -- `library_calls::run_words::read::read_lost` meets its contract. Assumes nothing.
-use mathlib.Core.Path.{_≡_}
-use native.Mathlib.Omega.{arith}
-use lib.ListN.{length}
+use Rattle.laws.specs.Basics.{_≡_, arith, length, needs}
 use Rattle.words.proofs.View.{fits-size, fits-end, end-most}
-use Rattle.library_calls.proofs.run_words.ReadOut.{lost-ends}
-use borrow.Author.Needs.{needs}
-use Rattle.library_calls.proofs.run_words.read.read_lost.Statement.{statement}
+use Rattle.library_calls.proofs.{run_words.ReadOut.lost-ends, run_words.read.read_lost.Statement.statement}
 use Rattle.library_calls.proofs.run_words.read.read_lost.Tie as tie
 
 -- How many words there are.

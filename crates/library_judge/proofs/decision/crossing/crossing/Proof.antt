@@ -1,9 +1,6 @@
 -- `library_judge::decision::crossing::crossing` meets its contract.
 -- Assumes nothing.
-use borrow.Author.Needs.{needs}
-use native.Mathlib.Omega.{arith}
-use Prim.Native.Nat.{_-_}
-use borrow.Author.Tests.{lt-ltb, le-ltb, eq-eqb, ne-eqb}
+use Rattle.laws.specs.Basics.{_-_, arith, needs, eq-eqb, ne-eqb, lt-ltb, le-ltb}
 use Rattle.library_judge.specs.decision.Crossings.{crossingOf, crossesAt}
 use Rattle.library_judge.proofs.decision.crossing.crossing.Statement.{statement}
 use Rattle.library_judge.proofs.decision.crossing.crossing.Tie as tie

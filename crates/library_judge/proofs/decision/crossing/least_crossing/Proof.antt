@@ -1,9 +1,6 @@
 -- `library_judge::decision::crossing::least_crossing` meets its contract.
 -- Assumes nothing.
-use borrow.Author.Needs.{needs}
-use native.Mathlib.Omega.{arith}
-use mathlib.Core.Path.{_≡_}
-use Prim.Native.Nat.{_-_, _≤_}
+use Rattle.laws.specs.Basics.{_≡_, _-_, _≤_, arith, needs}
 use Rattle.library_judge.specs.decision.Crossings.{leastCrossing, least-none, least-more}
 use Rattle.library_judge.proofs.decision.crossing.least_crossing.Statement.{statement}
 use Rattle.library_judge.proofs.decision.crossing.least_crossing.Tie as tie

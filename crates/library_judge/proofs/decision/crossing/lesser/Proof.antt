@@ -1,7 +1,6 @@
 -- `library_judge::decision::crossing::lesser` meets its contract.
 -- Assumes nothing.
-use Prim.Native.Nat.{_-_}
-use borrow.Author.Tests.{lt-ltb, le-ltb}
+use Rattle.laws.specs.Basics.{_-_, lt-ltb, le-ltb}
 use Rattle.library_judge.specs.decision.Crossings.{lesserOf}
 use Rattle.library_judge.proofs.decision.crossing.lesser.Statement.{statement}
 use Rattle.library_judge.proofs.decision.crossing.lesser.Tie as tie

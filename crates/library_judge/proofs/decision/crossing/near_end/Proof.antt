@@ -1,12 +1,8 @@
 -- `library_judge::decision::crossing::near_end` meets its contract.
 -- Assumes nothing.
+use Rattle.laws.specs.Basics.{_≡_, sym, _∙_, ap, true, false, false≢true, ℕ, _-_, _≤_, _<_, arith, needs}
 use Rattle.library_judge.specs.declared.decision.crossing.Least.{Least}
-use borrow.Author.Needs.{needs}
-use native.Mathlib.Omega.{arith}
-use mathlib.Core.Path.{_≡_, sym, _∙_, ap}
-use Prim.Native.Nat.{ℕ, _-_, _≤_, _<_}
 use borrow.Author.Count.{below-more}
-use mathlib.Core.Bool.{true, false, false≢true}
 use Rattle.library_judge.specs.decision.Crossings.{leastCrossing, found-is}
 use Rattle.library_judge.proofs.decision.crossing.near_end.Statement.{statement}
 use Rattle.library_judge.proofs.decision.crossing.near_end.Tie as tie

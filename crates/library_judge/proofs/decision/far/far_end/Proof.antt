@@ -1,12 +1,7 @@
 -- `library_judge::decision::far::far_end` meets its contract.
 -- Assumes nothing.
-use borrow.Author.Needs.{needs}
-use native.Mathlib.Omega.{arith}
-use mathlib.Core.Path.{_≡_, sym}
-use Prim.Native.Nat.{ℕ, _-_, _≤_, _<_}
+use Rattle.laws.specs.Basics.{_≡_, sym, true, false, false≢true, ℕ, _-_, _≤_, _<_, arith, getD, needs}
 use borrow.Author.Count.{below-more}
-use mathlib.Core.Bool.{true, false, false≢true}
-use lib.ListN.{getD}
 use Rattle.library_judge.specs.decision.Rows.{entryAt}
 use Rattle.laws.specs.Loops.{either}
 use Rattle.library_judge.proofs.decision.far.far_end.Statement.{statement}

@@ -1,10 +1,6 @@
 -- `library_judge::decision::flat::put_row` meets its contract.
 -- Assumes nothing.
-use borrow.Author.Needs.{needs}
-use native.Mathlib.Omega.{arith}
-use mathlib.Core.Path.{_≡_, refl}
-use Prim.Native.Nat.{_-_, _≤_}
-use lib.ListN.{length, length-set}
+use Rattle.laws.specs.Basics.{_≡_, refl, _-_, _≤_, arith, length, length-set, needs}
 use Rattle.library_judge.specs.decision.Rows.{putRow, putFirst, put-none, put-more}
 use Rattle.library_judge.proofs.decision.flat.put_row.Statement.{statement}
 use Rattle.library_judge.proofs.decision.flat.put_row.Tie as tie

@@ -1,12 +1,7 @@
 -- `row_at` meets its contract: the entries below f are those of the row.
 -- Assumes nothing.
-use borrow.Author.Needs.{needs}
-use mathlib.Core.Path.{_≡_, refl, _∙_}
-use mathlib.Core.List.{List}
-use Prim.Native.Nat.{ℕ, _+_, _*_, _-_, _≤_}
-use native.Mathlib.Omega.{arith}
+use Rattle.laws.specs.Basics.{_≡_, refl, _∙_, List, ℕ, _+_, _-_, _*_, _≤_, arith, getD, replicate, length-replicate, needs}
 use denote.Ref.{now}
-use lib.ListN.{getD, length-replicate, replicate}
 use Rattle.laws.specs.Loops.{setBelow, below-none, below-all, step-set}
 use Rattle.model.specs.declared.Interval.{Interval}
 use Rattle.library_judge.specs.decision.Rows.{rowOf}

@@ -1,9 +1,6 @@
 -- `library_judge::decision::reach::closure` meets its contract.
 -- Assumes nothing.
-use native.Mathlib.Omega.{arith}
-use mathlib.Core.Path.{_≡_, ap}
-use Prim.Native.Nat.{_+_, _-_}
-use mathlib.Core.Bool.{false}
+use Rattle.laws.specs.Basics.{_≡_, ap, false, _+_, _-_, arith}
 use Rattle.library_judge.proofs.decision.Passes.{Lowered, Closed, total, mark, one-pass, lowered-none, lowered-then}
 use Rattle.library_judge.proofs.decision.reach.closure.Statement.{statement}
 use Rattle.library_judge.proofs.decision.reach.closure.Tie as tie

@@ -1,11 +1,7 @@
 -- `library_judge::decision::reach::first_row` meets its contract.
 -- Assumes nothing.
-use borrow.Author.Needs.{needs}
-use native.Mathlib.Omega.{arith}
-use mathlib.Core.Path.{_≡_}
-use Prim.Native.Nat.{ℕ, _-_, _≤_, _<_}
+use Rattle.laws.specs.Basics.{_≡_, ℕ, _-_, _≤_, _<_, arith, getD, needs}
 use borrow.Author.Count.{below-more}
-use lib.ListN.{getD}
 use Rattle.library_judge.specs.decision.Rows.{entryAt}
 use Rattle.laws.specs.Loops.{either}
 use Rattle.library_judge.proofs.decision.reach.first_row.Statement.{statement}

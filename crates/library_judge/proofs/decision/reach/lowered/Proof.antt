@@ -1,8 +1,6 @@
 -- `library_judge::decision::reach::lowered` meets its contract.
 -- Assumes nothing.
-use borrow.Author.Needs.{needs}
-use Prim.Native.Nat.{_-_}
-use borrow.Author.Tests.{lt-ltb, le-ltb, le-leb, lt-leb}
+use Rattle.laws.specs.Basics.{_-_, needs, lt-ltb, le-ltb, le-leb, lt-leb}
 use Rattle.library_judge.specs.decision.Reach.{loweredBy}
 use Rattle.library_judge.proofs.decision.reach.lowered.Statement.{statement}
 use Rattle.library_judge.proofs.decision.reach.lowered.Tie as tie

@@ -1,9 +1,6 @@
 -- `library_judge::decision::reach::pass_over` meets its contract.
 -- Assumes nothing.
-use borrow.Author.Needs.{needs}
-use native.Mathlib.Omega.{arith}
-use mathlib.Core.Path.{_≡_, refl, sym, _∙_, ap}
-use Prim.Native.Nat.{_-_, _≤_}
+use Rattle.laws.specs.Basics.{_≡_, refl, sym, _∙_, ap, _-_, _≤_, arith, needs}
 use Rattle.library_judge.specs.decision.Reach.{passed, passed-one}
 use Rattle.library_judge.proofs.decision.reach.pass_over.Statement.{statement}
 use Rattle.library_judge.proofs.decision.reach.pass_over.Tie as tie

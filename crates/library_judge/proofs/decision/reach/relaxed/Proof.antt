@@ -1,9 +1,6 @@
 -- `library_judge::decision::reach::relaxed` meets its contract.
 -- Assumes nothing.
-use borrow.Author.Needs.{needs}
-use native.Mathlib.Omega.{arith}
-use Prim.Native.Nat.{_-_}
-use borrow.Author.Tests.{eq-eqb, ne-eqb}
+use Rattle.laws.specs.Basics.{_-_, arith, needs, eq-eqb, ne-eqb}
 use Rattle.library_judge.specs.decision.Reach.{relaxedBy}
 use Rattle.library_judge.proofs.decision.reach.relaxed.Statement.{statement}
 use Rattle.library_judge.proofs.decision.reach.relaxed.Tie as tie

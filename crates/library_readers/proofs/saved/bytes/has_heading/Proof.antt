@@ -1,16 +1,8 @@
 -- `library_readers::saved::bytes::has_heading` meets its contract. Assumes nothing.
-use Prim.Native.Nat.{_≤_, _-_}
-use mathlib.Core.Path.{_≡_}
-use mathlib.Core.Bool.{true}
-use native.Mathlib.Omega.{arith}
-use lib.Dec.{eqb}
-use lib.ListN.{getD}
-use borrow.Author.Needs.{needs}
-use Rattle.laws.specs.Loops.{all-zero}
-use Rattle.laws.specs.Search.{allBelow}
+use Rattle.laws.specs.Basics.{_≡_, true, _-_, _≤_, arith, eqb, getD, needs}
+use Rattle.laws.specs.{Loops.all-zero, Search.allBelow}
 use Rattle.library_readers.specs.saved.Format.{heading, hasHeading}
-use Rattle.library_readers.proofs.saved.Parts.{head-off, head-on}
-use Rattle.library_readers.proofs.saved.bytes.has_heading.Statement.{statement}
+use Rattle.library_readers.proofs.{saved.Parts.head-off, saved.Parts.head-on, saved.bytes.has_heading.Statement.statement}
 use Rattle.library_readers.proofs.saved.bytes.has_heading.Tie as tie
 
 abbrev Inv-loop : tie.InvT-loop

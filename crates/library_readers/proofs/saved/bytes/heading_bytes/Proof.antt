@@ -1,5 +1,5 @@
 -- `library_readers::saved::bytes::heading_bytes` meets its contract, by computation. Assumes nothing.
-use mathlib.Core.Path.{refl}
+use Rattle.laws.specs.Basics.{refl}
 use Rattle.library_readers.specs.saved.Format.{heading}
 use Rattle.library_readers.proofs.saved.bytes.heading_bytes.Statement.{statement}
 use Rattle.library_readers.proofs.saved.bytes.heading_bytes.Tie as tie

@@ -1,10 +1,7 @@
 -- `library_readers::saved::bytes::is_whole` meets its contract. Assumes nothing.
-use mathlib.Core.Path.{sym, _∙_}
-use mathlib.Core.Bool.{true, false}
-use borrow.Author.Needs.{needs}
+use Rattle.laws.specs.Basics.{sym, _∙_, true, false, needs}
 use Rattle.laws.specs.Below.{not-out}
-use Rattle.library_readers.proofs.saved.Parts.{not-sized, not-headed, summed-or-not}
-use Rattle.library_readers.proofs.saved.bytes.is_whole.Statement.{statement}
+use Rattle.library_readers.proofs.{saved.Parts.not-sized, saved.Parts.not-headed, saved.Parts.summed-or-not, saved.bytes.is_whole.Statement.statement}
 use Rattle.library_readers.proofs.saved.bytes.is_whole.Tie as tie
 
 returns-2 : tie.Need-returns-2

@@ -1,6 +1,5 @@
 -- `library_readers::saved::bytes::sum_in` meets its contract. Assumes nothing.
-use native.Mathlib.Omega.{arith}
-use borrow.Author.Needs.{needs}
+use Rattle.laws.specs.Basics.{arith, needs}
 use Rattle.library_readers.specs.saved.Format.{sumIn}
 use Rattle.library_readers.proofs.saved.bytes.sum_in.Statement.{statement}
 use Rattle.library_readers.proofs.saved.bytes.sum_in.Tie as tie

@@ -1,8 +1,5 @@
 -- `library_readers::saved::bytes::word_in` meets its contract. Assumes nothing.
-use Prim.Native.Nat.{_+_, _*_}
-use mathlib.Core.Path.{_≡_}
-use native.Mathlib.Omega.{arith}
-use borrow.Author.Needs.{needs}
+use Rattle.laws.specs.Basics.{_≡_, _+_, _*_, arith, needs}
 use Rattle.library_readers.specs.saved.Format.{wordIn}
 use Rattle.library_readers.proofs.saved.bytes.word_in.Statement.{statement}
 use Rattle.library_readers.proofs.saved.bytes.word_in.Tie as tie

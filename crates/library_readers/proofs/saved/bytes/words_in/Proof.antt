@@ -1,9 +1,5 @@
 -- `library_readers::saved::bytes::words_in` meets its contract. Assumes nothing.
-use Prim.Native.Nat.{ℕ, _≤_, _-_}
-use mathlib.Core.Path.{_≡_, _∙_}
-use native.Mathlib.Omega.{arith}
-use lib.ListN.{length-replicate}
-use borrow.Author.Needs.{needs}
+use Rattle.laws.specs.Basics.{_≡_, _∙_, ℕ, _-_, _≤_, arith, length-replicate, needs}
 use Rattle.laws.specs.Loops.{setBelow, below-none, step-set, below-all}
 use Rattle.library_readers.specs.saved.Format.{wordIn, wordsIn}
 use Rattle.library_readers.proofs.saved.bytes.words_in.Statement.{statement}

@@ -1,16 +1,8 @@
 -- `library_readers::saved::bytes::write_heading` meets its contract. Assumes nothing.
-use Prim.Native.Nat.{ℕ, _≤_, _-_}
-use mathlib.Core.Path.{_≡_, refl, _∙_, ap}
-use mathlib.Core.List.{List}
-use native.Mathlib.Omega.{arith}
-use lib.ListN.{length, getD, length-set}
-use lib.Seq.{sets}
-use borrow.Author.Needs.{needs}
-use Rattle.laws.specs.Below.{below-written}
-use Rattle.laws.specs.Loops.{setBelow, below-none, step-set}
+use Rattle.laws.specs.Basics.{_≡_, refl, _∙_, ap, List, ℕ, _-_, _≤_, arith, length, getD, length-set, sets, needs}
+use Rattle.laws.specs.{Below.below-written, Loops.setBelow, Loops.below-none, Loops.step-set}
 use Rattle.library_readers.specs.saved.Format.{heading}
-use Rattle.library_readers.proofs.saved.Parts.{heading-table}
-use Rattle.library_readers.proofs.saved.bytes.write_heading.Statement.{statement}
+use Rattle.library_readers.proofs.{saved.Parts.heading-table, saved.bytes.write_heading.Statement.statement}
 use Rattle.library_readers.proofs.saved.bytes.write_heading.Tie as tie
 
 abbrev Inv-loop : tie.InvT-loop

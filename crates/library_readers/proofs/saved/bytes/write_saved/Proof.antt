@@ -1,7 +1,6 @@
 -- `library_readers::saved::bytes::write_saved` meets its contract. Assumes nothing.
-use borrow.Author.Needs.{needs}
-use Rattle.library_readers.proofs.saved.Parts.{whole-written}
-use Rattle.library_readers.proofs.saved.bytes.write_saved.Statement.{statement}
+use Rattle.laws.specs.Basics.{needs}
+use Rattle.library_readers.proofs.{saved.Parts.whole-written, saved.bytes.write_saved.Statement.statement}
 use Rattle.library_readers.proofs.saved.bytes.write_saved.Tie as tie
 
 returns : tie.Need-returns

@@ -1,8 +1,5 @@
 -- `library_readers::saved::bytes::write_sum` meets its contract. Assumes nothing.
-use mathlib.Core.Path.{refl}
-use native.Mathlib.Omega.{arith}
-use lib.ListN.{length-set}
-use borrow.Author.Needs.{needs}
+use Rattle.laws.specs.Basics.{refl, arith, length-set, needs}
 use Rattle.library_readers.specs.saved.Format.{sumBytes}
 use Rattle.library_readers.proofs.saved.bytes.write_sum.Statement.{statement}
 use Rattle.library_readers.proofs.saved.bytes.write_sum.Tie as tie

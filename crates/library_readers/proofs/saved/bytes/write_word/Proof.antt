@@ -1,8 +1,6 @@
 -- `library_readers::saved::bytes::write_word` meets its contract. Assumes nothing.
+use Rattle.laws.specs.Basics.{arith, length-set, needs}
 use native.Mathlib.Numerals.{add-one}
-use native.Mathlib.Omega.{arith}
-use lib.ListN.{length-set}
-use borrow.Author.Needs.{needs}
 use Rattle.library_readers.specs.saved.Format.{wordBytes}
 use Rattle.library_readers.proofs.saved.bytes.write_word.Statement.{statement}
 use Rattle.library_readers.proofs.saved.bytes.write_word.Tie as tie

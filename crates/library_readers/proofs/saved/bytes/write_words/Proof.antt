@@ -1,14 +1,8 @@
 -- `library_readers::saved::bytes::write_words` meets its contract. Assumes nothing.
-use Prim.Native.Nat.{ℕ, _-_, _≤_, _<_}
-use mathlib.Core.Path.{_≡_, refl, _∙_, ap}
-use mathlib.Core.List.{List}
-use native.Mathlib.Omega.{arith}
-use lib.ListN.{length, take}
-use lib.Seq.{sets, take-all}
-use borrow.Author.Needs.{needs}
+use Rattle.laws.specs.Basics.{_≡_, refl, _∙_, ap, List, ℕ, _-_, _≤_, _<_, arith, length, take, sets, needs}
+use lib.Seq.{take-all}
 use Rattle.library_readers.specs.saved.Format.{wordBytes}
-use Rattle.library_readers.proofs.saved.Parts.{none-written, one-written}
-use Rattle.library_readers.proofs.saved.bytes.write_words.Statement.{statement}
+use Rattle.library_readers.proofs.{saved.Parts.none-written, saved.Parts.one-written, saved.bytes.write_words.Statement.statement}
 use Rattle.library_readers.proofs.saved.bytes.write_words.Tie as tie
 
 abbrev Inv-loop : tie.InvT-loop

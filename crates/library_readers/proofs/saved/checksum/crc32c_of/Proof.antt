@@ -1,15 +1,9 @@
 -- `library_readers::saved::checksum::crc32c_of` meets its contract: after k iterations, what is left of the first k bytes. Assumes nothing.
-use Prim.Native.Nat.{ℕ, _+_, _-_, _≤_, _<_}
-use mathlib.Core.Path.{_≡_, refl, sym, _∙_, ap}
-use mathlib.Core.List.{List}
-use native.Mathlib.Omega.{arith}
+use Rattle.laws.specs.Basics.{_≡_, refl, sym, _∙_, ap, List, ℕ, _+_, _-_, _≤_, _<_, arith, length, getD, take, needs}
 use lib.Bits.{bitXor}
-use lib.ListN.{length, getD, take}
-use borrow.Author.Needs.{needs}
 use Rattle.laws.specs.Prefixes.{take-more}
 use Rattle.library_readers.specs.saved.Castagnoli.{ones, byteTaken, remainder, crc32c}
-use Rattle.library_readers.proofs.saved.Division.{remainder-more}
-use Rattle.library_readers.proofs.saved.checksum.crc32c_of.Statement.{statement}
+use Rattle.library_readers.proofs.{saved.Division.remainder-more, saved.checksum.crc32c_of.Statement.statement}
 use Rattle.library_readers.proofs.saved.checksum.crc32c_of.Tie as tie
 
 none-taken : (l : List ℕ) → ones ≡ remainder ones (take 0 l)

@@ -1,5 +1,5 @@
 -- `library_readers::saved::checksum::take_bit` meets its contract. Assumes nothing.
-use borrow.Author.Tests.{eq-eqb, ne-eqb}
+use Rattle.laws.specs.Basics.{eq-eqb, ne-eqb}
 use Rattle.library_readers.specs.saved.Castagnoli.{bitTaken}
 use Rattle.library_readers.proofs.saved.checksum.take_bit.Statement.{statement}
 use Rattle.library_readers.proofs.saved.checksum.take_bit.Tie as tie

@@ -1,8 +1,5 @@
 -- `library_readers::saved::checksum::take_byte` meets its contract. Assumes nothing.
-use Prim.Native.Nat.{ℕ, _≤_, _-_}
-use mathlib.Core.Path.{_≡_, _∙_, ap}
-use native.Mathlib.Omega.{arith}
-use borrow.Author.Needs.{needs}
+use Rattle.laws.specs.Basics.{_≡_, _∙_, ap, ℕ, _-_, _≤_, arith, needs}
 use lib.Bits.{bitXor}
 use Rattle.laws.specs.Loops.{iter, iter-none, iter-more}
 use Rattle.library_readers.specs.saved.Castagnoli.{bitTaken, byteTaken}

@@ -1,11 +1,6 @@
 -- `library_recorder::record::bytes::append` meets its contract: the record of an event that fits is what the crate trace encodes.
 -- Assumes nothing.
-use mathlib.Core.Path.{_≡_, refl, sym, _∙_, ap}
-use mathlib.Core.Bool.{true}
-use mathlib.Core.List.{List}
-use Prim.Native.Nat.{ℕ, _+_}
-use lib.Seq.{sets}
-use borrow.Author.Needs.{needs}
+use Rattle.laws.specs.Basics.{_≡_, refl, sym, _∙_, ap, true, List, ℕ, _+_, sets, needs}
 use Rattle.model.specs.declared.Event.{Event}
 use Rattle.model.specs.Trace.{fits}
 use Rattle.model.proofs.Records.{records-are-events}

@@ -1,12 +1,6 @@
 -- `recorder::bytes::has_room` meets its contract.
 -- Assumes nothing.
-use mathlib.Core.Path.{_≡_}
-use mathlib.Core.Bool.{not, false}
-use Prim.Native.Nat.{ℕ, _-_, _<_}
-use native.Mathlib.Omega.{arith}
-use lib.Dec.{ltb, leb}
-use borrow.Author.Tests.{lt-ltb, le-ltb, leb-true, leb-false}
-use Rattle.laws.specs.Choice.{by-bool}
+use Rattle.laws.specs.Basics.{_≡_, false, not, ℕ, _-_, _<_, arith, ltb, leb, lt-ltb, le-ltb, leb-true, leb-false, by-bool}
 use Rattle.library_recorder.proofs.record.bytes.has_room.Statement.{statement}
 use Rattle.library_recorder.proofs.record.bytes.has_room.Tie as tie
 

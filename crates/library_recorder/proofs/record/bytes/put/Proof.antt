@@ -1,12 +1,6 @@
 -- `recorder::bytes::put` meets its contract: four stores, one after the other.
 -- Assumes nothing.
-use borrow.Author.Needs.{needs}
-use mathlib.Core.Path.{_≡_}
-use mathlib.Core.List.{List, [], _∷_}
-use Prim.Native.Nat.{ℕ, suc, _+_}
-use native.Mathlib.Omega.{arith}
-use lib.ListN.{length, getD, set, length-set}
-use lib.Seq.{sets}
+use Rattle.laws.specs.Basics.{_≡_, List, [], _∷_, ℕ, suc, _+_, arith, length, getD, set, length-set, sets, needs}
 use Rattle.library_recorder.proofs.record.bytes.put.Statement.{statement}
 use Rattle.library_recorder.proofs.record.bytes.put.Tie as tie
 

@@ -1,6 +1,6 @@
 -- `listing::output::ends::empty` meets its contract: the line of a trace of no bytes is that of the refusal.
 -- Assumes nothing.
-use borrow.Author.Needs.{needs}
+use Rattle.laws.specs.Basics.{needs}
 use Rattle.whole_runs.specs.Listing.{listing}
 use Rattle.listing.proofs.output.ends.empty.Statement.{statement}
 use Rattle.listing.proofs.output.ends.empty.Tie as tie

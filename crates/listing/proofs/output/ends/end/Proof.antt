@@ -1,12 +1,8 @@
 -- `listing::output::ends::end` meets its contract: nothing is left over, one to three bytes are, or the last record was taken before.
 -- Assumes nothing.
-use borrow.Author.Needs.{needs}
-use Prim.Native.Nat.{_≤_}
-use native.Mathlib.Omega.{arith}
+use Rattle.laws.specs.Basics.{_≤_, arith, length, needs}
 use denote.Ref.{now}
-use lib.ListN.{length}
-use Rattle.listing.proofs.output.Endings.{left-over, none-left, past-left}
-use Rattle.listing.proofs.output.ends.end.Statement.{statement}
+use Rattle.listing.proofs.{output.Endings.left-over, output.Endings.none-left, output.Endings.past-left, output.ends.end.Statement.statement}
 use Rattle.listing.proofs.output.ends.end.Tie as tie
 
 returns : tie.Need-returns

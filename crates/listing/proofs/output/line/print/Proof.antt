@@ -1,14 +1,10 @@
 -- `listing::output::line::print` meets its contract: the line is no longer than the room.
 -- Assumes nothing.
-use borrow.Author.Needs.{needs}
-use native.Mathlib.Omega.{arith}
-use lib.ListN.{length}
-use Prim.Native.Nat.{_≤_}
+use Rattle.laws.specs.Basics.{_≤_, arith, length, needs}
 use denote.Ref.{now}
 use Rattle.whole_runs.specs.Listing.{lineText}
 use Rattle.listing.specs.Lines.{replyOf, longestLine}
-use Rattle.listing.proofs.output.Lines.{line-fits}
-use Rattle.listing.proofs.output.line.print.Statement.{statement}
+use Rattle.listing.proofs.{output.Lines.line-fits, output.line.print.Statement.statement}
 use Rattle.listing.proofs.output.line.print.Tie as tie
 
 write-line-requires : tie.Need-write-line-requires

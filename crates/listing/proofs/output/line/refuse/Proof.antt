@@ -1,8 +1,6 @@
 -- `listing::output::line::refuse` meets its contract. Assumes nothing.
-use borrow.Author.Needs.{needs}
-use native.Mathlib.Omega.{arith}
-use Rattle.listing.proofs.output.Lines.{refusal-line, refusal-fits}
-use Rattle.listing.proofs.output.line.refuse.Statement.{statement}
+use Rattle.laws.specs.Basics.{arith, needs}
+use Rattle.listing.proofs.{output.Lines.refusal-line, output.Lines.refusal-fits, output.line.refuse.Statement.statement}
 use Rattle.listing.proofs.output.line.refuse.Tie as tie
 
 write-refusal-requires : tie.Need-write-refusal-requires

@@ -1,10 +1,7 @@
 -- `machines::programs::input::read_after` meets its contract: the read changes nothing in front of the place that it is given.
 -- Assumes nothing.
-use borrow.Author.Needs.{needs}
+use Rattle.laws.specs.Basics.{_-_, arith, length, needs}
 use denote.Ref.{now}
-use Prim.Native.Nat.{_-_}
-use native.Mathlib.Omega.{arith}
-use lib.ListN.{length}
 use borrow.Rule.Slice.PartMut.{take-put}
 use Rattle.machines.proofs.programs.input.read_after.Statement.{statement}
 use Rattle.machines.proofs.programs.input.read_after.Tie as tie

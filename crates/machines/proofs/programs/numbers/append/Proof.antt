@@ -1,7 +1,6 @@
 -- `machines::programs::numbers::append` meets its contract, test by test.
 -- Assumes nothing.
-use native.Mathlib.Omega.{arith}
-use borrow.Author.Needs.{needs}
+use Rattle.laws.specs.Basics.{arith, needs}
 use Rattle.machines.proofs.programs.Digits.{below-digits, above-digits, kept-as-it-is, now-too-great, appended-is}
 use Rattle.machines.proofs.programs.numbers.append.Statement.{statement}
 use Rattle.machines.proofs.programs.numbers.append.Tie as tie

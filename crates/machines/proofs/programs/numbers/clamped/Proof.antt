@@ -1,7 +1,6 @@
 -- `machines::programs::numbers::clamped` meets its contract.
 -- Assumes nothing.
-use borrow.Author.Needs.{needs}
-use borrow.Author.Tests.{lt-ltb, le-ltb}
+use Rattle.laws.specs.Basics.{needs, lt-ltb, le-ltb}
 use Rattle.machines.specs.programs.Numbers.{atMost}
 use Rattle.machines.proofs.programs.numbers.clamped.Statement.{statement}
 use Rattle.machines.proofs.programs.numbers.clamped.Tie as tie

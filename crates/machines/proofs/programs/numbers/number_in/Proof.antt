@@ -1,12 +1,7 @@
 -- `machines::programs::numbers::number_in` meets its contract. The loop's invariant: the number that the first i digits are.
 -- Assumes nothing.
-use mathlib.Core.Path.{_≡_, refl, _∙_, ap}
-use Prim.Native.Nat.{_-_, _≤_}
-use native.Mathlib.Omega.{arith}
-use lib.ListN.{length, getD}
+use Rattle.laws.specs.Basics.{_≡_, refl, _∙_, ap, some, _-_, _≤_, arith, length, getD, needs}
 use denote.Ref.{now}
-use borrow.Author.Needs.{needs}
-use mathlib.Core.Option.{some}
 use Rattle.laws.specs.Loops.{iter, iter-more}
 use Rattle.machines.specs.programs.Numbers.{grown, standsFor}
 use Rattle.machines.proofs.programs.Digits.{no-word, first-value, number-is}

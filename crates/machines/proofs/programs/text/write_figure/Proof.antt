@@ -1,9 +1,7 @@
 -- `machines::programs::text::write_figure` meets its contract: its three texts stand one after the other.
 -- Assumes nothing.
-use borrow.Author.Needs.{needs}
-use native.Mathlib.Omega.{arith}
-use Rattle.listing.proofs.Bounds.{twenty-digits}
-use Rattle.listing.proofs.Texts.{then}
+use Rattle.laws.specs.Basics.{arith, needs}
+use Rattle.listing.proofs.{Bounds.twenty-digits, Texts.then}
 use Rattle.machines.specs.programs.Texts.{figureText}
 use Rattle.machines.proofs.programs.text.write_figure.Statement.{statement}
 use Rattle.machines.proofs.programs.text.write_figure.Tie as tie

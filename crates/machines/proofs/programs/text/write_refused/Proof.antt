@@ -1,7 +1,6 @@
 -- `machines::programs::text::write_refused` meets its contract.
 -- Assumes nothing.
-use borrow.Author.Needs.{needs}
-use native.Mathlib.Omega.{arith}
+use Rattle.laws.specs.Basics.{arith, needs}
 use Rattle.machines.specs.programs.Texts.{refusedText}
 use Rattle.machines.proofs.programs.text.write_refused.Statement.{statement}
 use Rattle.machines.proofs.programs.text.write_refused.Tie as tie

@@ -1,14 +1,9 @@
 -- `machines::programs::text::write_word` meets its contract. The loop's invariant: the first k bytes stand in their places.
 -- Assumes nothing.
-use borrow.Author.Needs.{needs}
-use mathlib.Core.Path.{_≡_, refl, _∙_, ap}
-use Prim.Native.Nat.{_-_, _≤_}
-use native.Mathlib.Omega.{arith}
+use Rattle.laws.specs.Basics.{_≡_, refl, _∙_, ap, _-_, _≤_, arith, length, take, sets, needs}
 use denote.Ref.{now}
-use lib.ListN.{length, take}
-use lib.Seq.{sets, length-sets}
-use Rattle.machines.proofs.programs.Texts.{one-copied, all-copied}
-use Rattle.machines.proofs.programs.text.write_word.Statement.{statement}
+use lib.Seq.{length-sets}
+use Rattle.machines.proofs.{programs.Texts.one-copied, programs.Texts.all-copied, programs.text.write_word.Statement.statement}
 use Rattle.machines.proofs.programs.text.write_word.Tie as tie
 
 abbrev Inv-loop : tie.InvT-loop

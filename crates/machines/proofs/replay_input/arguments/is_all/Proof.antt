@@ -1,14 +1,8 @@
 -- `machines::replay_input::arguments::is_all` meets its contract, test by test.
 -- Assumes nothing.
-use borrow.Author.Needs.{needs}
-use borrow.Author.Tests.{eq-eqb, ne-eqb}
-use mathlib.Core.Path.{sym}
-use mathlib.Core.List.{List}
-use Prim.Native.Nat.{ℕ}
+use Rattle.laws.specs.Basics.{sym, List, ℕ, getD, needs, eq-eqb, ne-eqb}
 use denote.Ref.{now}
-use lib.ListN.{getD}
-use Rattle.machines.proofs.replay_input.Words.{three-bytes, not-three}
-use Rattle.machines.proofs.replay_input.arguments.is_all.Statement.{statement}
+use Rattle.machines.proofs.{replay_input.Words.three-bytes, replay_input.Words.not-three, replay_input.arguments.is_all.Statement.statement}
 use Rattle.machines.proofs.replay_input.arguments.is_all.Tie as tie
 
 -- Where it has three bytes.

@@ -1,14 +1,9 @@
 -- `machines::replay_input::buffer::keep` meets its contract: so far the first k bytes are moved.
 -- Assumes nothing.
-use borrow.Author.Needs.{needs}
-use mathlib.Core.Path.{_≡_, refl, _∙_, ap}
-use Prim.Native.Nat.{_-_, _≤_}
-use native.Mathlib.Omega.{arith}
+use Rattle.laws.specs.Basics.{_≡_, refl, _∙_, ap, _-_, _≤_, arith, length, take, drop, sets, needs}
 use denote.Ref.{now}
-use lib.ListN.{length, take, drop}
-use lib.Seq.{sets, length-sets}
-use Rattle.machines.proofs.replay_input.Moves.{one-moved}
-use Rattle.machines.proofs.replay_input.buffer.keep.Statement.{statement}
+use lib.Seq.{length-sets}
+use Rattle.machines.proofs.{replay_input.Moves.one-moved, replay_input.buffer.keep.Statement.statement}
 use Rattle.machines.proofs.replay_input.buffer.keep.Tie as tie
 
 abbrev Inv-loop : tie.InvT-loop

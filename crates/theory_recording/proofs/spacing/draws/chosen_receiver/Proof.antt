@@ -1,10 +1,7 @@
 -- `theory_recording::spacing::draws::chosen_receiver` meets its contract.
 -- Assumes nothing.
-use borrow.Author.Needs.{needs}
-use mathlib.Core.Path.{refl}
-use Prim.Native.Nat.{ℕ, _+_, _-_, _/_, _%_, _^_, _≤_, _<_}
+use Rattle.laws.specs.Basics.{refl, ℕ, _+_, _-_, _/_, _%_, _^_, _≤_, _<_, arith, needs}
 use native.Mathlib.Nat.{mod-lt}
-use native.Mathlib.Omega.{arith}
 use Rattle.theory_recording.specs.spacing.Spacing.{chosenReceiver}
 use Rattle.theory_recording.proofs.spacing.draws.chosen_receiver.Statement.{statement}
 use Rattle.theory_recording.proofs.spacing.draws.chosen_receiver.Tie as tie

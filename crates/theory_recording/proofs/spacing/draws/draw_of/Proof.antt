@@ -1,6 +1,6 @@
 -- `theory_recording::spacing::draws::draw_of` meets its contract.
 -- Assumes nothing.
-use borrow.Author.Needs.{needs}
+use Rattle.laws.specs.Basics.{needs}
 use Rattle.theory_recording.specs.spacing.Spacing.{draw}
 use Rattle.theory_recording.proofs.spacing.draws.draw_of.Statement.{statement}
 use Rattle.theory_recording.proofs.spacing.draws.draw_of.Tie as tie

@@ -1,6 +1,6 @@
 -- `theory_recording::spacing::draws::is_due` meets its contract.
 -- Assumes nothing.
-use borrow.Author.Needs.{needs}
+use Rattle.laws.specs.Basics.{needs}
 use Rattle.theory_recording.specs.spacing.Spacing.{isDue}
 use Rattle.theory_recording.proofs.spacing.draws.is_due.Statement.{statement}
 use Rattle.theory_recording.proofs.spacing.draws.is_due.Tie as tie

@@ -1,8 +1,7 @@
 -- `theory_recording::spacing::draws::low_product` meets its contract.
 -- Assumes nothing.
-use borrow.Author.Needs.{needs}
+use Rattle.laws.specs.Basics.{ℕ, _+_, _*_, _^_, _<_, needs}
 use mathlib.Core.Path.{subst⁻¹}
-use Prim.Native.Nat.{ℕ, _+_, _*_, _^_, _<_}
 use lib.Pow.{pow-pos, pow-add}
 use native.Mathlib.Nat.{lt-of-le-of-lt, mul-le-mul-left, mul-lt-mul-of-pos-right, le-of-lt}
 use Rattle.theory_recording.proofs.spacing.draws.low_product.Statement.{statement}

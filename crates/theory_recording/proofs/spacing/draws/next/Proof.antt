@@ -1,9 +1,6 @@
 -- `theory_recording::spacing::draws::next` meets its contract.
 -- Assumes nothing.
-use borrow.Author.Needs.{needs}
-use mathlib.Core.Path.{_≡_}
-use Prim.Native.Nat.{ℕ, _+_, _*_, _%_, _^_}
-use native.Mathlib.Omega.{arith}
+use Rattle.laws.specs.Basics.{_≡_, ℕ, _+_, _*_, _%_, _^_, arith, needs}
 use Rattle.theory_recording.specs.spacing.Spacing.{generated}
 use Rattle.theory_recording.proofs.spacing.draws.next.Statement.{statement}
 use Rattle.theory_recording.proofs.spacing.draws.next.Tie as tie

@@ -1,6 +1,6 @@
 -- `theory_recording::spacing::figures::greater` meets its contract.
 -- Assumes nothing.
-use native.Mathlib.Omega.{arith}
+use Rattle.laws.specs.Basics.{arith}
 use Rattle.theory_recording.proofs.spacing.figures.greater.Statement.{statement}
 use Rattle.theory_recording.proofs.spacing.figures.greater.Tie as tie
 

@@ -1,12 +1,6 @@
 -- `theory_recording::spacing::figures::is_outside` meets its contract.
 -- Assumes nothing.
-use mathlib.Core.Path.{_≡_}
-use mathlib.Core.Bool.{true}
-use Prim.Native.Nat.{ℕ, _≤_, _<_}
-use lib.Dec.{ltb}
-use borrow.Author.Tests.{ltb-true, ltb-false, le-leb, lt-leb}
-use borrow.Author.Needs.{needs}
-use Rattle.laws.specs.Choice.{by-bool}
+use Rattle.laws.specs.Basics.{_≡_, true, ℕ, _≤_, _<_, ltb, needs, ltb-true, ltb-false, le-leb, lt-leb, by-bool}
 use Rattle.theory_recording.specs.spacing.Spacing.{outOfRange}
 use Rattle.theory_recording.proofs.spacing.figures.is_outside.Statement.{statement}
 use Rattle.theory_recording.proofs.spacing.figures.is_outside.Tie as tie

@@ -1,6 +1,6 @@
 -- `words::rows::start::first_vector` meets its contract: one entry of a vector of zeros is set.
 -- Assumes nothing.
-use borrow.Author.Needs.{needs}
+use Rattle.laws.specs.Basics.{needs}
 use Rattle.model.specs.Steps.{started}
 use Rattle.words.proofs.rows.start.first_vector.Statement.{statement}
 use Rattle.words.proofs.rows.start.first_vector.Tie as tie

@@ -1,6 +1,6 @@
 -- `words::rows::start::no_checkpoint` meets its contract: zeros everywhere.
 -- Assumes nothing.
-use borrow.Author.Needs.{needs}
+use Rattle.laws.specs.Basics.{needs}
 use Rattle.words.proofs.rows.start.no_checkpoint.Statement.{statement}
 use Rattle.words.proofs.rows.start.no_checkpoint.Tie as tie
 

@@ -1,6 +1,6 @@
 -- `words::rows::vector::advanced` meets its contract: one entry is set to one more.
 -- Assumes nothing.
-use borrow.Author.Needs.{needs}
+use Rattle.laws.specs.Basics.{needs}
 use Rattle.model.specs.Steps.{advanced}
 use Rattle.words.proofs.rows.vector.advanced.Statement.{statement}
 use Rattle.words.proofs.rows.vector.advanced.Tie as tie

@@ -1,6 +1,6 @@
 -- `words::rows::vector::greater` meets its contract, by whether the carried entry is greater.
 -- Assumes nothing.
-use borrow.Author.Tests.{lt-ltb, le-ltb}
+use Rattle.laws.specs.Basics.{lt-ltb, le-ltb}
 use Rattle.words.proofs.rows.vector.greater.Statement.{statement}
 use Rattle.words.proofs.rows.vector.greater.Tie as tie
 

@@ -1,9 +1,6 @@
 -- `words::rows::vector::greatest` meets its contract. The loop's invariant: the entries passed so far are the greater ones, the others are as they were.
 -- Assumes nothing.
-use Prim.Native.Nat.{_≤_, _-_}
-use mathlib.Core.Path.{_≡_, _∙_}
-use native.Mathlib.Omega.{arith}
-use borrow.Author.Needs.{needs}
+use Rattle.laws.specs.Basics.{_≡_, _∙_, _-_, _≤_, arith, needs}
 use Rattle.laws.specs.Loops.{setBelow, below-none, below-all, step-set}
 use Rattle.model.specs.Steps.{takenEntry, takenVector}
 use Rattle.words.proofs.rows.vector.greatest.Statement.{statement}

@@ -1,15 +1,8 @@
 -- `words::rows::vector::is_newer` meets its contract. The loop's invariant: the mark says whether some entry passed so far is smaller than the carried one.
 -- Assumes nothing.
-use Prim.Native.Nat.{ℕ, _≤_, _-_}
-use mathlib.Core.Bool.{Bool}
-use mathlib.Core.Path.{_≡_, _∙_}
-use native.Mathlib.Omega.{arith}
-use borrow.Author.Needs.{needs}
-use borrow.Author.Tests.{lt-ltb, le-ltb}
-use Rattle.laws.specs.Loops.{either, any-zero, any-yes, any-no}
-use Rattle.laws.specs.Search.{anyBelow}
-use Rattle.model.specs.Steps.{newer}
-use Rattle.model.specs.Words.{entry, below}
+use Rattle.laws.specs.Basics.{_≡_, _∙_, Bool, ℕ, _-_, _≤_, arith, needs, lt-ltb, le-ltb}
+use Rattle.laws.specs.{Loops.either, Loops.any-zero, Loops.any-yes, Loops.any-no, Search.anyBelow}
+use Rattle.model.specs.{Steps.newer, Words.entry, Words.below}
 use Rattle.words.proofs.rows.vector.is_newer.Statement.{statement}
 use Rattle.words.proofs.rows.vector.is_newer.Tie as tie
 

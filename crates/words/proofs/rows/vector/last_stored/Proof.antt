@@ -1,9 +1,6 @@
 -- `words::rows::vector::last_stored` meets its contract: where the own entry is 0, so is the difference.
 -- Assumes nothing.
-use Prim.Native.Nat.{ℕ}
-use mathlib.Core.Path.{ap}
-use native.Mathlib.Omega.{arith}
-use borrow.Author.Needs.{needs}
+use Rattle.laws.specs.Basics.{ap, ℕ, arith, needs}
 use Rattle.words.proofs.rows.vector.last_stored.Statement.{statement}
 use Rattle.words.proofs.rows.vector.last_stored.Tie as tie
 

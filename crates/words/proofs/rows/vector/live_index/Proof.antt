@@ -1,9 +1,6 @@
 -- `words::rows::vector::live_index` meets its contract: one more than one less, of an own entry that is at least 1.
 -- Assumes nothing.
-use Prim.Native.Nat.{ℕ}
-use mathlib.Core.Path.{ap}
-use native.Mathlib.Omega.{arith}
-use borrow.Author.Needs.{needs}
+use Rattle.laws.specs.Basics.{ap, ℕ, arith, needs}
 use Rattle.model.specs.declared.CheckpointIndex.{CheckpointIndex}
 use Rattle.words.proofs.rows.vector.live_index.Statement.{statement}
 use Rattle.words.proofs.rows.vector.live_index.Tie as tie

@@ -1,8 +1,6 @@
 -- `words_line::earliest::list::copy_front` meets its contract: an array has no more than 16 elements.
 -- Assumes nothing.
-use mathlib.Core.Path.{ap, sym, _∙_}
-use native.Mathlib.Omega.{arith}
-use borrow.Author.Needs.{needs}
+use Rattle.laws.specs.Basics.{sym, _∙_, ap, arith, needs}
 use lib.Seq.{take-all}
 use Rattle.words_line.specs.earliest.Copying.{copyOf}
 use Rattle.words_line.proofs.earliest.list.copy_front.Statement.{statement}

@@ -1,11 +1,7 @@
 -- `words_line::earliest::list::copy_some` meets its contract. The loop's invariant: what is copied so far is the copy of the elements passed.
 -- Assumes nothing.
-use Prim.Native.Nat.{_≤_, _-_}
-use mathlib.Core.Path.{_≡_, sym, _∙_}
-use native.Mathlib.Omega.{arith}
-use borrow.Author.Needs.{needs}
-use lib.ListN.{length, take}
-use lib.Seq.{getD-take, length-take-le}
+use Rattle.laws.specs.Basics.{_≡_, sym, _∙_, _-_, _≤_, arith, length, take, length-take-le, needs}
+use lib.Seq.{getD-take}
 use Rattle.words_line.specs.earliest.Copying.{noNamed, copyTo}
 use Rattle.words_line.proofs.earliest.Lists.{to-length, copy-none, copy-more, copy-whole}
 use Rattle.words_line.proofs.earliest.list.copy_some.Statement.{statement}

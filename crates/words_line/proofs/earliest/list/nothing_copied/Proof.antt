@@ -1,6 +1,6 @@
 -- `words_line::earliest::list::nothing_copied` meets its contract.
 -- Assumes nothing.
-use mathlib.Core.Path.{refl}
+use Rattle.laws.specs.Basics.{refl}
 use Rattle.words_line.specs.earliest.Copying.{nothingCopied}
 use Rattle.words_line.proofs.earliest.list.nothing_copied.Statement.{statement}
 use Rattle.words_line.proofs.earliest.list.nothing_copied.Tie as tie

@@ -1,7 +1,6 @@
 -- `words_line::earliest::list::placed` meets its contract.
 -- Assumes nothing.
-use borrow.Author.Needs.{needs}
-use borrow.Author.Tests.{lt-ltb, le-ltb}
+use Rattle.laws.specs.Basics.{needs, lt-ltb, le-ltb}
 use Rattle.words_line.proofs.earliest.list.placed.Statement.{statement}
 use Rattle.words_line.proofs.earliest.list.placed.Tie as tie
 

@@ -1,6 +1,6 @@
 -- `words_line::earliest::list::with_element` meets its contract.
 -- Assumes nothing.
-use borrow.Author.Needs.{needs}
+use Rattle.laws.specs.Basics.{needs}
 use Rattle.words_line.specs.earliest.Copying.{withElement}
 use Rattle.words_line.proofs.earliest.list.with_element.Statement.{statement}
 use Rattle.words_line.proofs.earliest.list.with_element.Tie as tie

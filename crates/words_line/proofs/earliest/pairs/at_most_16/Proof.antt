@@ -1,6 +1,5 @@
 -- `words_line::earliest::pairs::at_most_16` meets its contract. Assumes nothing.
-use borrow.Author.Needs.{needs}
-use borrow.Author.Tests.{lt-ltb, le-ltb}
+use Rattle.laws.specs.Basics.{needs, lt-ltb, le-ltb}
 use Rattle.words_line.proofs.earliest.pairs.at_most_16.Statement.{statement}
 use Rattle.words_line.proofs.earliest.pairs.at_most_16.Tie as tie
 

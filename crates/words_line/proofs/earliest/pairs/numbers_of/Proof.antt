@@ -1,14 +1,8 @@
 -- `words_line::earliest::pairs::numbers_of` meets its contract. The loop's invariant: the pairs so far are the elements so far.
 -- Assumes nothing.
-use mathlib.Core.Path.{_≡_, refl}
-use Prim.Native.Nat.{ℕ, _≤_, _<_, _-_}
-use native.Mathlib.Omega.{arith}
-use lib.ListN.{length, getD}
-use borrow.Author.Needs.{needs}
-use Rattle.words_line.specs.Through.{namedAt}
-use Rattle.words_line.specs.earliest.Copying.{noNamed}
-use Rattle.words_line.proofs.earliest.Naming.{pair-more}
-use Rattle.words_line.proofs.earliest.pairs.numbers_of.Statement.{statement}
+use Rattle.laws.specs.Basics.{_≡_, refl, ℕ, _-_, _≤_, _<_, arith, length, getD, needs}
+use Rattle.words_line.specs.{Through.namedAt, earliest.Copying.noNamed}
+use Rattle.words_line.proofs.{earliest.Naming.pair-more, earliest.pairs.numbers_of.Statement.statement}
 use Rattle.words_line.proofs.earliest.pairs.numbers_of.Tie as tie
 
 abbrev Inv-loop : tie.InvT-loop
