@@ -1,4 +1,4 @@
-// The records of a trace as calls by value, for bench/run to time. They are apart from `timing_in_place`: the calls by value are made of the calls in place, and a
+// The records of a trace as calls by value, for bench/run to time. They are apart from `bench_in_place`: the calls by value are made of the calls in place, and a
 // function with callers in both is compiled otherwise than it is for either.
 use library_recorder::record::accepted;
 use model::PROCESSES;

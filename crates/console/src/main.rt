@@ -1,5 +1,5 @@
 // Makes the console calls of a script on standard input (document 02, Note 13), an operator's start first, and prints what each answered and wrote, one line a call. What it
-// asks of the system, and when, is stated and proved in `console_machine`, the steps in `console_steps`: this program only obeys.
+// asks of the system, and when, is stated and proved in `machine_console`: this program only obeys.
 
 use machines::Request;
 use words::WORDS;

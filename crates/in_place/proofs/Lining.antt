@@ -75,7 +75,7 @@ module _ (w : List ℕ) (h : sound (runOf w) ≡ true) (F : ℕ) (line : List �
       unfolding refused
       line-passed = by-bool (noMember s F) (λ e. missing-outcome e ∙ rw e) (λ e. written-outcome e ∙ rw e)
 
--- What line_words relies on, of words that stand for a sound state with n processes; and what it finds.
+-- What words_line relies on, of words that stand for a sound state with n processes; and what it finds.
 module _ (w : List ℕ) (h : sound (runOf w) ≡ true) (n : ℕ) (same : n ≡ countOf w) where
   pub some-own : OwnSome n w
   some-own p lt = sound-part w h p (omega arith) .own-some

@@ -88,7 +88,7 @@ fit-few n l e =
 pub all-there : (n : ℕ) (l : List ℕ) → someAbsent n (namedIn l) ≡ false → anyBelow (pairCount (length l)) (λ k. leb n (processOf l k)) ≡ false
 all-there n l e = sym (absent-is l n) ∙ e
 
--- What line_words finds of a fit list of m pairs, and what the outcome then is.
+-- What words_line finds of a fit list of m pairs, and what the outcome then is.
 module _ (w : List ℕ) (h : sound (runOf w) ≡ true) (l line : List ℕ) (m n : ℕ) (pairs : m ≡ pairCount (length l)) (same : n ≡ countOf w) (room : n ≤ length line)
     (present : someAbsent (countOf w) (namedIn l) ≡ false) (fit : unfit (countOf w) (namedIn l) ≡ false) where
   long : ltb (length line) (countOf w) ≡ false

@@ -1,5 +1,5 @@
 // Judges the trace of another run-time on standard input: one line on standard output, `trackable`, `breaks P:K Q:X` or `refused R`. What it asks of the system, and
-// when, is stated and proved in `judge_machine`: this program only obeys.
+// when, is stated and proved in `machine_judge`: this program only obeys.
 
 use machines::Request;
 ghost use Rattle.laws.specs.Basics.{length};

@@ -1,7 +1,7 @@
 // The recorder (document 02, Note 9): each call in place once more, with the call's own arguments first, then a lent buffer and a lent list with the place that the buffer's
 // next byte goes to. The buffer is a trace: its first byte is n, after it stand the records of the accepted calls. Refused with 21, after every other number, is a call whose
 // record has no room after the place, and with 3, before any other number, one that is lent no place. A refused call leaves every word, entry and byte and the place as they
-// were; a start with a place that is refused makes the words zero. What a replay of the buffer gives is the theorem of `recorder_in_place`, specs/Recorded.
+// were; a start with a place that is refused makes the words zero. What a replay of the buffer gives is the theorem of `library_recorder`, specs/Recorded.
 ghost use Rattle.laws.specs.Basics.{_≡_, _≤_, length};
 ghost use Rattle.model.specs.declared.Refusal.{Refusal};
 ghost use Rattle.listing.specs.answers.Codes.{startCode, checkpointCode, sendCode, deliverCode, loseCode, lineCode, recoverCode};

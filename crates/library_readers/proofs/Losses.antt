@@ -15,7 +15,7 @@ use Rattle.library_readers.proofs.Readings.{refusedBy, read, refused-by
 pub few-lost : (indexes : List CheckpointIndex) (w : List ℕ) (k : ℕ) → length (lostBelow indexes w k) ≤ k
 few-lost indexes w k = omega (arith, select-length (λ x. isMessage x && lostTo indexes x) (table k (messageIn w)), length-table k (messageIn w))
 
--- The indexes that line_words finds are those of the line.
+-- The indexes that words_line finds are those of the line.
 pub indexes-are : (w : List ℕ) (n F : ℕ) (limits : List Interval) (pasts : List ℕ) (indexes : List CheckpointIndex) → n ≡ countOf w → limits ≡ limitsIn w n F → pasts ≡ pastsIn w n limits
     → indexes ≡ indexesIn w n pasts → indexes ≡ lineIndexes w F
 indexes-are w n F limits pasts indexes same of-set found e = e ∙ rw (found, of-set, same)

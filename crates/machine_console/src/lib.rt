@@ -1,4 +1,4 @@
-// The program `console` as a machine, without input or output: what the system answered goes in, what to ask for next comes out. Its states are defined in `console_machine`,
+// The program `console` as a machine, without input or output: what the system answered goes in, what to ask for next comes out. Its states are defined in `specs/Consoling`,
 // with the theorem over every list of answers; which state the lent numbers and buffers stand for, in `specs/Lent`.
 
 // text.rt: the parts of a line
@@ -29,7 +29,7 @@ ghost use Rattle.laws.specs.Basics.{_≡_, true, length};
 ghost use Rattle.machines.specs.{Machines.stepped, Forms.answerOf};
 ghost use Rattle.machine_console.specs.{Consoling.consoling, Consoling.Opening, Lent.hasRoom, Lent.stateOf, Lent.placeOf, Lent.StandsFor};
 
-// How many bytes a caller lends: for a call (callSize in the specs of console_machine), and for the longest line (longestLine in specs/Replied).
+// How many bytes a caller lends: for a call (callSize in specs/Text), and for the longest line (longestLine in specs/Replied).
 pub const CALL_SIZE: usize = 8;
 
 pub const LONGEST_LINE: usize = 12000;

@@ -71,7 +71,7 @@ fn end_refused(out: &mut [u8], number: u64, x: u64) -> Marks
     }
 }
 
-// The largest buffer that an argument may ask for (largestBuffer in the specs of record_machine).
+// The largest buffer that an argument may ask for (largestBuffer in specs/Machine).
 const LARGEST_BUFFER: u64 = 1048576;
 
 fn after_count(out: &mut [u8], answer: Answer) -> Marks

@@ -23,7 +23,7 @@ ghost use Rattle.laws.specs.Basics.{_≡_, true, length};
 ghost use Rattle.machines.specs.{Machines.stepped, Forms.answerOf};
 ghost use Rattle.machine_record.specs.{Machine.machine, Machine.counting, Lent.hasRoom, Lent.stateOf, Lent.placeOf, Lent.StandsFor};
 
-// The bytes of the longest word that is looked at, and of a block (longestWord, blockBytes in the specs of record_machine).
+// The bytes of the longest word that is looked at, and of a block (longestWord, blockBytes in specs/Machine).
 const LONGEST_WORD: usize = 4096;
 
 const BLOCK_BYTES: usize = 4096;

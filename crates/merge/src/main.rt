@@ -1,6 +1,6 @@
 // Merges two halves of one run: `merge FIRST SECOND SET > TRACE`. FIRST and SECOND are files, SET the processes of the first half as a decimal number, bit p for
 // process p. The merged trace goes to standard output. A refused merge writes `refused` and the number to standard error and nothing to standard output. What it
-// asks of the system, and when, is stated and proved in `merge_machine`: this program only obeys.
+// asks of the system, and when, is stated and proved in `machine_merge`: this program only obeys.
 
 use machines::Request;
 ghost use Rattle.laws.specs.Basics.{length};

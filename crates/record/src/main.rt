@@ -1,6 +1,6 @@
 // Plays the trace on standard input through the recorder, each record's call with the state that the one before left, and writes what was recorded to standard output:
 // the first byte and the records of the accepted calls. `record BYTES` stands for a buffer of that many bytes. What it asks of the system, and when, is stated and proved in
-// `record_machine`, the steps in `record_steps`: this program only obeys.
+// `machine_record`: this program only obeys.
 
 use machines::Request;
 use words::WORDS;

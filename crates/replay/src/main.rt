@@ -1,5 +1,5 @@
 // Replays the trace on standard input: a line on standard output for each record. It stops after the line of the first refusal, unless it is started with the one argument
-// `all`. What it asks of the system, and when, is stated and proved in `replay_machine`: this program only obeys.
+// `all`. What it asks of the system, and when, is stated and proved in `machine_replay`: this program only obeys.
 
 use machines::Request;
 use words::WORDS;

@@ -1,6 +1,6 @@
 // Tries a checkpoint spacing: `simulate N SPACING STEPS SEED` prints the five figures of a simulation, each with its name, one a line; `simulate N FROM-TO STEPS
 // SEED` prints a row for each spacing from FROM to TO, a table that a plot can read. What is out of range is refused with 22. What it asks of the system, and when, is
-// said and proved in `simulate_machine`: this program only obeys.
+// said and proved in `machine_simulate`: this program only obeys.
 
 use machines::Request;
 ghost use Rattle.laws.specs.Basics.{length};

@@ -1,5 +1,5 @@
 // Whether the words that a caller lends stand for a sound state (document 01, "A sound state", with Note 5's clauses). What stands in a place that is not in use counts
-// for nothing and is not looked at. A row of 16 words is tested with no exit on the way (`sound_rows`); a row that fails ends the test.
+// for nothing and is not looked at. A row of 16 words is tested with no exit on the way (rows.rt); a row that fails ends the test.
 use model::Interval;
 use model::MOST_BLOCKS;
 use model::PROCESSES;
