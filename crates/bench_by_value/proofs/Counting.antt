@@ -4,8 +4,7 @@ use Rattle.laws.specs.Basics.{_≡_, refl, sym, _∙_, ap, Bool, true, false, _
 use lib.ListN.{take-append-drop}
 use lib.Seq.{drop-drop, take-add, take-all}
 use Rattle.laws.specs.{Lists.select, Select.select-append, Truth.and-left, Truth.and-right}
-use Rattle.model.specs.declared.{Event.Event, Run.Run}
-use Rattle.model.specs.Trace.{decoded}
+use Rattle.model.specs.{declared.Event.Event, declared.Run.Run, Trace.decoded}
 use Rattle.whole_runs.specs.{Calls.Reply, Listing.mostRecords, Listing.perform, Listing.stateAfterRecords}
 use Rattle.whole_runs.proofs.Blocks.{states-by-block, next-length, next-state}
 use Rattle.trace.specs.{Answers.recordAt, Answers.eventIn, reader.Reading.recordAfter, reader.Reading.recordLeft}

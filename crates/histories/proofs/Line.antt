@@ -146,10 +146,6 @@ module _ (r : Ideal) (v : Inv r) where
     pub below-kept : (p : ℕ) → line r F p < r .own p → keeps r p (line r F p) ≡ true
     below-kept p lt = line-back p (below-rolled p lt) .kept
 
-    -- A member that is the live state is of a process that stays.
-    pub live-stays : (p : ℕ) → line r F p ≡ r .own p → rolled r F p ≡ false
-    live-stays p d = by-bool (rolled r F p) (λ e. absurd (omega (arith, line-back p e .below))) (λ e. e)
-
     -- Whether a process rolls back can be told from its list: its member is a checkpoint there.
     pub line-judged : (p : ℕ) → ltb (line r F p) (checkpoints (r .events p)) ≡ rolled r F p
     line-judged p = by-bool (rolled r F p)

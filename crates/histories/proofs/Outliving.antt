@@ -1,7 +1,7 @@
 -- Which messages outlive a recovery, by the lists: those that were under way and whose send still stands in the list of its sender.
 -- Assumes nothing.
-use Rattle.laws.specs.Basics.{_≡_, refl, Bool, true, false, _&&_, _||_, false≢true, List, [], _∷_, inl, inr, ℕ, _≤_, _<_, arith, eqb, leb, eq-eqb, eqb-true, leb-true, leb-false, by-bool}
-use Rattle.laws.specs.{Search.anyBelow, Search.any-in, Search.any-out, Truth.or-left, Truth.or-in-right}
+use Rattle.laws.specs.Basics.{_≡_, refl, true, false, _&&_, _||_, false≢true, List, [], _∷_, inl, inr, ℕ, _≤_, _<_, arith, eqb, leb, eq-eqb, eqb-true, leb-true, leb-false, by-bool}
+use Rattle.laws.specs.{Search.any-in, Search.any-out, Truth.or-left, Truth.or-in-right}
 use Rattle.histories.specs.History.{HistoryEvent, stored, sent, received, isSent, stillSent}
 use Rattle.histories.proofs.{Places.Stands, Places.first, Places.stands-cons, Places.stands-nil, Cuts.past-stored, Cuts.past-sent, Cuts.past-received}
 use Rattle.histories.proofs.{Run.Ideal, Run.Failed, Run.line, Run.outlives, Run.recovered, Invariant.Inv, RecoveredStates.before, RecoveredStates.after}

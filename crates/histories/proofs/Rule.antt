@@ -1,8 +1,7 @@
 -- What the tests of the run say: a state passes the rule of the line, a process rolls back, a checkpoint is kept.
-use Rattle.laws.specs.Basics.{_≡_, refl, ap, true, false, _||_, Option, none, some, _⊎_, inl, inr, ℕ, suc, _≤_, _<_, arith, eqb, eq-eqb, eqb-true, lt-ltb, ltb-true, ltb-false, not-true, not-false, by-bool}
-use Rattle.laws.specs.Search.{any-out, any-in, all-out, all-in, all-fails, latest-is}
-use Rattle.laws.specs.Truth.{never-both, and-both, and-no-right, or-left, or-right, or-in-right}
-use Rattle.histories.proofs.Run.{Ideal, Failed, safe, names, keeps, member, rolled}
+use Rattle.laws.specs.Basics.{_≡_, refl, ap, true, false, _||_, Option, none, some, _⊎_, ℕ, _≤_, _<_, eq-eqb, eqb-true, lt-ltb, ltb-true, ltb-false, not-true, not-false, by-bool}
+use Rattle.laws.specs.{Search.any-out, Search.any-in, Search.all-out, Search.all-in, Search.all-fails, Truth.never-both}
+use Rattle.histories.proofs.Run.{Ideal, Failed, safe, names, keeps, rolled}
 
 -- A state that passes the rule has entries below the own entries of the failed.
 pub safe-out : (r : Ideal) (F : Failed) (p k : ℕ) → safe r F p k ≡ true → (f : ℕ) → f < r .n → F f ≡ true → r .vector p k f < r .own f
@@ -53,26 +52,3 @@ keeps-out r p k e = let w = any-out (r .n) _ e in (w .0, w .1, names-out (r .pin
 -- A pin names one checkpoint.
 pub same-some : (o : Option ℕ) (j k : ℕ) → o ≡ some j → o ≡ some k → j ≡ k
 same-some o j k p q = cc
-
--- A candidate of the rule: the live state or a kept checkpoint.
-candidate-out : (r : Ideal) (p k : ℕ) → (eqb k (r .own p) || keeps r p k) ≡ true → (k ≡ r .own p) ⊎ (keeps r p k ≡ true)
-candidate-out r p k e = by-bool (eqb k (r .own p))
-    (λ q. inl (eqb-true k (r .own p) q))
-    (λ q. inr (or-right (eqb k (r .own p)) (keeps r p k) q e))
-
--- The live state and kept checkpoints are candidates.
-candidate-in : (r : Ideal) (p k : ℕ) → (k ≡ r .own p) ⊎ (keeps r p k ≡ true) → (eqb k (r .own p) || keeps r p k) ≡ true
-candidate-in r p k c = elim c [
-  | inl q ↦ or-left (eqb k (r .own p)) (keeps r p k) (eq-eqb k (r .own p) q)
-  | inr q ↦ or-in-right (eqb k (r .own p)) (keeps r p k) q
-]
-
--- Whatever is so is the member.
-pub member-is : (r : Ideal) (F : Failed) (p k : ℕ) → k ≤ r .own p → (k ≡ r .own p) ⊎ (keeps r p k ≡ true) → safe r F p k ≡ true
-    → ((j : ℕ) → k < j → j ≤ r .own p → (j ≡ r .own p) ⊎ (keeps r p j ≡ true) → safe r F p j ≡ false) → member r F p ≡ some k
-unfolding member
-member-is r F p k le c ok above = latest-is (suc (r .own p)) _ k (omega arith)
-    (and-both (eqb k (r .own p) || keeps r p k) (safe r F p k) (candidate-in r p k c) ok)
-    (λ j a b. by-bool (eqb j (r .own p) || keeps r p j)
-    (λ q. and-no-right (eqb j (r .own p) || keeps r p j) (safe r F p j) (above j a (omega arith) (candidate-out r p j q)))
-    (λ q. rw q))

@@ -1,9 +1,9 @@
 -- A state of which every clause of document 01's "A sound state" holds is sound.
 -- Assumes nothing.
 use Rattle.laws.specs.Basics.{_≡_, true, _&&_, ℕ, _<_, eq-eqb, le-leb}
-use Rattle.laws.specs.{Search.allBelow, Search.all-in, Truth.and-both}
+use Rattle.laws.specs.{Search.all-in, Truth.and-both}
 use Rattle.model.specs.declared.Run.{Run}
-use Rattle.model.specs.Sound.{countSound, ownSound, within, vectorsSound, keptSound, pinsSound, messagesSound, rowUnused, unusedSound, keptBlocks, diskSound, sound}
+use Rattle.model.specs.Sound.{countSound, ownSound, vectorsSound, keptSound, pinsSound, messagesSound, rowUnused, unusedSound, diskSound, sound}
 use Rattle.model.specs.laws.Sound.{SoundProcess, SoundState}
 
 module _ (s : Run) (h : SoundState s) where

@@ -166,9 +166,6 @@ module _ (s : Run) (size : Sized s) (whole : sound s ≡ true) (p : ℕ) (lt : p
 
 -- The part of process i and the blocks are others.
 module _ (s : Run) (size : Sized s) (whole : sound s ≡ true) (i : ℕ) (inside : i < s .count) (Q : Process) (D : Disk) where
-  abbrev pub then-state : Run
-  then-state = withDisk (withProcess s i Q) D
-
   row-there : i < mostProcesses
   row-there = place s whole i inside
 

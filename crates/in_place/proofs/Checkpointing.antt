@@ -1,6 +1,6 @@
 -- Which checkpoint is refused, test by test, and what an accepted one leaves.
 -- Assumes nothing.
-use Rattle.laws.specs.Basics.{_≡_, refl, sym, _∙_, ap, Bool, true, false, not, List, none, some, ℕ, _+_, _*_, _≤_, _<_, arith, ltb, leb, length, sets, le-leb, lt-leb, leb-false, pick, by-bool}
+use Rattle.laws.specs.Basics.{_≡_, refl, sym, _∙_, ap, Bool, true, false, List, none, some, ℕ, _+_, _*_, _≤_, _<_, arith, ltb, leb, length, sets, le-leb, lt-leb, leb-false, pick, by-bool}
 use Rattle.model.specs.declared.{CheckpointIndex.CheckpointIndex, CheckpointAnswer.CheckpointAnswer, Refusal.Refusal, Run.Run, Interval.Interval}
 use Rattle.model.specs.declared.CheckpointAnswer.the-variants.{Stored, Refused}
 use Rattle.model.specs.declared.Refusal.the-variants.{ListTooShort, NoSuchProcess, IntervalsUsed, BlocksUsed}

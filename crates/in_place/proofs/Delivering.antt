@@ -2,10 +2,9 @@
 -- Assumes nothing.
 use Rattle.laws.specs.Basics.{_≡_, sym, _∙_, ap, Bool, true, false, not, List, none, some, ℕ, suc, _*_, _≤_, _<_, arith, eqb, ltb, length, pick, by-bool, by-eq}
 use Rattle.laws.specs.{Lists.select, Rows.by-lt}
-use Rattle.model.specs.declared.{Disk.Disk, Message.Message, Run.Run}
+use Rattle.model.specs.{declared.Disk.Disk, declared.Message.Message, declared.Run.Run, Sound.sound}
 use Rattle.model.specs.Words.{forced, Process, blockCount, blocksOf, process, withProcess, withMessages, withDisk}
 use Rattle.model.specs.Steps.{found, others, forces, settled, gone, deletions, billed, checkpointed, takenIn, delivered, deliverState, deliverDeletions}
-use Rattle.model.specs.Sound.{sound}
 use Rattle.model.specs.Refusals.{firstOf, forcesPast, forcesOver, atLastInterval, pastBlocks, deliverRefusal}
 use Rattle.admissions.specs.Admissions.{refusalOf}
 use Rattle.words.specs.{Frames.OnlyMessages, messages.Places.placeOf, messages.Places.takenOut, Parts.processIn}

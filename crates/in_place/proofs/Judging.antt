@@ -1,6 +1,6 @@
 -- Which start is refused, test by test.
 -- Assumes nothing.
-use Rattle.laws.specs.Basics.{_≡_, refl, sym, _∙_, ap, Bool, true, false, not, List, [], none, some, ℕ, zero, suc, _≤_, _<_, arith, eqb, ltb, leb, length, getD, eq-eqb, ne-eqb, lt-ltb, le-ltb, le-leb, lt-leb, by-bool}
+use Rattle.laws.specs.Basics.{_≡_, refl, _∙_, ap, Bool, true, false, not, List, [], none, some, ℕ, zero, suc, _≤_, _<_, arith, length, getD, eq-eqb, ne-eqb, lt-ltb, le-ltb, le-leb, lt-leb, by-bool}
 use Rattle.laws.specs.Search.{anyBelow, allBelow}
 use Rattle.model.specs.declared.{Refusal.Refusal, StartAnswer.the-variants.Refused, StartAnswer.the-variants.Started, Run.Run, StartAnswer.StartAnswer}
 use Rattle.model.specs.declared.Refusal.the-variants.{CountOutsideRange, UnsoundState, ListTooShort, BlockCountOutsideRange}

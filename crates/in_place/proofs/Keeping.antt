@@ -1,6 +1,6 @@
 -- One process's part of a sound state: it stays sound where a checkpoint is stored, where a carried vector is taken in, and where what no pin names is deleted.
 -- Assumes nothing.
-use Rattle.laws.specs.Basics.{_≡_, refl, sym, _∙_, ap, Bool, true, false, not, _&&_, _||_, List, [], _∷_, _++_, map, Option, none, some, ℕ, zero, suc, _+_, _-_, _≤_, _<_, arith, eqb, leb, length, getD, take, drop, set, length-set, length-append, getD-set-same, getD-set-other, length-take-le, eq-eqb, ne-eqb, eqb-true, le-ltb, le-leb, leb-true, not-true, by-bool, by-eq}
+use Rattle.laws.specs.Basics.{_≡_, refl, sym, _∙_, ap, Bool, true, false, not, _&&_, _||_, List, [], _∷_, _++_, map, Option, some, ℕ, zero, suc, _+_, _-_, _≤_, _<_, arith, eqb, leb, length, getD, take, drop, set, length-set, length-append, getD-set-same, getD-set-other, length-take-le, eq-eqb, ne-eqb, eqb-true, le-ltb, le-leb, leb-true, not-true, by-bool, by-eq}
 use lib.ListN.{List·getD-eq-default}
 use Rattle.laws.specs.{Lists.select, Lists.orElse, Lists.lastOf, Elements.every-append, Elements.every-single, Elements.every-from, Elements.every-table}
 use Rattle.laws.specs.{Prefixes.select-same, Prefixes.every-select, Rows.every-at, Rows.every-by, Rows.every-beyond, Rows.some-at, Rows.by-lt}

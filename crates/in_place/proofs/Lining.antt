@@ -1,6 +1,6 @@
 -- The line call: what its outcome is, by the list's length, the failed set, and whether each process has a member.
 -- Assumes nothing.
-use Rattle.laws.specs.Basics.{_≡_, refl, sym, _∙_, ap, Bool, true, false, not, false≢true, List, [], Option, none, some, ℕ, _^_, _≤_, arith, ltb, leb, length, getD, sets, pick, by-bool}
+use Rattle.laws.specs.Basics.{_≡_, refl, sym, _∙_, ap, Bool, true, false, not, false≢true, List, [], none, some, ℕ, _^_, _≤_, arith, ltb, leb, length, getD, sets, pick, by-bool}
 use Rattle.laws.specs.{Below.not-out, Lists.table}
 use Rattle.words_line.specs.Line.{limitsIn, hasMembers, pastsIn, indexesIn, OwnSome, KeptCountMost, AllUsed, AllFound}
 use Rattle.words_line.proofs.LineRule.{pasts-length, all-found, past-at, found-one, line-is}

@@ -1,10 +1,9 @@
 -- A message looked up in the words is the one that the run has under way; taken out of them it is lost.
 -- Assumes nothing.
-use Rattle.laws.specs.Basics.{_≡_, refl, sym, _∙_, ap, Bool, true, false, not, _&&_, List, [], Option, none, some, ℕ, zero, suc, _+_, _-_, _≤_, _<_, arith, eqb, length, eq-eqb, ne-eqb, eqb-true, pick, by-bool, by-eq}
+use Rattle.laws.specs.Basics.{_≡_, refl, sym, _∙_, ap, true, false, not, _&&_, List, [], none, some, ℕ, zero, suc, _+_, _-_, _≤_, _<_, arith, eqb, length, eq-eqb, ne-eqb, by-bool, by-eq}
 use Rattle.laws.specs.{Lists.select, Lists.lastOf, Lists.table, Prefixes.select-none, Rows.by-lt, Select.select-select}
-use Rattle.model.specs.declared.{Message.Message, Refusal.the-variants.NotUnderWay, Run.Run, LoseAnswer.LoseAnswer}
-use Rattle.model.specs.{Words.underWay, Words.withMessages, Steps.found, Steps.others, Steps.loseState, Sound.sound, Refusals.missing, Refusals.loseRefusal}
-use Rattle.model.specs.laws.Refusals.{refusal-in}
+use Rattle.model.specs.{declared.Message.Message, declared.Refusal.the-variants.NotUnderWay, declared.Run.Run, laws.Refusals.refusal-in}
+use Rattle.model.specs.{Words.withMessages, Steps.found, Steps.others, Steps.loseState, Sound.sound, Refusals.loseRefusal}
 use Rattle.whole_runs.specs.Outcomes.{loseOutcome}
 use Rattle.words.specs.{Layout.word, Layout.wide2, Layout.endOf, Layout.messageIn, Layout.isMessage, Layout.messagesIn, Layout.runOf, Frames.OnlyMessages}
 use Rattle.words.proofs.{View.last-is, ViewChange.with-messages, ViewClean.clean-messages, ViewSound.SoundWords, ViewSound.sound-words}

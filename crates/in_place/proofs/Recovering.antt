@@ -10,11 +10,10 @@ use Rattle.laws.specs.{Prefixes.select-none, Prefixes.every-select, Prefixes.ev
 use Rattle.laws.specs.{Rows.every-at, Rows.every-by, Rows.every-beyond, Rows.every-both, Rows.some-at, Truth.and-out, Truth.and-both}
 use Rattle.laws.specs.Sums.{sumBelow, sum-none, sum-same, length-gather}
 use Rattle.model.specs.declared.{Interval.Interval, CheckpointIndex.CheckpointIndex, Pin.the-variants.Nothing, Pin.the-variants.At, Checkpoint.Checkpoint}
-use Rattle.model.specs.declared.{Message.Message, Disk.Disk, Run.Run}
+use Rattle.model.specs.{declared.Message.Message, declared.Disk.Disk, declared.Run.Run, laws.Sound.SoundProcess, laws.Sound.SoundState, laws.Sound.sound-state}
 use Rattle.model.specs.Words.{mostProcesses, entry, below, lastStored, names, isPinned, Process, live, blocksOf, noCheckpoint, blockCount, process, withProcess, own, underWay, withMessages, withDisk}
 use Rattle.model.specs.Steps.{Deletion, listed, advanced, withProcesses, allowed, states, latestAllowed, member, rolledBack, vectorAfter, notLost, ownAfter, latestPin, movedPin, pinAfter, pinsAfter, recovered, lostBy, stillUnderWay, goneAt, deletedAt, billed, recoverState, recoverDeletions}
 use Rattle.model.specs.Sound.{within, pinSound, messageSound, zeroFrom, isNothing, nothingFrom, recordSound, keptBlocks, sound}
-use Rattle.model.specs.laws.Sound.{SoundProcess, SoundState, sound-state}
 use Rattle.model.proofs.simulation.Parts.{Room, process-all, process-disk}
 use Rattle.words_process.specs.receipts.Sized.{Sized}
 use Rattle.words_process.proofs.{receipts.Facts.place, receipts.Filled.messages-many, receipts.Filled.row-filled, receipts.Filled.row-many}

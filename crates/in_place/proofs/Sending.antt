@@ -1,22 +1,22 @@
 -- What a send leaves of the words stands for the state that document 01 has.
 -- Assumes nothing.
-use Rattle.laws.specs.Basics.{_≡_, refl, sym, _∙_, ap, Bool, true, false, not, List, [], _∷_, _++_, none, some, ℕ, zero, suc, _+_, _-_, _*_, _≤_, _<_, arith, eqb, length, take, length-append, ne-eqb, eqb-true, eqb-false, pick, by-bool}
-use Rattle.model.specs.declared.{Message.Message, Run.Run, Refusal.Refusal}
-use Rattle.model.specs.{Words.Process, Words.process, Words.withProcess, Words.underWay, Words.withMessages, Steps.sentMessage, Steps.marked, Steps.sendState}
+use Rattle.laws.specs.Basics.{_≡_, refl, sym, _∙_, ap, true, List, [], _∷_, _++_, none, some, ℕ, _+_, _-_, _*_, _≤_, _<_, arith, eqb, length, length-append, ne-eqb, eqb-true, eqb-false, by-bool}
+use Rattle.model.specs.declared.{Message.Message, Refusal.Refusal}
+use Rattle.model.specs.{Words.process, Words.withProcess, Words.underWay, Words.withMessages, Steps.sentMessage, Steps.marked, Steps.sendState}
 use Rattle.model.specs.{Sound.sound, Refusals.unsound, Refusals.sendRefusal, laws.Refusals.skipped}
 use Rattle.whole_runs.specs.Outcomes.{sendOutcome}
 use Rattle.admissions.specs.declared.Admission.the-variants.{Accepted, Refused}
 use Rattle.admissions.specs.Admissions.{refusalOf, sendAdmission}
 use Rattle.admissions.proofs.Cases.{accepted-send, admission-rules}
-use Rattle.words.specs.Layout.{stateSize, word, wide2, countOf, endOf, keptCountAt, markAt, blocksAt, partAt, pinsAt, vectorIn, pinsIn, markIn, keptIn, messageIn, isMessage, messagesIn, endFits, fits, runOf}
-use Rattle.words.specs.{Parts.processIn, Frames.OnlyProcess, Frames.OnlyMessages, Clean.Clean, Clean.CleanMessages, Puts.Put, Puts.puts, Puts.one, Puts.puts2}
+use Rattle.words.specs.Layout.{stateSize, word, wide2, countOf, endOf, keptCountAt, markAt, blocksAt, partAt, pinsAt, markIn, isMessage, messagesIn, endFits, runOf}
+use Rattle.words.specs.{Parts.processIn, Frames.OnlyProcess, Frames.OnlyMessages, Clean.CleanMessages, Puts.puts, Puts.one, Puts.puts2}
 use Rattle.words.proofs.{Reading.untouched, Reading.touched, Reading.puts-length, Reading.wide2-back, ViewSound.SoundWords, ViewSound.sound-words}
 use Rattle.words.proofs.{Same.vector-length, Same.vector-same, Same.pins-same, Same.kept-same, View.process-is, View.count-is, View.underway-is, View.last-is}
 use Rattle.words.proofs.ViewChange.{with-process, with-messages, messages-fit, messages-same, end-same}
 use Rattle.words.proofs.ViewClean.{clean-messages, clean-process, clean-kept-same, clean-messages-same}
-use Rattle.words.specs.messages.Places.{withRoom, closedUp, putLast}
+use Rattle.words.specs.messages.Places.{withRoom, putLast}
 use Rattle.words.proofs.messages.Closed.{closed-length, closed-rest, closed-messages, closed-many}
-use Rattle.words.proofs.messages.Added.{added-length, added-end, added-count, added-rest, added-messages, added-fits}
+use Rattle.words.proofs.messages.Added.{added-length, added-count, added-rest, added-messages, added-fits}
 use Rattle.words.proofs.messages.Zeros.{clean-closed, clean-added}
 use Rattle.in_place.specs.{Left.Leaves, Sending.sentIn, Sending.sentWords}
 use Rattle.model.specs.declared.SendAnswer.the-variants as send-answer

@@ -1,18 +1,19 @@
 -- What a start leaves of the words stands for the first state of a run, and holds zero in every unused place.
 -- Assumes nothing.
-use Rattle.laws.specs.Basics.{_≡_, refl, sym, _∙_, ap, Bool, true, false, not, List, [], _∷_, none, some, ℕ, zero, suc, _+_, _-_, _*_, _≤_, _<_, arith, eqb, leb, length, getD, take, set, replicate, length-set, length-replicate, getD-replicate, getD-set-same, getD-set-other, eq-eqb, eqb-true, ltb-false, leb-true, not-false, pick, by-bool, by-eq}
+use Rattle.laws.specs.Basics.{_≡_, refl, sym, _∙_, ap, true, false, not, _&&_, List, [], _∷_, none, ℕ, zero, suc, _+_, _-_, _*_, _≤_, _<_, arith, eqb, leb, length, getD, take, set, replicate, length-set, length-replicate, getD-replicate, getD-set-same, getD-set-other, eq-eqb, eqb-true, le-ltb, ltb-false, leb-true, not-false, by-bool, by-eq}
 use native.Mathlib.Numerals.{add-one}
 use Rattle.laws.specs.{Lists.table, Search.allBelow, Search.any-none, Search.all-in, Sums.sumBelow, Tables.table-is, Truth.and-right}
-use Rattle.model.specs.declared.{Run.Run, Interval.Interval, Pin.Pin, Pin.the-variants.Nothing, Pin.the-variants.At, Checkpoint.Checkpoint}
-use Rattle.model.specs.{Words.Process, Words.zeroVector, Words.noPins, Words.blank, Words.withDisk, Sound.isBlockCount}
-use Rattle.model.specs.Steps.{withProcesses, checkpointZero, started, startState, opening}
-use Rattle.model.specs.laws.Refusals.{no-rule, by-refusal}
-use Rattle.words.specs.Layout.{stateSize, word, wide4, countOf, keptCountAt, markAt, blocksAt, partAt, pinsAt, indexAt, causeAt, storedAt, intervalOf, indexOf, pinOf, vectorIn, pinsIn, markIn, checkpointIn, keptIn, fits, runOf}
-use Rattle.words.specs.{Parts.processIn, Frames.OnlyProcess, Frames.OnlyDisk, Clean.Clean, Clean.CleanKept, Puts.Put, Puts.puts, Puts.one, Puts.puts4}
+use Rattle.model.specs.declared.{Interval.Interval, Pin.the-variants.Nothing, Pin.the-variants.At, Checkpoint.Checkpoint}
+use Rattle.model.specs.{Words.zeroVector, Words.noPins, Words.blank, Sound.isBlockCount}
+use Rattle.model.specs.{Steps.withProcesses, Steps.checkpointZero, Steps.started, Steps.startState, Steps.opening, Words.ones, Words.mostProcesses}
+use Rattle.model.specs.{laws.Refusals.no-rule, laws.Refusals.by-refusal, Refusals.firstOf, Refusals.startRefusal}
+use Rattle.words.specs.Layout.{stateSize, word, wide4, countOf, keptCountAt, markAt, blocksAt, partAt, pinsAt, indexAt, causeAt, storedAt, pinOf, vectorIn, pinsIn, markIn, checkpointIn, keptIn, fits, runOf}
+use Rattle.words.specs.{Parts.processIn, Frames.OnlyProcess, Frames.OnlyDisk, Clean.Clean, Clean.CleanKept, Puts.puts, Puts.one, Puts.puts4}
 use Rattle.words.proofs.{Reading.untouched, Reading.touched, Reading.puts-length, Reading.wide4-back, Same.vector-is, View.run-unfit, View.kept-table}
 use Rattle.words.proofs.{ViewBlank.blank-fits, ViewBlank.blank-run, ViewBlank.blank-clean, ViewChange.process-fits, ViewChange.with-disk}
 use Rattle.words.proofs.{ViewClean.clean-process, ViewClean.clean-disk, ViewParts.process-by, ViewParts.with-processes-step}
 use Rattle.in_place.specs.Starting.{zeros, withCounts, counted, firstPuts, withFirsts, begun, startedWords, startRefusalIn, startOutcomeIn, startWords}
+use Rattle.whole_runs.specs.Outcomes.{startOutcome}
 
 pub zeros-length : length zeros ≡ stateSize
 unfolding zeros
@@ -302,3 +303,14 @@ start-length w n blockCounts = by-refusal (startRefusalIn (length w) n blockCoun
     (λ why e. rw e (by-bool (eqb (length w) stateSize)
     (λ q. rw q (zeros-length ∙ sym (eqb-true (length w) stateSize q)))
     (λ q. rw q refl)))
+
+-- With as many words and block counts as a state has, a start in place is refused exactly as a start by value is.
+pub refusal-same : (n : ℕ) → startRefusalIn stateSize n ones ≡ startRefusal n ones
+unfolding startRefusalIn startRefusal firstOf
+refusal-same n = by-bool (leb 1 n && leb n mostProcesses)
+    (λ h. rw (h, le-ltb (length ones) n (leb-true n mostProcesses (and-right (leb 1 n) (leb n mostProcesses) h))) refl)
+    (λ h. rw h refl)
+
+pub outcome-same : (n : ℕ) → startOutcomeIn stateSize n ones ≡ startOutcome n ones
+unfolding startOutcomeIn startOutcome
+outcome-same n = rw (refusal-same n) refl

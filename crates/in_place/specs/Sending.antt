@@ -2,7 +2,7 @@
 -- Assumes nothing.
 use Rattle.laws.specs.Basics.{List, [], _∷_, _++_, ℕ, _+_}
 use Rattle.model.specs.declared.Message.{Message}
-use Rattle.words.specs.{Layout.word, Layout.wide2, Layout.markAt, Layout.partAt, Layout.vectorIn, Puts.puts, Puts.one, Puts.puts2}
+use Rattle.words.specs.{Layout.wide2, Layout.markAt, Layout.partAt, Layout.vectorIn, Puts.puts, Puts.one, Puts.puts2}
 use Rattle.words.specs.messages.Places.{withRoom, putLast}
 
 unfoldable pub sentIn : List ℕ → ℕ → ℕ → Message

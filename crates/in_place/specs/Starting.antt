@@ -1,6 +1,6 @@
 -- A start on the words: all of them zero, then n and the block counts, then checkpoint 0 of each process, then the blocks that these take.
 -- Assumes nothing.
-use Rattle.laws.specs.Basics.{_≡_, Bool, not, _&&_, List, [], _∷_, Option, ℕ, zero, suc, _+_, _≤_, eqb, ltb, leb, length, getD, replicate, pick}
+use Rattle.laws.specs.Basics.{_≡_, not, _&&_, List, [], _∷_, Option, ℕ, zero, suc, _+_, _≤_, eqb, ltb, leb, length, getD, replicate, pick}
 use Rattle.laws.specs.{Search.anyBelow, Sums.sumBelow}
 use Rattle.model.specs.declared.{Refusal.Refusal, StartAnswer.StartAnswer, StartAnswer.the-variants.Refused, StartAnswer.the-variants.Started}
 use Rattle.model.specs.declared.Refusal.the-variants.{CountOutsideRange, UnsoundState, ListTooShort, BlockCountOutsideRange}

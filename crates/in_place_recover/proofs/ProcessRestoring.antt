@@ -25,9 +25,6 @@ module _ (w : List ℕ) (size : length w ≡ 6464) (p : ℕ) (room : p < 16) (x 
   abbrev pub backed : List ℕ
   backed = puts w l
 
-  pub backed-size : length backed ≡ 6464
-  backed-size = puts-length w l ∙ size
-
   backed-low : (q : ℕ) → q < 64 + 320 * p → (q ≡ markAt p → ⊥) → word backed q ≡ word w q
   backed-low q less ne = untouched w l q (λ a b. omega arith, (λ a b. ne (omega arith), tt))
 

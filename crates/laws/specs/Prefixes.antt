@@ -1,8 +1,8 @@
 -- What a loop over the first entries of a list has found after i iterations: the list's first i entries, tested, chosen from, laid into a table or
 -- written to a list. Each law says what one entry more adds.
-use mathlib.Core.Path.{_≡_, refl, sym}
+use mathlib.Core.Path.{_≡_, refl}
 use mathlib.Core.Bool.{Bool, true, false, _||_}
-use mathlib.Core.List.{List, [], _∷_, _++_, append-nil, append-assoc}
+use mathlib.Core.List.{List, [], _∷_, _++_, append-assoc}
 use Prim.Native.Nat.{ℕ, suc, _+_, _-_, _<_, _≤_}
 use native.Mathlib.Numerals.{add-one, unary-clauses}
 use native.Mathlib.Omega.{arith}
@@ -10,8 +10,7 @@ use lib.ListN.{length, getD, set, take, replicate, length-append, length-replica
 use lib.Seq.{take-suc, set-append-seam}
 use Rattle.laws.specs.Choice.{by-bool}
 use Rattle.laws.specs.Lists.{select, orElse, lastOf, placed}
-use Rattle.laws.specs.Select.{select-append, some-append}
-use Rattle.laws.specs.Tests.{every, some-of}
+use Rattle.laws.specs.Tests.{every}
 use Rattle.laws.specs.Truth.{and-both, and-left, and-right}
 
 -- the first i + 1 entries are the first i and entry i
@@ -29,32 +28,6 @@ pub select-same-on : {A : Type 0} (g t u : A → Bool) (l : List A) → every g 
 unfolding select every
 select-same-on g t u [] all h = refl
 select-same-on g t u (x ∷ l) all h = rw (h x (and-left (g x) _ all), select-same-on g t u l (and-right (g x) _ all) h)
-
--- Entry i of a list: x. It is chosen, or it is not.
-module _ {A : Type 0} (t : A → Bool) (l : List A) (i : ℕ) (d : A) (h : i < length l) where
-  pub select-yes : t (getD l i d) ≡ true → select t (take (i + 1) l) ≡ select t (take i l) ++ (getD l i d ∷ [])
-  unfolding select
-  select-yes e = rw (take-more l i d h, select-append, e)
-
-  pub select-no : t (getD l i d) ≡ false → select t (take (i + 1) l) ≡ select t (take i l)
-  unfolding select
-  select-no e = rw (take-more l i d h, select-append, e) (append-nil _)
-
-  pub some-yes : t (getD l i d) ≡ true → true ≡ some-of t (take (i + 1) l)
-  unfolding some-of
-  some-yes e = rw (take-more l i d h, some-append, e) (sym (or-true (some-of t (take i l))))
-    where
-      or-true : (b : Bool) → (b || true) ≡ true
-      or-true true = refl
-      or-true false = refl
-
-  pub some-no : (b : Bool) → b ≡ some-of t (take i l) → t (getD l i d) ≡ false → b ≡ some-of t (take (i + 1) l)
-  unfolding some-of
-  some-no b inv e = rw (take-more l i d h, some-append, e, inv) (sym (or-false (some-of t (take i l))))
-    where
-      or-false : (b : Bool) → (b || false) ≡ b
-      or-false true = refl
-      or-false false = refl
 
 -- a table with nothing laid into it
 pub placed-none : {A : Type 0} (n : ℕ) (d : A) → replicate n d ≡ placed n d []

@@ -1,6 +1,6 @@
 -- What a step of the console leaves in the lent lists, by whether they are too short.
 -- Assumes nothing.
-use Rattle.laws.specs.Basics.{_≡_, refl, sym, _∙_, subst, Bool, true, false, _&&_, false≢true, List, ℕ, _≤_, _<_, ltb, leb, length, sets, lt-ltb, le-ltb, le-leb, lt-leb}
+use Rattle.laws.specs.Basics.{_≡_, refl, sym, _∙_, subst, Bool, true, false, _&&_, false≢true, List, ℕ, _≤_, _<_, leb, length, sets, lt-ltb, le-ltb, le-leb, lt-leb}
 use Rattle.machines.specs.{Machines.stepped, Forms.answerOf, Packed.packed, Packed.unpacked}
 use Rattle.machine_console.specs.{Consoling.Opening, Consoling.consoling, Lent.hasRoom, Lent.stateOf, Lent.placeOf, Lent.StandsFor}
 use Rattle.lemidrosy.specs.ConsoleSteps.{ConsoleBegun, ConsoleStepped}

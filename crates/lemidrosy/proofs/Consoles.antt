@@ -1,6 +1,6 @@
 -- The report of every console call fits the fields of its number, whoever asks, and whatever the state and the arguments.
 -- Assumes nothing.
-use Rattle.laws.specs.Basics.{_≡_, refl, Bool, true, false, List, [], Option, none, some, ℕ, _≤_, _<_, arith, length, getD, take, sets, pick, by-bool}
+use Rattle.laws.specs.Basics.{_≡_, Bool, true, List, [], none, some, ℕ, _≤_, _<_, arith, length, getD, take, sets, pick, by-bool}
 use lib.ListN.{length-map, length-take}
 use Rattle.model.specs.declared.{Run.Run, Named.Named, Refusal.the-variants.Denied, Refusal.the-variants.UnsoundState, LineAnswer.LineAnswer}
 use Rattle.model.specs.{Refusals.firstOf, Sound.sound, Steps.Deletion, Steps.listed, Words.process, laws.Refusals.by-refusal, laws.Sound.sound-state}

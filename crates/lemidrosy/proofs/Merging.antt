@@ -1,6 +1,6 @@
 -- The report of a merge fits the fields of its number, whatever the halves: at most 8,192 records are written, four bytes each.
 -- Assumes nothing.
-use Rattle.laws.specs.Basics.{_≡_, refl, sym, _∙_, ap, List, [], _∷_, map, Option, none, some, inl, inr, ℕ, _+_, _*_, _≤_, _<_, arith, length}
+use Rattle.laws.specs.Basics.{_≡_, refl, sym, _∙_, ap, List, [], _∷_, map, none, some, inl, inr, ℕ, _+_, _*_, _≤_, _<_, arith, length}
 use lib.ListN.{length-map}
 use Rattle.model.specs.declared.{Fields.Fields, MergeAnswer.MergeAnswer, MergeAnswer.the-variants.Refused, MergeAnswer.the-variants.Merged}
 use Rattle.model.specs.laws.Refusals.{by-refusal}

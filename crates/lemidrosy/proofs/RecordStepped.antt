@@ -1,9 +1,9 @@
 -- What a step of the program `record` leaves in the lent lists, by whether they are too short.
 -- Assumes nothing.
-use Rattle.laws.specs.Basics.{_≡_, refl, sym, _∙_, subst, Bool, true, false, _&&_, false≢true, List, ℕ, _≤_, _<_, leb, length, sets, le-leb, lt-leb}
+use Rattle.laws.specs.Basics.{_≡_, refl, sym, _∙_, subst, Bool, true, false, _&&_, false≢true, List, ℕ, _≤_, _<_, length, sets, le-leb, lt-leb}
 use Rattle.machines.specs.{Machines.stepped, Forms.answerOf, Packed.packed, Packed.unpacked}
 use Rattle.machine_record.specs.{Machine.machine, Machine.counting, Lent.hasRoom, Lent.placeOf, Lent.StandsFor}
-use Rattle.lemidrosy.specs.RecordSteps.{RecordPosed, fits, RecordBegun, Lent, stands, RecordStepped}
+use Rattle.lemidrosy.specs.RecordSteps.{fits, RecordBegun, Lent, stands, RecordStepped}
 use Rattle.machines.specs.declared.Request as requests
 use Rattle.machines.specs.declared.Answer as answers
 

@@ -4,13 +4,12 @@ use Rattle.laws.specs.Basics.{_≡_, refl, sym, ap, List, [], _∷_, Option, �
 use Rattle.model.specs.declared.{Named.Named, Run.Run, Refusal.Refusal, Refusal.the-variants.ListTooShort, Refusal.the-variants.BufferTooShort}
 use Rattle.model.specs.Refusals.{number, checkpointRefusal, sendRefusal, deliverRefusal, loseRefusal, recoverRefusal}
 use Rattle.model.specs.laws.Refusals.{by-refusal}
-use Rattle.whole_runs.specs.Outcomes.{Outcome, Report, startReport, checkpointReport, checkpointOutcome, sendReport, sendOutcome, deliverReport, deliverOutcome, loseReport, loseOutcome, lineReport, lineOutcome, recoverReport, recoverOutcome}
-use Rattle.whole_runs.specs.Earliest.{earliestOutcome}
+use Rattle.whole_runs.specs.Outcomes.{Outcome, Report, startReport, checkpointReport, checkpointOutcome, sendReport, sendOutcome, deliverReport, deliverOutcome, loseReport, loseOutcome, lineReport, recoverReport, recoverOutcome}
 use Rattle.theory_recording.specs.Recording.{Recorded, unwritten, appended, recording, recordedCheckpoint, recordedSend, recordedDeliver, recordedLose, recordedLine, recordedRecover, recordedEarliest}
 use Rattle.listing.specs.answers.Codes.{Fits, coded, valueCode, startCode, checkpointCode, sendCode, deliverCode, loseCode, lineCode, recoverCode}
 use Rattle.listing.proofs.answers.Fit.{fits-refused, checkpoint-fits, send-fits, deliver-fits, lose-fits, line-fits, recover-fits, earliest-fits}
 use Rattle.words.specs.Layout.{runOf}
-use Rattle.in_place.specs.Starting.{startRefusalIn, startOutcomeIn}
+use Rattle.in_place.specs.Starting.{startRefusalIn}
 use Rattle.library_recorder.specs.Recorded.{recordedStartIn, recordedStartWords}
 use Rattle.lemidrosy.specs.Recording.{Placed, atPlace, unplaced, startAt, startWordsAt, checkpointAt, sendAt, deliverAt, loseAt, lineAt, recoverAt, earliestAt}
 use Rattle.lemidrosy.proofs.Starting.{start-fits}

@@ -1,10 +1,8 @@
 -- What every reader answers to a state that is not sound.
 -- Assumes nothing.
-use Rattle.laws.specs.Basics.{_≡_, refl, Bool, true, false, not, List, [], _∷_, Option, some, ℕ}
-use Rattle.laws.specs.Below.{not-out}
+use Rattle.laws.specs.Basics.{_≡_, refl, false, List, [], _∷_, Option, some, ℕ}
 use Rattle.model.specs.declared.{Run.Run, Refusal.the-variants.UnsoundState}
 use Rattle.model.specs.{Sound.sound, Refusals.number, Refusals.Rule, Refusals.unsound, laws.Refusals.refusal-in}
-use Rattle.whole_runs.specs.Outcomes.{refusing}
 use Rattle.listing.specs.answers.Codes.{coded, valueCode}
 use Rattle.library_readers.specs.Readings.{Reading, reading, numbersReading, vectorReading, pinsReading, keptReading, messagesReading, carriedReading, lostReading}
 

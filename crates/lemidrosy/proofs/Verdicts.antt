@@ -1,10 +1,10 @@
 -- The pair that a verdict names fits the fields of its number, whatever the trace.
 -- Assumes nothing.
-use Rattle.laws.specs.Basics.{_≡_, refl, sym, _∙_, ap, List, [], _∷_, none, ℕ, _≤_, _<_, arith}
+use Rattle.laws.specs.Basics.{_≡_, _∙_, List, [], _∷_, ℕ, _≤_, _<_, arith}
 use Rattle.model.specs.{Words.ones, Refusals.startRefusal, laws.Refusals.by-refusal}
 use Rattle.model.proofs.simulation.Accepted.{start-out}
 use Rattle.theory_patterns.specs.declared.{Verdict.Verdict, Verdict.the-variants.Refused, Verdict.the-variants.Trackable, Verdict.the-variants.Breaks}
-use Rattle.theory_patterns.specs.Patterns.{Pattern, Reading, refused, whole, reading}
+use Rattle.theory_patterns.specs.Patterns.{Pattern, refused, whole, reading}
 use Rattle.theory_patterns.specs.Verdicts.{countOf, verdict, RightVerdict}
 use Rattle.theory_patterns.proofs.Right.{verdict-right}
 use Rattle.lemidrosy.specs.Programs.{PairFits}

@@ -7,8 +7,7 @@ use Rattle.listing.specs.answers.Codes.{coded}
 use Rattle.theory_merges.specs.Merge.{mergeReport}
 use Rattle.theory_patterns.specs.declared.{Verdict.Verdict, Verdict.the-variants.Refused, Verdict.the-variants.Trackable, Verdict.the-variants.Breaks}
 use Rattle.theory_patterns.specs.Verdicts.{Pair, JudgeReport, judgeReport}
-use Rattle.theory_recording.specs.declared.{spacing.TrialAnswer.TrialAnswer, spacing.TrialResult.TrialResult}
-use Rattle.theory_recording.specs.spacing.Spacing.{simulated}
+use Rattle.theory_recording.specs.{declared.spacing.TrialAnswer.TrialAnswer, declared.spacing.TrialResult.TrialResult, spacing.Spacing.simulated}
 use Rattle.library_readers.specs.Readings.{Reading}
 use Rattle.theory_recording.specs.declared.spacing.TrialAnswer.the-variants as trial-answer
 

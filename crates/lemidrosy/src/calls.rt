@@ -1,8 +1,7 @@
 // The calls in place: each works on the 6,464 words that the caller lends, which hold a state (`words`, specs/Layout). Words that stand for no sound state are refused
 // with number 2. A refused call leaves every word and every entry of its lists as it was; a refused start makes the words zero.
 ghost use Rattle.laws.specs.Basics.{_≡_, length};
-ghost use Rattle.model.specs.declared.{Refusal.Refusal, StartAnswer.the-variants.Started};
-ghost use Rattle.model.specs.Sound.{sound};
+ghost use Rattle.model.specs.{declared.Refusal.Refusal, declared.StartAnswer.the-variants.Started, Sound.sound};
 ghost use Rattle.whole_runs.specs.Outcomes.{checkpointOutcome, sendOutcome, deliverOutcome, loseOutcome, lineOutcome, recoverOutcome};
 ghost use Rattle.whole_runs.specs.{WholeRuns.LinePromise, WholeRuns.StartPromise, WholeRuns.StatePromise, WholeRuns.EarliestPromise, Earliest.earliestOutcome};
 ghost use Rattle.whole_runs.specs.{Clean.CleanPromise, Sweep.EmptyLinePromise, Sweep.SweepPromise};

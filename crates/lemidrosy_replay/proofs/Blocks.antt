@@ -4,8 +4,8 @@ use Rattle.laws.specs.Basics.{_≡_, refl, _∙_, Bool, List, [], _∷_, ℕ, _
 use Rattle.model.specs.declared.Run.{Run}
 use Rattle.model.specs.Refusals.{number}
 use Rattle.listing.specs.answers.Codes.{coded, valueCode}
-use Rattle.library_replay.specs.Taken.{BlockOutcome, blockOutcome}
-use Rattle.lemidrosy_replay.specs.Replaying.{Replaying, replaying}
+use Rattle.library_replay.specs.Taken.{blockOutcome}
+use Rattle.lemidrosy_replay.specs.Replaying.{replaying}
 
 module _ (all : Bool) (done : ℕ) (s : Run) (records text progress : List ℕ) where
   abbrev Leads : ℕ → Run → List ℕ → List ℕ → Type 0

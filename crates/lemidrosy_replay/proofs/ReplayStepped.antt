@@ -1,10 +1,9 @@
 -- What a step of the replay leaves in the lent lists, by whether they are too short.
 -- Assumes nothing.
-use Rattle.laws.specs.Basics.{_≡_, refl, sym, _∙_, ap, subst, Bool, true, false, _&&_, false≢true, List, ℕ, _≤_, _<_, leb, length, sets, le-leb, lt-leb}
+use Rattle.laws.specs.Basics.{_≡_, refl, sym, _∙_, subst, true, false, _&&_, false≢true, List, ℕ, _≤_, _<_, length, sets, le-leb, lt-leb}
 use Rattle.machines.specs.{Machines.stepped, Forms.answerOf, Forms.Asks, Packed.packed, Packed.unpacked}
-use Rattle.machine_replay.specs.Replaying.{State, starting, asks, replaying}
-use Rattle.machine_replay.specs.Standing.{numbers, enoughRoom, stateOf, placeOf}
-use Rattle.lemidrosy_replay.specs.ReplaySteps.{ReplayPosed, hasRoom, ReplayBegun, ReplayStepped}
+use Rattle.machine_replay.specs.{Replaying.starting, Replaying.asks, Replaying.replaying, Standing.enoughRoom, Standing.stateOf, Standing.placeOf}
+use Rattle.lemidrosy_replay.specs.ReplaySteps.{hasRoom, ReplayBegun, ReplayStepped}
 use Rattle.machines.specs.declared.Request as requests
 use Rattle.machines.specs.declared.Answer as answers
 

@@ -2,9 +2,8 @@
 -- Assumes nothing.
 use Rattle.laws.specs.Basics.{_≡_, refl, sym, _∙_, ap, Bool, true, false, not, _&&_, false≢true, List, Option, none, some, ℕ, arith, by-bool}
 use Rattle.laws.specs.Truth.{and-out}
-use Rattle.model.specs.declared.{Refusal.Refusal, Run.Run}
+use Rattle.model.specs.{declared.Refusal.Refusal, declared.Run.Run, Refusals.sendRefusal, Refusals.loseRefusal}
 use Rattle.model.specs.{Words.process, Words.withProcess, Steps.marked, Steps.sendState, Steps.others, Steps.loseState, Sound.sound, laws.Sound.sound-state}
-use Rattle.model.specs.Refusals.{sendRefusal, loseRefusal}
 use Rattle.whole_runs.specs.Outcomes.{Outcome, judged, sendOutcome, loseOutcome}
 use Rattle.words.specs.Layout.{runOf}
 use Rattle.whole_runs.proofs.Unsound.{is-unsound}

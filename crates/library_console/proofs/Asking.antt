@@ -7,11 +7,11 @@ use Rattle.whole_runs.specs.Earliest.{earliestOutcome}
 use Rattle.words.specs.Layout.{runOf}
 use Rattle.in_place.specs.Starting.{StartsTheSame, startOutcomeIn, startWords}
 use Rattle.in_place.proofs.Judging.{starts-the-same}
-use Rattle.theory_roles.specs.declared.{Role.Role, Role.the-variants.Operator, Role.the-variants.JobOwner, Role.the-variants.Viewer, Caller.Caller}
+use Rattle.theory_roles.specs.declared.{Caller.Caller}
 use Rattle.theory_roles.specs.declared.Operation.the-variants.{Start, Checkpoint, Send, Deliver, Lose, Recover, Earliest}
 use Rattle.theory_roles.specs.Console.{denied, deniedProcess, deniedMessage, denial, consoleStart, consoleCheckpoint, consoleSend, consoleDeliver, consoleLose, consoleRecover, consoleEarliest}
 use Rattle.library_console.specs.declared.{denied.Claim.Claim, denied.Claim.the-variants.Unknown, denied.Claim.the-variants.As}
-use Rattle.library_console.specs.Asked.{claimOf, NumberedByPlace, asked, deniedAs, consoleStartIn, ConsoleStartsTheSame, startAs, startWordsAs, checkpointAs, sendAs, deliverAs, loseAs, recoverAs, earliestAs}
+use Rattle.library_console.specs.Asked.{claimOf, asked, deniedAs, consoleStartIn, ConsoleStartsTheSame, startAs, startWordsAs, checkpointAs, sendAs, deliverAs, loseAs, recoverAs, earliestAs}
 use Rattle.model.specs.declared.StartAnswer.the-variants as start-answer
 use Rattle.model.specs.declared.CheckpointAnswer.the-variants as checkpoint-answer
 use Rattle.model.specs.declared.SendAnswer.the-variants as send-answer
@@ -30,12 +30,6 @@ module _ {A : Type 0} (owned : ℕ) (test : Caller → Bool) (refusal : Outcome 
   unfolding asked deniedAs
   asked-made Unknown out same e t = absurd (false≢true (sym t ∙ e))
   asked-made (As r) out same e t = rw (sym e ∙ t) (same _)
-
-pub numbered-by-place : NumberedByPlace
-unfolding NumberedByPlace claimOf
-numbered-by-place Operator = refl
-numbered-by-place JobOwner = refl
-numbered-by-place Viewer = refl
 
 pub console-starts-the-same : ConsoleStartsTheSame
 unfolding ConsoleStartsTheSame consoleStartIn consoleStart StartsTheSame

@@ -1,7 +1,6 @@
 -- The caller's members of a line: the call on a list of 16 entries answers as that on the lent one, and what is then written of it.
 -- Assumes nothing.
-use Rattle.laws.specs.Basics.{_≡_, refl, sym, _∙_, ap, Bool, true, false, false≢true, List, [], Option, none, some, ℕ, _≤_, _<_, arith, ltb, length, getD, replicate, length-replicate, sets, lt-ltb, le-ltb, ltb-true, ltb-false, pick, by-bool}
-use lib.Seq.{ext-getD}
+use Rattle.laws.specs.Basics.{_≡_, refl, sym, _∙_, ap, Bool, true, false, false≢true, List, [], Option, none, some, ℕ, _≤_, _<_, arith, ltb, length, getD, replicate, sets, lt-ltb, le-ltb, ltb-true, ltb-false, pick, by-bool}
 use Rattle.laws.specs.{Below.below-written, Choice.pick-same, Lists.table, Loops.setBelow, Loops.below-at, Loops.below-above, Loops.below-length}
 use Rattle.laws.specs.Tables.{table-is}
 use Rattle.model.specs.declared.{Run.Run, Refusal.Refusal, Refusal.the-variants.UnsoundState, LineAnswer.LineAnswer}

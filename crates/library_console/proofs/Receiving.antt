@@ -1,11 +1,11 @@
 -- The message that the run of any words has under way under a number is the one that the places of the words are searched for.
 -- Assumes nothing.
-use Rattle.laws.specs.Basics.{_≡_, refl, sym, _∙_, ap, Bool, true, false, not, _&&_, List, [], _∷_, _++_, append-nil, Option, none, some, ℕ, zero, suc, _+_, _-_, _≤_, _<_, arith, eqb, ltb, length, take, replicate, length-append, eq-eqb, ne-eqb, lt-ltb, le-ltb, ltb-true, ltb-false, pick, by-bool, by-eq}
+use Rattle.laws.specs.Basics.{_≡_, refl, sym, _∙_, ap, Bool, true, false, _&&_, List, [], _∷_, _++_, append-nil, Option, none, some, ℕ, zero, suc, _+_, _-_, _≤_, _<_, arith, eqb, ltb, length, take, replicate, length-append, eq-eqb, ne-eqb, lt-ltb, le-ltb, ltb-true, ltb-false, pick, by-bool, by-eq}
 use native.Mathlib.Numerals.{add-one}
 use lib.Seq.{take-all}
-use Rattle.laws.specs.{Lists.select, Lists.orElse, Lists.lastOf, Lists.table, Lists.placed, Select.select-append, Select.select-length, Select.lastOf-snoc}
+use Rattle.laws.specs.{Lists.select, Lists.lastOf, Lists.table, Lists.placed, Select.select-append, Select.select-length, Select.lastOf-snoc}
 use Rattle.laws.specs.{Tables.length-table, Truth.and-no-right}
-use Rattle.model.specs.declared.{Message.Message, Run.Run}
+use Rattle.model.specs.declared.{Message.Message}
 use Rattle.model.specs.{Words.noMessage, Words.mostUnderWay, Words.blank, Words.underWay, Steps.found}
 use Rattle.words.specs.Layout.{word, endOf, fits, receiverAt, messageIn, isMessage, messagesIn, runOf}
 use Rattle.words.proofs.{View.run-unfit, View.underway-is, View.messages-is, messages.Selected.select-more, messages.Selected.select-less}

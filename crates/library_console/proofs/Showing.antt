@@ -1,12 +1,12 @@
 -- What is shown of words: a line, by the cases of who asks, and the counts, which are refused with 2 or 3 or written.
 -- Assumes nothing.
-use Rattle.laws.specs.Basics.{_≡_, refl, sym, _∙_, ap, Bool, true, false, not, List, [], ℕ, _+_, _≤_, _<_, arith, ltb, length, sets, pick, by-bool}
-use Rattle.laws.specs.{Lists.table, Tables.table-same}
+use Rattle.laws.specs.Basics.{_≡_, refl, sym, _∙_, ap, Bool, true, false, not, List, [], ℕ, _+_, _≤_, _<_, arith, ltb, length, sets, by-bool}
+use Rattle.laws.specs.{Tables.table-same}
 use Rattle.model.specs.declared.{Run.Run, Refusal.the-variants.Denied, Refusal.the-variants.UnsoundState, Refusal.the-variants.ListTooShort}
 use Rattle.model.specs.declared.{LineAnswer.LineAnswer, LineAnswer.the-variants.Refused, LineAnswer.the-variants.Written}
 use Rattle.model.specs.{Words.process, Sound.sound, Refusals.firstOf}
 use Rattle.whole_runs.specs.Outcomes.{Outcome, judged, lineOutcome}
-use Rattle.words.specs.Layout.{word, keptCountAt, runOf}
+use Rattle.words.specs.Layout.{word, runOf}
 use Rattle.words.proofs.{View.count-is, View.process-is, View.kept-count, ViewSound.sound-words, ViewSound.sound-part}
 use Rattle.library_readers.specs.Written.{wordsFrom}
 use Rattle.theory_roles.specs.declared.{Role.Role, Caller.Caller, Operation.the-variants.Line, Operation.the-variants.Counts}

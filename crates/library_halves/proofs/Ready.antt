@@ -3,8 +3,7 @@
 use Rattle.laws.specs.Basics.{_≡_, refl, _∙_, ap, true, false, List, [], _∷_, none, some, ℕ, suc, _+_, _*_, _/_, _%_, _≤_, _<_, arith, eqb, leb, length, take, drop, length-drop, eq-eqb, ne-eqb, eqb-true, le-leb, leb-true, leb-false, by-bool, by-eq}
 use lib.Seq.{drop-drop}
 use Rattle.laws.specs.Truth.{and-left, and-right}
-use Rattle.model.specs.declared.{Fields.Fields, Refusal.the-variants.NeitherReady}
-use Rattle.model.specs.Trace.{fields, ifZero}
+use Rattle.model.specs.{declared.Fields.Fields, declared.Refusal.the-variants.NeitherReady, Trace.fields, Trace.ifZero}
 use Rattle.theory_merges.specs.Halves.{HalfEvent, checkpointAt, sendTo, messageNumber}
 use Rattle.theory_merges.specs.Merge.{stopped, nextIs, neither, nextOfSecond, nextRecord, isReady, halfEventOf, onNext, takeFrom, fieldsIn}
 use Rattle.trace.specs.Answers.{recordAt, fieldsRead}

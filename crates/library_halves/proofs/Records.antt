@@ -1,6 +1,6 @@
 -- What a record of a half is found to be.
 -- Assumes nothing.
-use Rattle.laws.specs.Basics.{_≡_, refl, Bool, true, false, not, List, Option, some, _⊎_, ℕ, zero, suc, _+_, _*_, _/_, _%_, _≤_, _<_, arith, eqb, eq-eqb, ne-eqb, lt-ltb, le-leb, lt-leb, by-bool}
+use Rattle.laws.specs.Basics.{_≡_, refl, Bool, true, false, List, Option, some, _⊎_, ℕ, zero, suc, _+_, _*_, _/_, _%_, _≤_, _<_, arith, eqb, eq-eqb, ne-eqb, lt-ltb, le-leb, lt-leb, by-bool}
 use Rattle.laws.specs.Loops.{either}
 use Rattle.model.specs.declared.Refusal.the-variants.{NoSuchProcess, SenderIsReceiver, HalvesMismatch, MalformedRecord}
 use Rattle.model.specs.{Refusals.firstOf, Trace.ifZero, Trace.fieldsOf, Trace.fits, Trace.wordOf}

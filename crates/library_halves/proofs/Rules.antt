@@ -1,6 +1,6 @@
 -- What is judged of both halves before any record: the tests of the code and those of the model.
 -- Assumes nothing.
-use Rattle.laws.specs.Basics.{_≡_, refl, Bool, true, false, not, _||_, List, [], _∷_, ℕ, _+_, _-_, _/_, _%_, _^_, _≤_, _<_, arith, eqb, ltb, leb, length, getD, eq-eqb, ne-eqb, lt-ltb, le-ltb, ltb-true, ltb-false, le-leb, lt-leb, leb-true, leb-false, by-bool}
+use Rattle.laws.specs.Basics.{_≡_, refl, Bool, true, false, not, _||_, List, [], _∷_, ℕ, _+_, _-_, _/_, _%_, _^_, _≤_, _<_, arith, eqb, ltb, leb, length, getD, eq-eqb, lt-ltb, le-ltb, ltb-true, ltb-false, le-leb, lt-leb, leb-true, leb-false, by-bool}
 use Rattle.model.specs.Refusals.{firstOf}
 use Rattle.theory_merges.specs.Merge.{badCount, countOf, afterFirstByte, leftOver, tooMany, mergeRefusal}
 use Rattle.library_halves.specs.Both.{rulesOf}

@@ -7,8 +7,7 @@ use Rattle.theory_merges.specs.Halves.{HalfEvent, deliverOf, loseOf, plainEvent
 use Rattle.theory_merges.specs.Merge.{Taken, stopped, took, isReady, onRecord, takeFrom, fieldsIn}
 use Rattle.admissions.specs.declared.Admission.{Admission}
 use Rattle.trace.specs.Answers.{recordAt}
-use Rattle.library_halves.specs.declared.{record.Judged.Judged, taking.Step.Step}
-use Rattle.library_halves.specs.Log.{wordIn, Logged}
+use Rattle.library_halves.specs.{declared.record.Judged.Judged, declared.taking.Step.Step, Log.wordIn, Log.Logged}
 use Rattle.admissions.specs.declared.Admission.the-variants as admission
 use Rattle.library_halves.specs.declared.record.Judged.the-variants as judged
 use Rattle.library_halves.specs.declared.taking.Step.the-variants as step

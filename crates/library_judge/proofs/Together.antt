@@ -16,8 +16,7 @@ use Rattle.theory_patterns.specs.Patterns.{Pattern, empty, recordRefusal, taken
 use Rattle.theory_patterns.specs.Verdicts.{countOf, verdictOn, verdict, RightVerdict}
 use Rattle.theory_patterns.proofs.{Right.is-verdict, Facts.begin, Trail.Trail, Trail.Right}
 use Rattle.library_judge.specs.decision.Represents.{Represents, Judges, Says}
-use Rattle.library_judge.specs.declared.{reading.Progress.Progress, reading.Step.Step}
-use Rattle.library_judge.specs.Readings.{refusedStep, takenStep}
+use Rattle.library_judge.specs.{declared.reading.Progress.Progress, declared.reading.Step.Step, Readings.refusedStep, Readings.takenStep}
 use Rattle.library_judge.specs.Kept.{Tables, Kept, AfterRecord, Reads, Reached, ReadsTo, ReadsAll}
 use Rattle.library_judge.specs.declared.reading.Taking.the-variants as answers
 

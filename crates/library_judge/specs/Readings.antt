@@ -2,10 +2,9 @@
 -- Assumes nothing.
 use Rattle.laws.specs.Basics.{_≡_, refl, sym, _∙_, ap, Bool, true, false, not, _&&_, false≢true, List, [], _∷_, Option, none, some, ℕ, zero, suc, _+_, _-_, _≤_, _<_, arith, eqb, ltb, leb, length, getD, set, replicate, length-set, length-replicate, getD-replicate, getD-set-same, getD-set-other, eq-eqb, ne-eqb, lt-ltb, ltb-true, le-leb, lt-leb, pick, by-bool, by-eq}
 use Rattle.theory_patterns.specs.Patterns.{mostJudged}
-use Rattle.model.specs.declared.{Interval.Interval, Refusal.Refusal}
+use Rattle.model.specs.{declared.Interval.Interval, declared.Refusal.Refusal, Steps.advanced, Steps.takenVector, Steps.started}
 use Rattle.model.specs.declared.Refusal.the-variants.{NoSuchProcess, NotUnderWay, IntervalsUsed}
 use Rattle.model.specs.{Words.entry, Words.ones, Words.mostInterval, Words.mostProcesses, Words.mostUnderWay, Words.mostMessages, Refusals.firstOf}
-use Rattle.model.specs.Steps.{advanced, takenVector, started}
 use Rattle.whole_runs.specs.Outcomes.{judged}
 use Rattle.admissions.specs.declared.Admission.{Admission}
 use Rattle.admissions.specs.Admissions.{refusalOf, sendAdmission}

@@ -1,14 +1,13 @@
 -- What the reader of a carried vector does, by the place of the message in the words.
 -- Assumes nothing.
-use Rattle.laws.specs.Basics.{_≡_, refl, sym, _∙_, ap, true, List, [], _∷_, Option, none, some, ℕ, zero, suc, _+_, _≤_, _<_, arith, length, lt-ltb, le-ltb}
+use Rattle.laws.specs.Basics.{_≡_, refl, _∙_, ap, true, List, [], _∷_, Option, none, some, ℕ, suc, _+_, _≤_, _<_, arith, length, lt-ltb, le-ltb}
 use Rattle.laws.specs.{Lists.table, Lists.orElse, Tables.table-same}
 use Rattle.model.specs.declared.{Interval.Interval, Message.Message, Refusal.the-variants.ListTooShort, Refusal.the-variants.NotUnderWay, Run.Run}
 use Rattle.model.specs.{Words.entry, Words.noMessage, Steps.found, Sound.sound}
-use Rattle.whole_runs.specs.Outcomes.{message}
-use Rattle.words.specs.{Layout.word, Layout.countOf, Layout.endOf, Layout.carriedAt, Layout.vectorIn, Layout.messageIn, Layout.runOf, messages.Places.placeOf}
+use Rattle.words.specs.{Layout.countOf, Layout.carriedAt, Layout.vectorIn, Layout.messageIn, Layout.runOf, messages.Places.placeOf}
 use Rattle.words.proofs.{Same.vector-word, View.count-is, ViewSound.SoundWords, ViewSound.sound-words, messages.Selected.messageAt}
 use Rattle.in_place.proofs.Losing.{found-is}
-use Rattle.library_readers.specs.{Readings.Reading, Readings.carriedOf, Readings.carriedReading, Written.wordsFrom}
+use Rattle.library_readers.specs.{Readings.carriedOf, Readings.carriedReading, Written.wordsFrom}
 use Rattle.library_readers.proofs.Readings.{refusedBy, read, refused-by, read-by}
 
 module _ (w : List ℕ) (h : sound (runOf w) ≡ true) (m : ℕ) (lent : List ℕ) where

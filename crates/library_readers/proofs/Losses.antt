@@ -1,10 +1,10 @@
 -- What the reader of the messages that a recovery would lose does, by the words.
 -- Assumes nothing.
-use Rattle.laws.specs.Basics.{_≡_, refl, sym, _∙_, ap, true, false, _&&_, List, [], _∷_, Option, none, some, ℕ, _^_, _≤_, _<_, arith, leb, length, lt-ltb, le-ltb}
-use Rattle.laws.specs.{Lists.select, Lists.table, Select.select-length, Select.select-select, Tables.length-table}
+use Rattle.laws.specs.Basics.{_≡_, refl, sym, _∙_, ap, true, false, _&&_, List, [], _∷_, some, ℕ, _^_, _≤_, _<_, arith, leb, length, lt-ltb, le-ltb}
+use Rattle.laws.specs.{Lists.table, Select.select-length, Select.select-select, Tables.length-table}
 use Rattle.model.specs.declared.{CheckpointIndex.CheckpointIndex, Interval.Interval, Message.Message, Run.Run}
 use Rattle.model.specs.declared.Refusal.the-variants.{UnsoundState, ListTooShort, NoSuchFailedProcess}
-use Rattle.model.specs.{Sound.sound, Refusals.outside, Refusals.noMember}
+use Rattle.model.specs.{Sound.sound, Refusals.noMember}
 use Rattle.words.specs.Layout.{countOf, endOf, messageIn, isMessage, messagesIn, runOf}
 use Rattle.words.proofs.{View.count-is, ViewSound.SoundWords, ViewSound.sound-words}
 use Rattle.words_line.specs.{Line.limitsIn, Line.pastsIn, Line.indexesIn, Sifted.lostTo}

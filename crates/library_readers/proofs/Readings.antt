@@ -1,18 +1,18 @@
 -- What each reader's outcome is, by the words: refused, and accepted.
 -- Assumes nothing.
-use Rattle.laws.specs.Basics.{_≡_, refl, sym, _∙_, ap, true, false, not, List, [], _∷_, Option, none, some, ℕ, zero, suc, _+_, _*_, _≤_, _<_, arith, ltb, leb, length, getD, sets, lt-ltb, le-ltb, le-leb, lt-leb}
+use Rattle.laws.specs.Basics.{_≡_, refl, sym, _∙_, ap, true, List, [], _∷_, Option, none, some, ℕ, zero, suc, _+_, _*_, _≤_, _<_, arith, length, getD, sets, lt-ltb, le-ltb, le-leb, lt-leb}
 use Rattle.laws.specs.{Lists.table, Rows.by-lt, Select.select-length, Tables.table-same, Tables.length-table, Tables.getD-table}
 use Rattle.model.specs.declared.{Interval.Interval, Pin.the-variants.Nothing, Checkpoint.Checkpoint, Message.Message, Run.Run, Refusal.Refusal}
-use Rattle.model.specs.declared.Refusal.the-variants.{UnsoundState, ListTooShort, NoSuchProcess, NotUnderWay}
-use Rattle.model.specs.{Words.entry, Words.Process, Words.process, Words.underWay, Sound.sound, Refusals.Rule, Refusals.firstOf, Refusals.unsound}
+use Rattle.model.specs.declared.Refusal.the-variants.{ListTooShort, NoSuchProcess}
+use Rattle.model.specs.{Words.entry, Words.Process, Words.process, Sound.sound, Refusals.Rule}
 use Rattle.model.specs.laws.Refusals.{Gives, refusal-in}
 use Rattle.whole_runs.specs.Outcomes.{refusing, accepting}
 use Rattle.listing.specs.answers.Codes.{coded, valueCode}
-use Rattle.words.specs.Layout.{word, wide2, wide4, countOf, endOf, keptCountAt, partAt, pinsAt, indexAt, pinOf, vectorIn, pinsIn, checkpointIn, messageIn, isMessage, messagesIn, runOf}
+use Rattle.words.specs.Layout.{word, wide2, wide4, countOf, endOf, keptCountAt, partAt, pinsAt, pinOf, pinsIn, checkpointIn, messageIn, isMessage, messagesIn, runOf}
 use Rattle.words.specs.Parts.{processIn}
 use Rattle.words.proofs.{Same.vector-word, View.count-is, View.underway-is, View.last-is, View.written-is, View.deleted-is}
 use Rattle.words.proofs.ViewSound.{SoundWords, sound-words, sound-process-is, sound-kept-is}
-use Rattle.library_readers.specs.Readings.{Reading, reading, short, numbersReading, ofProcess, vectorReading, pinNumber, pinsReading, storedNumbers, keptReading, sentNumbers, messagesReading}
+use Rattle.library_readers.specs.Readings.{Reading, reading, numbersReading, ofProcess, vectorReading, pinNumber, pinsReading, storedNumbers, keptReading, sentNumbers, messagesReading}
 use Rattle.library_readers.specs.Written.{wordsFrom, rowReading, messagesBelow}
 
 abbrev pub refusedBy : Refusal → List ℕ → Reading

@@ -1,6 +1,6 @@
 -- Three numbers of each element, written one element after the other.
 -- Assumes nothing.
-use Rattle.laws.specs.Basics.{_≡_, refl, sym, _∙_, ap, Bool, List, [], _∷_, _++_, append-nil, ℕ, zero, suc, _+_, _*_, _≤_, _<_, arith, length, length-append, sets, pick, by-bool}
+use Rattle.laws.specs.Basics.{_≡_, refl, sym, _∙_, ap, Bool, List, [], _∷_, _++_, append-nil, ℕ, _+_, _*_, _≤_, _<_, arith, length, length-append, sets, pick, by-bool}
 use native.Mathlib.Numerals.{add-one}
 use Rattle.laws.specs.{Lists.select, Lists.table, Select.select-append, Select.select-one, Tables.length-table, Written.sets-after}
 use Rattle.model.specs.declared.{Checkpoint.Checkpoint, Message.Message}

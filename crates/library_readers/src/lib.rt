@@ -7,12 +7,12 @@ use model::MESSAGES;
 use model::Refusal;
 use words::messages::Found;
 use words::places;
-ghost use Rattle.laws.specs.Basics.{_≡_, true, [], _∷_, none, some, ℕ, _+_, _*_, _≤_, _<_, length, sets, pick};
+ghost use Rattle.laws.specs.Basics.{_≡_, true, [], _∷_, some, ℕ, _+_, _*_, _≤_, _<_, length, sets, pick};
 ghost use Rattle.laws.specs.Lists.{table};
 ghost use Rattle.model.specs.{Sound.sound, Words.mostProcesses, Words.mostUnderWay};
 ghost use Rattle.whole_runs.specs.Outcomes.{refusing, accepting};
 ghost use Rattle.listing.specs.answers.Codes.{coded};
-ghost use Rattle.words.specs.Layout.{word, countOf, endOf, keptCountAt, indexAt, checkpointIn, messageIn, isMessage, messagesIn, runOf, stateSize};
+ghost use Rattle.words.specs.Layout.{word, countOf, endOf, indexAt, checkpointIn, messageIn, isMessage, runOf, stateSize};
 ghost use Rattle.library_readers.specs.Readings.{numbersReading, vectorReading, pinsReading, storedNumbers, keptReading, sentNumbers, messagesReading, carriedReading};
 ghost use Rattle.library_readers.specs.Written.{numbersIn, wordsFrom, rowReading, threeStored, threeOf, messagesBelow};
 

@@ -4,9 +4,9 @@ use Rattle.laws.specs.Basics.{_≡_, refl, sym, _∙_, ap, Bool, true, false, n
 use Rattle.model.specs.declared.{Refusal.Refusal, Refusal.the-variants.BufferTooShort, Refusal.the-variants.CountOutsideRange, StartAnswer.StartAnswer}
 use Rattle.model.specs.declared.StartAnswer.the-variants.{Refused}
 use Rattle.model.specs.{Words.blank, Refusals.firstOf, laws.Refusals.by-refusal}
-use Rattle.whole_runs.specs.Outcomes.{Outcome, startReport}
+use Rattle.whole_runs.specs.Outcomes.{startReport}
 use Rattle.whole_runs.proofs.whole.Reached.{refused-number}
-use Rattle.theory_recording.specs.Recording.{Recorded, unwritten, appended}
+use Rattle.theory_recording.specs.Recording.{unwritten, appended}
 use Rattle.words.specs.{Clean.Clean, Layout.stateSize, Layout.runOf}
 use Rattle.in_place.specs.Starting.{zeros, startRefusalIn, startOutcomeIn, startWords}
 use Rattle.in_place.proofs.Starting.{zeros-run, zeros-clean, accepted-size, start-length}

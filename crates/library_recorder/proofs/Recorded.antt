@@ -1,14 +1,14 @@
 -- Note 9 of the calls in place: the words, the buffer and the place are what the definitions of the crate recording say, and there the theorem is proved.
 -- Assumes nothing.
-use Rattle.laws.specs.Basics.{_≡_, refl, sym, _∙_, ap, true, false, List, [], _∷_, none, some, ℕ, _-_, _≤_, arith, ltb, length, le-ltb, ltb-false, by-bool}
+use Rattle.laws.specs.Basics.{_≡_, refl, sym, _∙_, ap, true, List, [], _∷_, none, some, ℕ, _-_, _≤_, arith, ltb, length, le-ltb, ltb-false, by-bool}
 use Rattle.model.specs.declared.{Run.Run, Refusal.Refusal, Refusal.the-variants.BufferTooShort, StartAnswer.StartAnswer}
 use Rattle.model.specs.declared.StartAnswer.the-variants.{Refused, Started}
 use Rattle.model.specs.{Refusals.startRefusal, laws.Refusals.by-refusal}
 use Rattle.whole_runs.specs.{Outcomes.Outcome, Outcomes.startOutcome, Calls.Call}
 use Rattle.theory_recording.specs.Recording.{Recorded, unwritten, appended, recording, recordedStart, Tape, begun, tapeAfter, RecordingReplays}
 use Rattle.theory_recording.proofs.Recording.{recording-replays}
-use Rattle.words.specs.{Clean.Clean, Layout.stateSize, Layout.runOf}
-use Rattle.in_place.specs.Starting.{startRefusalIn, startOutcomeIn, startWords, StartsTheSame}
+use Rattle.words.specs.{Clean.Clean, Layout.runOf}
+use Rattle.in_place.specs.Starting.{startRefusalIn, startOutcomeIn, StartsTheSame}
 use Rattle.in_place.proofs.{Judging.starts-the-same, Starting.accepted-size, Starting.accepted-long, Starting.start-run, Starting.start-clean}
 use Rattle.library_recorder.proofs.{record.Leaves.leaves-written, Begun.done-is, Begun.done-words}
 use Rattle.library_recorder.specs.Recorded.{recordedStartIn, recordedStartWords, WordTape, tapeOf, RecordedAll, begunIn, RecordingReplaysIn}

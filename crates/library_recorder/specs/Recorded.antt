@@ -2,9 +2,8 @@
 -- through the recorder, and what a replay of the buffer gives. proofs/Recorded has the theorem.
 -- Assumes nothing.
 use Rattle.laws.specs.Basics.{_≡_, List, [], _∷_, ℕ, ltb, length, pick}
-use Rattle.model.specs.declared.{Refusal.the-variants.BufferTooShort, StartAnswer.StartAnswer}
+use Rattle.model.specs.{declared.Refusal.the-variants.BufferTooShort, declared.StartAnswer.StartAnswer, Words.blank}
 use Rattle.model.specs.declared.StartAnswer.the-variants.{Refused, Started}
-use Rattle.model.specs.Words.{blank}
 use Rattle.whole_runs.specs.{Outcomes.judged, Calls.Call}
 use Rattle.theory_recording.specs.Recording.{Recorded, unwritten, appended, Tape, recorded, begun, entries, ReplaysTheSame}
 use Rattle.words.specs.{Clean.Clean, Layout.runOf}

@@ -3,8 +3,7 @@
 use Rattle.laws.specs.Basics.{_≡_, refl, sym, _∙_, ap, Bool, true, false, _&&_, List, [], _∷_, Option, none, some, ℕ, suc, _+_, _-_, _*_, _≤_, _<_, arith, ltb, leb, length, take, drop, length-drop, sets, length-take-le, eq-eqb, ltb-true, le-leb, lt-leb, leb-true, leb-false, pick, by-bool}
 use lib.Seq.{length-sets, drop-drop}
 use Rattle.laws.specs.Truth.{and-left, and-right}
-use Rattle.model.specs.declared.{Event.Event, Run.Run}
-use Rattle.model.specs.Trace.{decoded}
+use Rattle.model.specs.{declared.Event.Event, declared.Run.Run, Trace.decoded}
 use Rattle.whole_runs.specs.{Outcomes.Report, Calls.Answered, WholeRuns.Reachable}
 use Rattle.whole_runs.specs.Listing.{lineText, callOf, perform, mostRecords, goesOn, records, goesOnAfterAll, stateAfterRecords}
 use Rattle.whole_runs.proofs.{Blocks.next-line, Blocks.next-goes-on, Blocks.next-state, Sizes.Small, Sizes.record-small, WholeRuns.reachable-call}

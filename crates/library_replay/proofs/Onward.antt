@@ -1,7 +1,7 @@
 -- Block by block: the records that are taken are in the block and no more than a replay takes, before each there was room and the replay went on, and one is taken where
 -- one may be.
 -- Assumes nothing.
-use Rattle.laws.specs.Basics.{_≡_, refl, sym, _∙_, ap, Bool, true, false, _&&_, List, [], _∷_, _++_, ℕ, zero, suc, _+_, _-_, _*_, _≤_, _<_, arith, ltb, leb, length, take, length-append, lt-ltb, ltb-true, leb-true, pick, by-bool}
+use Rattle.laws.specs.Basics.{_≡_, refl, _∙_, ap, Bool, true, _&&_, List, [], _∷_, _++_, ℕ, zero, suc, _+_, _-_, _*_, _≤_, _<_, arith, ltb, leb, length, take, length-append, lt-ltb, ltb-true, leb-true, by-bool}
 use Rattle.laws.specs.Truth.{and-left, and-right, never-both}
 use Rattle.model.specs.declared.Run.{Run}
 use Rattle.model.specs.Trace.{decoded}

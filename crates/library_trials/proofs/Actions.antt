@@ -12,8 +12,7 @@ use Rattle.whole_runs.specs.Listing.{callOf}
 use Rattle.theory_recording.specs.Replay.{stateAfterEvents, performed}
 use Rattle.theory_recording.specs.spacing.Spacing.{oldestTo, chosenReceiver, sends, delivers, action, isDue, withCheckpoint, isDelivery, hasValue, deliveriesIn, forcedIn, counted}
 use Rattle.theory_recording.proofs.spacing.Accepted.{by-option}
-use Rattle.library_trials.specs.declared.{Action.Action, Found.Found}
-use Rattle.library_trials.specs.Steps.{eventsIn, after, actionOf, forcedBy, foundIn}
+use Rattle.library_trials.specs.{declared.Action.Action, declared.Found.Found, Steps.eventsIn, Steps.after, Steps.actionOf, Steps.forcedBy, Steps.foundIn}
 
 forced-one : {A : Type 0} (a : DeliverAnswer) (x : A) → forcedBy a ≡ length (pick (hasValue (deliverReport a .value)) (x ∷ []) [])
 unfolding hasValue deliverReport forcedBy

@@ -1,9 +1,8 @@
 -- What the parts of a step leave behind, by the events that they are.
 -- Assumes nothing.
 use Rattle.laws.specs.Basics.{_≡_, true, false, List, [], _∷_, Option, none, some, ℕ, _≤_, _<_, length}
-use Rattle.model.specs.declared.{Run.Run, Event.Event, Message.Message, DeliverAnswer.DeliverAnswer}
+use Rattle.model.specs.{declared.Run.Run, declared.Event.Event, declared.Message.Message, declared.DeliverAnswer.DeliverAnswer, Words.mostProcesses}
 use Rattle.model.specs.declared.DeliverAnswer.the-variants.{Refused, Received, Forced}
-use Rattle.model.specs.Words.{mostProcesses}
 use Rattle.theory_recording.specs.{Replay.stateAfterEvents, Replay.performed, spacing.Trial.Trial}
 use Rattle.words.specs.Layout.{runOf}
 use Rattle.theory_recording.specs.spacing.Spacing.{deliveriesIn, forcedIn, trialAfter, mostSteps}

@@ -1,6 +1,6 @@
 -- The numbers of a state, and the states that they stand for.
 -- Assumes nothing.
-use Rattle.laws.specs.Basics.{_≡_, refl, sym, _∙_, ap, true, false, List, [], _∷_, ℕ, _+_, _-_, _≤_, _<_, arith, eqb, ltb, length, getD, take, length-take-le, eq-eqb, ne-eqb, lt-ltb, le-ltb, le-leb, by-bool}
+use Rattle.laws.specs.Basics.{_≡_, refl, sym, _∙_, ap, true, false, List, [], _∷_, ℕ, _+_, _-_, _≤_, _<_, arith, eqb, length, getD, take, length-take-le, eq-eqb, ne-eqb, lt-ltb, le-ltb, le-leb, by-bool}
 use lib.Seq.{length-sets}
 use Rattle.model.specs.declared.Run.{Run}
 use Rattle.model.specs.Refusals.{number}
@@ -9,7 +9,7 @@ use Rattle.machines.proofs.programs.Texts.{front-text}
 use Rattle.words.specs.Layout.{runOf}
 use Rattle.machines.specs.Machines.{Answer, stepped}
 use Rattle.machine_console.specs.{Made.madeOn, Made.opened, Text.firstCall, Text.lineText, Text.callText, Text.refusedText, Text.refusedAt, Replied.Makes}
-use Rattle.machine_console.specs.Consoling.{mostCalls, State, Opening, Reading, Printing, Ending, Failing, Stopped, next, begun, called, onward, atEnd, furtherOn, consoling}
+use Rattle.machine_console.specs.Consoling.{mostCalls, Opening, Reading, Printing, Ending, Failing, Stopped, next, begun, called, onward, atEnd, furtherOn, consoling}
 use Rattle.machine_console.specs.{script.Script.callOf, Lent.mostDone, Lent.inBounds, Lent.betweenOf, Lent.stateIn, Lent.Arrives}
 use Rattle.machine_console.specs.declared.marks.Marks.{Marks}
 

@@ -1,7 +1,7 @@
 -- The machine ends: a number falls with each answer.
 -- Assumes nothing.
-use Rattle.laws.specs.Basics.{_≡_, refl, sym, _∙_, ap, Bool, true, false, _&&_, List, [], _∷_, _++_, ℕ, _+_, _-_, _*_, _≤_, _<_, arith, eqb, ltb, leb, length, getD, length-append, ltb-true, ltb-false, leb-true, pick, by-bool}
-use Rattle.machines.specs.Machines.{Request, Read, Stop, Answer, Number, Bytes, End, Done, Failed, heard, heardRead, heardDone, stepped, Ends}
+use Rattle.laws.specs.Basics.{_≡_, refl, _∙_, Bool, true, false, _&&_, List, [], _∷_, _++_, ℕ, _+_, _-_, _*_, _≤_, _<_, arith, eqb, ltb, leb, length, getD, length-append, ltb-true, leb-true, pick, by-bool}
+use Rattle.machines.specs.Machines.{Stop, Answer, Number, Bytes, End, Done, Failed, heard, heardRead, heardDone, stepped, Ends}
 use Rattle.machine_console.specs.Text.{callSize, refusedAt}
 use Rattle.machine_console.specs.Consoling.{mostCalls, Between, State, Opening, Reading, Printing, Ending, Failing, Stopped, ask, next, begun, afterFirst, called, onward, atEnd, afterRead, furtherOn, afterWrite, consoling}
 

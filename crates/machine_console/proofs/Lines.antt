@@ -1,9 +1,9 @@
 -- The lines of calls, one call more.
 -- Assumes nothing.
-use Rattle.laws.specs.Basics.{_≡_, refl, sym, _∙_, ap, List, [], _∷_, _++_, append-nil, append-assoc, ℕ, zero, suc, _+_, _-_, _*_, _/_, _%_, _≤_, _<_, arith, length, take, drop, length-append, length-drop}
+use Rattle.laws.specs.Basics.{_≡_, refl, sym, _∙_, ap, List, [], _∷_, _++_, append-nil, append-assoc, ℕ, zero, suc, _+_, _-_, _*_, _/_, _%_, _≤_, _<_, arith, length, drop, length-drop}
 use lib.Seq.{take-append-le, drop-append-le}
 use Rattle.model.specs.declared.Run.{Run}
-use Rattle.machine_console.specs.{Made.madeOn, Text.callSize, Text.firstCall, Text.callText, Text.callLines, Text.runAfter}
+use Rattle.machine_console.specs.{Made.madeOn, Text.firstCall, Text.callText, Text.callLines, Text.runAfter}
 
 -- What follows k calls does not change their lines.
 pub lines-front : (k done : ℕ) (s : Run) (a b : List ℕ) → 8 * k ≤ length a → callLines k done s (a ++ b) ≡ callLines k done s a

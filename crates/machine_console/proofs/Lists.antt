@@ -1,6 +1,6 @@
 -- A call is made with the lists that are lent for it, and its line is at the front of the buffer.
 -- Assumes nothing.
-use Rattle.laws.specs.Basics.{_≡_, refl, sym, _∙_, ap, Bool, true, false, List, [], _∷_, _++_, Option, none, some, ℕ, zero, suc, _+_, _-_, _*_, _≤_, min, arith, eqb, length, take, replicate, length-replicate, pick, by-bool}
+use Rattle.laws.specs.Basics.{_≡_, refl, _∙_, ap, Bool, List, [], _∷_, _++_, Option, none, some, ℕ, zero, suc, _+_, _-_, _*_, _≤_, arith, length, take, replicate, length-replicate, pick, by-bool}
 use lib.Seq.{length-sets}
 use Rattle.model.specs.declared.Run.{Run}
 use Rattle.model.specs.Refusals.{number}
@@ -9,12 +9,10 @@ use Rattle.admissions.proofs.Room.{twice-square}
 use Rattle.listing.specs.Printed.{Printed}
 use Rattle.machines.proofs.programs.Texts.{front-text}
 use Rattle.words.specs.Layout.{runOf}
-use Rattle.machine_console.specs.declared.{script.Call.Call, calls.Replied.Replied}
+use Rattle.machine_console.specs.{declared.script.Call.Call, declared.calls.Replied.Replied, Text.answerText, Text.lineText, Text.tailText, Text.callText}
 use Rattle.machine_console.specs.declared.script.Read.the-variants.{Ended, LeftOver, Malformed, Asks}
-use Rattle.machine_console.specs.script.Script.{callOf, asked, nextOf}
+use Rattle.machine_console.specs.{script.Script.callOf, script.Script.asked, script.Script.nextOf, Replied.replyOf, Replied.Replies, Replied.Makes}
 use Rattle.machine_console.specs.Made.{processes, lent, lentLine, lentPairs, madeWith, madeOn}
-use Rattle.machine_console.specs.Text.{answerText, lineText, tailText, callText}
-use Rattle.machine_console.specs.Replied.{longestLine, replyOf, Replies, Makes}
 
 -- The lent lists are no longer than those for 16 processes.
 pub few : (s : Run) → processes s ≤ 16

@@ -6,8 +6,7 @@ use lib.Seq.{take-all}
 use Rattle.whole_runs.specs.Listing.{decimal, space, colon, lineFeed, valueText, deletionsText}
 use Rattle.listing.specs.Printed.{Printed}
 use Rattle.listing.proofs.Bounds.{twenty-digits}
-use Rattle.theory_roles.specs.declared.{Caller.Caller, Role.the-variants.Operator}
-use Rattle.theory_roles.specs.Console.{entitledBy, entitled}
+use Rattle.theory_roles.specs.{declared.Caller.Caller, declared.Role.the-variants.Operator, Console.entitledBy, Console.entitled}
 use Rattle.machine_console.specs.Text.{fieldText, entriesText, memberShown, membersText, lineText}
 
 pub value-length : (v : Option ℕ) → length (valueText v) ≤ 20
@@ -57,10 +56,6 @@ pub members-next : (c : Caller) (n k : ℕ) (l : List ℕ) → k < length l → 
 members-next c n k l h =
     ap (λ (j : ℕ). membersText c n 0 (take j l)) (add-one k) ∙ members-more c n 0 k l h
     ∙ ap (λ (q : ℕ). membersText c n 0 (take k l) ++ fieldText (memberShown c n q (getD l k 0))) {x = 0 + k} {y = k} (omega arith)
-
-pub no-members : (c : Caller) (n : ℕ) (l : List ℕ) → membersText c n 0 (take 0 l) ≡ []
-unfolding membersText
-no-members c n l = refl
 
 -- An operator sees them all.
 abbrev pub everyone : Caller

@@ -9,14 +9,12 @@ use Rattle.laws.specs.Lists.{table}
 use Rattle.listing.specs.Summarised.{reportIn}
 use Rattle.words.specs.Layout.{runOf}
 use Rattle.words_line.specs.Through.{pairCount, namedAt, namedIn}
-use Rattle.theory_roles.specs.declared.{Caller.Caller, ListAnswer.ListAnswer, Operation.Operation}
+use Rattle.theory_roles.specs.{declared.Caller.Caller, declared.ListAnswer.ListAnswer, declared.Operation.Operation, Runs.consoleAnswered}
 use Rattle.theory_roles.specs.declared.Operation.the-variants.{Checkpoint, Send, Deliver, Lose, Recover, Line, Earliest, List as Listing, Counts}
 use Rattle.theory_roles.specs.Console.{consoleCheckpoint, consoleSend, consoleDeliver, consoleLose, consoleRecover, consoleLine, consoleEarliest, consoleList, consoleCounts, listReport}
-use Rattle.theory_roles.specs.Runs.{consoleAnswered}
-use Rattle.machine_console.specs.declared.{script.Call.Call, calls.Replied.Replied}
+use Rattle.machine_console.specs.{declared.script.Call.Call, declared.calls.Replied.Replied, Replied.Claims, Replied.Replies}
 use Rattle.library_console.specs.Asked.{claimOf, asked, checkpointAs, sendAs, deliverAs, loseAs, recoverAs, lineAs, earliestAs, listAs, countsAs}
 use Rattle.machine_console.specs.{Made.madeWith, Text.fieldText, Text.pairsText, Text.listText, Text.entriesText, Text.membersText, Text.answerText}
-use Rattle.machine_console.specs.Replied.{Claims, Replies}
 
 pub asked-as : {A : Type 0} (role owned : ℕ) (c : Caller) (refusal : Outcome A) (call : Caller → Outcome A) → Claims role owned c → asked (claimOf role) owned refusal call ≡ call c
 unfolding asked

@@ -1,36 +1,24 @@
 -- A start on words is the console's start with the block count 1 at each process.
 -- Assumes nothing.
-use Rattle.laws.specs.Basics.{_≡_, refl, sym, _∙_, ap, true, false, _&&_, List, [], ℕ, arith, eqb, leb, length, eq-eqb, ne-eqb, le-ltb, leb-true, pick, by-bool}
-use Rattle.laws.specs.Truth.{and-right}
-use Rattle.model.specs.declared.{Run.Run, Refusal.the-variants.Denied, StartAnswer.StartAnswer, StartAnswer.the-variants.Refused}
-use Rattle.model.specs.{Words.ones, Words.mostProcesses, Refusals.firstOf, Refusals.startRefusal}
-use Rattle.whole_runs.specs.{Outcomes.Outcome, Outcomes.Report, Outcomes.startReport, Outcomes.startOutcome, Calls.answered}
+use Rattle.laws.specs.Basics.{_≡_, refl, sym, _∙_, ap, true, false, _&&_, List, [], ℕ, arith, eqb, length, eq-eqb, ne-eqb, pick, by-bool}
+use Rattle.model.specs.declared.{Refusal.the-variants.Denied, StartAnswer.StartAnswer}
+use Rattle.model.specs.{Words.ones}
+use Rattle.whole_runs.specs.{Outcomes.Outcome, Outcomes.Report, Outcomes.startReport, Calls.answered}
 use Rattle.whole_runs.proofs.whole.Reached.{refused-number}
 use Rattle.listing.specs.declared.Summary.{Summary}
 use Rattle.listing.specs.Summarised.{reportIn}
 use Rattle.words.specs.Layout.{runOf}
-use Rattle.in_place.specs.Starting.{startRefusalIn, startOutcomeIn}
 use Rattle.theory_roles.specs.declared.Caller.{Caller}
-use Rattle.theory_roles.specs.Console.{denied, denial, consoleStart}
-use Rattle.machine_console.specs.declared.{script.Call.Call, calls.Replied.Replied}
+use Rattle.theory_roles.specs.Console.{denied, consoleStart}
+use Rattle.machine_console.specs.{declared.script.Call.Call, declared.calls.Replied.Replied, Replied.Claims, Replied.Replies}
 use Rattle.library_console.specs.Asked.{claimOf, consoleStartIn, startAs}
 use Rattle.machine_console.specs.{Made.startedOver, Made.madeWith, Made.operator, Made.opened, Text.answerText, Text.refusedAt}
-use Rattle.machine_console.specs.Replied.{Claims, Replies}
 use Rattle.machine_console.proofs.Replying.{asked-as, same-number}
+use Rattle.in_place.proofs.Starting.{outcome-same}
 use Rattle.theory_roles.specs.declared.Operation.the-variants as operation
 
 clash : {P : Type 0} → true ≡ false → P
 clash e = absurd (let z : _≡_ {A = ℕ} 0 1 = cc in omega arith)
-
-refusal-same : (n : ℕ) → startRefusalIn 6464 n ones ≡ startRefusal n ones
-unfolding startRefusalIn startRefusal firstOf
-refusal-same n = by-bool (leb 1 n && leb n mostProcesses)
-    (λ h. rw (h, le-ltb (length ones) n (leb-true n mostProcesses (and-right (leb 1 n) (leb n mostProcesses) h))) refl)
-    (λ h. rw h refl)
-
-outcome-same : (n : ℕ) → startOutcomeIn 6464 n ones ≡ startOutcome n ones
-unfolding startOutcomeIn startOutcome
-outcome-same n = rw (refusal-same n) refl
 
 module _ (role owned : ℕ) (c : Caller) (claims : Claims role owned c) (w : List ℕ) (long : length w ≡ 6464) (n : ℕ) where
   start-as : startAs role owned w n ones ≡ consoleStartIn c w n ones

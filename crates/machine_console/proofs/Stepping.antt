@@ -1,13 +1,13 @@
 -- What is lent stands for a state, before and after a step.
 -- Assumes nothing.
-use Rattle.laws.specs.Basics.{_≡_, refl, sym, ap, subst, Bool, true, false, not, _&&_, List, ℕ, _-_, _*_, _≤_, min, arith, eqb, leb, length, take, length-take-le, eqb-true, leb-true, by-bool}
+use Rattle.laws.specs.Basics.{_≡_, refl, sym, ap, subst, Bool, true, false, not, _&&_, List, ℕ, _-_, _*_, _≤_, arith, eqb, leb, length, take, length-take-le, eqb-true, leb-true, by-bool}
 use Rattle.laws.specs.Truth.{and-left, and-right}
 use Rattle.machines.specs.Machines.{Request, Read, Stop, Answer, stepped}
 use Rattle.machines.specs.Forms.{Asks, requestOf, Placed, GoesTo, answerOf}
 use Rattle.machine_console.specs.declared.marks.Marks.{Marks}
-use Rattle.machine_console.specs.{Consoling.mostCalls, Consoling.State, Consoling.consoling, Consoling.ask, Consoling.next, Text.callSize}
+use Rattle.machine_console.specs.{Consoling.State, Consoling.consoling, Consoling.ask, Consoling.next, Text.callSize}
 use Rattle.machine_console.specs.Replied.{longestLine}
-use Rattle.machine_console.specs.Lent.{hasRoom, marksOf, mostDone, inBounds, betweenOf, stateIn, isState, stateOf, placeOf, asksFor, StandsFor, Arrives}
+use Rattle.machine_console.specs.Lent.{hasRoom, marksOf, mostDone, inBounds, stateIn, isState, stateOf, placeOf, asksFor, StandsFor, Arrives}
 use Rattle.machines.specs.declared.Request as requests
 use Rattle.machines.specs.declared.Request.the-variants as request
 use Rattle.machines.specs.declared.Answer as answers

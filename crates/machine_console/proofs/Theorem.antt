@@ -1,13 +1,13 @@
 -- What the machine does with every list of answers.
 -- Assumes nothing.
-use Rattle.laws.specs.Basics.{_≡_, refl, sym, _∙_, ap, subst, Bool, true, false, _&&_, _||_, List, [], _∷_, _++_, append-nil, append-assoc, ℕ, suc, _+_, _-_, _*_, _/_, _%_, _≤_, _<_, arith, eqb, ltb, leb, length, getD, length-append, eqb-true, ltb-true, ltb-false, leb-true, pick, by-bool}
+use Rattle.laws.specs.Basics.{_≡_, refl, sym, _∙_, ap, Bool, true, false, _&&_, _||_, List, [], _∷_, _++_, append-nil, append-assoc, ℕ, _+_, _-_, _*_, _/_, _%_, _≤_, _<_, arith, eqb, ltb, leb, length, getD, length-append, ltb-true, ltb-false, leb-true, by-bool}
 use native.Mathlib.Numerals.{add-one}
 use Rattle.model.specs.declared.{Run.Run, Refusal.the-variants.NoFirstByte, Refusal.the-variants.LeftOverBytes}
-use Rattle.machines.specs.Machines.{Request, Count, Argument, Open, Read, Write, Say, Fail, Stop, Answer, Number, Bytes, End, Done, Failed, Machine, Exchange, heard, heardRead, heardDone, stepped, exchanged, stateAfter, exchanges, asked, written, errorText, writtenOf, errorTextOf, brought, readBy, readOf, requestsOf}
+use Rattle.machines.specs.Machines.{Request, Read, Write, Fail, Stop, Answer, Number, Bytes, End, Done, Failed, Exchange, heard, heardRead, heardDone, stepped, exchanged, stateAfter, exchanges, written, errorText, writtenOf, errorTextOf, brought, readBy, readOf, requestsOf}
 use Rattle.machines.proofs.Runs.{throughout, read-next, written-next, error-text-next, written-is, error-text-is, stops}
 use Rattle.machine_console.specs.Made.{madeOn, opened}
-use Rattle.machine_console.specs.Text.{callSize, firstCall, callText, lineText, refusedText, refusedAt, callLines, runAfter, leftOver, linesOf, factsOf}
-use Rattle.machine_console.specs.Consoling.{mostCalls, inputName, outputName, Between, State, Opening, Reading, Printing, Ending, Failing, Stopped, ask, next, begun, afterFirst, called, onward, atEnd, afterRead, furtherOn, afterWrite, consoling, isEnd, endMet, failure, failures, factsSoFar, isOpen, Consoles, ConsolesAlways}
+use Rattle.machine_console.specs.Text.{firstCall, callText, lineText, refusedText, refusedAt, callLines, runAfter, leftOver, linesOf, factsOf}
+use Rattle.machine_console.specs.Consoling.{mostCalls, inputName, outputName, Between, State, Opening, Reading, Printing, Ending, Failing, Stopped, ask, next, begun, afterFirst, called, onward, atEnd, afterRead, furtherOn, afterWrite, consoling, isEnd, endMet, failure, failures, factsSoFar, isOpen, ConsolesAlways}
 use Rattle.machine_console.proofs.{Lines.lines-front, Lines.one-line, Lines.one-run, Lines.whole-calls, Lines.left-over, Ending.consoling-ends}
 
 abbrev printedIn : List Exchange → List ℕ

@@ -1,8 +1,7 @@
 -- The calls of a script, made on a state: "The console works on states reached by its own calls", an operator's start first.
 -- Assumes nothing.
 use Rattle.laws.specs.Basics.{Bool, List, [], _∷_, Option, none, some, ℕ, _-_, _*_, min, eqb, replicate, pick}
-use Rattle.model.specs.declared.{Run.Run, Refusal.the-variants.MalformedRecord}
-use Rattle.model.specs.Words.{ones, mostProcesses}
+use Rattle.model.specs.{declared.Run.Run, declared.Refusal.the-variants.MalformedRecord, Words.ones, Words.mostProcesses}
 use Rattle.whole_runs.specs.Outcomes.{refusing, startReport}
 use Rattle.whole_runs.specs.Calls.{checkpoint, send, deliver, lose, recover, line, earliest, Answered, answered}
 use Rattle.theory_roles.specs.declared.{Caller.Caller, Role.the-variants.Operator, Operation.Operation}

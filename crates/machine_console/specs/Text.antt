@@ -5,9 +5,8 @@ use Rattle.laws.specs.Basics.{List, [], _∷_, _++_, Option, none, some, ℕ, z
 use Rattle.model.specs.declared.{Run.Run, Refusal.Refusal, Refusal.the-variants.NoFirstByte, Refusal.the-variants.LeftOverBytes}
 use Rattle.model.specs.Refusals.{number}
 use Rattle.whole_runs.specs.{Calls.Reply, Listing.decimal, Listing.space, Listing.lineFeed, Listing.valueText, Listing.deletionsText}
-use Rattle.theory_roles.specs.declared.{Caller.Caller, Operation.Operation}
+use Rattle.theory_roles.specs.{declared.Caller.Caller, declared.Operation.Operation, Console.entitled}
 use Rattle.theory_roles.specs.declared.Operation.the-variants.{Start, Checkpoint, Send, Deliver, Lose, Recover, Line, Earliest, List as Listing, Counts}
-use Rattle.theory_roles.specs.Console.{entitled}
 use Rattle.machine_console.specs.declared.script.Call.{Call}
 use Rattle.machine_console.specs.{script.Script.callOf, Made.processes, Made.madeOn, Made.opened}
 

@@ -1,10 +1,9 @@
 -- The loop that obeys the machine: where it stands before each request.
 -- Assumes nothing.
-use Rattle.laws.specs.Basics.{_≡_, refl, sym, _∙_, ap, subst, Bool, true, false, List, [], ℕ, _≤_, _<_, arith, length, getD, take, pick}
-use Rattle.machines.specs.Machines.{Answer, Stop, stepped, Reached, Ended}
-use Rattle.machines.specs.Forms.{requestOf, goesOn, Leaves, Asks}
+use Rattle.laws.specs.Basics.{_≡_, sym, _∙_, ap, subst, true, false, List, [], ℕ, _≤_, _<_, arith, length, take}
+use Rattle.machines.specs.{Machines.Answer, Machines.stepped, Machines.Reached, Machines.Ended, Forms.goesOn, Forms.Leaves, Forms.Asks}
 use Rattle.machines.proofs.{Runs.reached-first, Runs.reached-next, Places.going-is, Places.stopped-is, Places.leaves-front}
-use Rattle.machine_judge.specs.Judging.{State, Reading, Stopped, ask, judging}
+use Rattle.machine_judge.specs.Judging.{State, Reading, ask, judging}
 use Rattle.machine_judge.specs.Words.{EnoughRoom, inPhase, stateOf, placeOf, StandsFor}
 use Rattle.machine_judge.proofs.Ending.{left, judging-ends}
 use Rattle.machines.specs.declared.Request as requests

@@ -1,8 +1,8 @@
 -- The machine ends: a number falls with each answer.
 -- Assumes nothing.
-use Rattle.laws.specs.Basics.{_≡_, refl, sym, _∙_, ap, Bool, true, false, _&&_, _||_, List, [], _∷_, _++_, ℕ, _+_, _-_, _≤_, _<_, arith, ltb, leb, length, length-append, leb-true, leb-false, pick, by-bool}
-use Rattle.machines.specs.Machines.{Request, Read, Stop, Answer, Number, Bytes, End, Done, Failed, heard, heardRead, heardDone, stepped, Ends}
-use Rattle.machine_judge.specs.Judging.{mostRead, settled, wanted, State, Reading, Printing, Failing, Stopped, ask, next, printing, onward, afterRead, afterWrite, judging}
+use Rattle.laws.specs.Basics.{_≡_, refl, _∙_, Bool, true, false, _&&_, _||_, List, [], _∷_, _++_, ℕ, _+_, _-_, _≤_, _<_, arith, ltb, leb, length, length-append, leb-true, leb-false, by-bool}
+use Rattle.machines.specs.Machines.{Stop, Answer, Number, Bytes, End, Done, Failed, heard, heardRead, heardDone, stepped, Ends}
+use Rattle.machine_judge.specs.Judging.{mostRead, settled, wanted, State, Reading, Printing, Failing, Stopped, ask, next, onward, afterRead, afterWrite, judging}
 use Rattle.machine_judge.proofs.Stepping.{or-false}
 
 abbrev pub left : State → ℕ

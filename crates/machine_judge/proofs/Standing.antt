@@ -1,9 +1,9 @@
 -- Which state the lent numbers and buffers stand for once a phase and a count are put.
 -- Assumes nothing.
-use Rattle.laws.specs.Basics.{_≡_, refl, sym, _∙_, ap, Bool, true, false, _&&_, List, [], _∷_, ℕ, zero, suc, _+_, _-_, _≤_, _<_, arith, eqb, leb, length, getD, take, drop, set, length-set, getD-set-same, getD-set-other, length-take-le, eq-eqb, ne-eqb, lt-ltb, le-ltb, le-leb, lt-leb, leb-true, pick, by-bool, by-eq}
+use Rattle.laws.specs.Basics.{_≡_, refl, sym, _∙_, ap, Bool, true, false, _&&_, List, [], _∷_, ℕ, zero, suc, _+_, _-_, _≤_, _<_, arith, leb, length, getD, take, drop, set, length-set, getD-set-same, getD-set-other, length-take-le, eq-eqb, ne-eqb, lt-ltb, le-ltb, le-leb, pick, by-eq}
 use Rattle.laws.specs.Choice.{pick-same}
-use Rattle.machines.specs.Forms.{requestOf, Placed, GoesTo, Asks}
-use Rattle.machine_judge.specs.{Text.longestVerdict, Words.EnoughRoom, Words.lacksRoom, Words.inPhase, Words.stateOf, Words.placeOf, Words.StandsFor}
+use Rattle.machines.specs.Forms.{requestOf, Placed, GoesTo}
+use Rattle.machine_judge.specs.{Text.longestVerdict, Words.EnoughRoom, Words.lacksRoom, Words.inPhase, Words.stateOf, Words.StandsFor}
 use Rattle.machine_judge.specs.Judging.{mostRead, wanted, settled, State, Reading, Printing, Failing, Stopped, ask, printing, onward}
 use Rattle.machines.specs.declared.Request as requests
 use Rattle.machines.specs.declared.Request.the-variants as request

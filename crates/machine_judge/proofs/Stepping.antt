@@ -1,10 +1,10 @@
 -- Which state an answer leads to, by its form.
 -- Assumes nothing.
-use Rattle.laws.specs.Basics.{_≡_, refl, sym, _∙_, ap, subst, Bool, true, false, _&&_, _||_, List, _++_, ℕ, _+_, _≤_, _<_, arith, eqb, ltb, leb, length, getD, take, drop, length-take-le, ne-eqb, ltb-false, lt-leb, pick, by-bool}
+use Rattle.laws.specs.Basics.{_≡_, refl, sym, _∙_, ap, subst, Bool, true, false, _&&_, _||_, List, _++_, ℕ, _+_, _≤_, _<_, arith, eqb, ltb, leb, length, getD, take, length-take-le, ne-eqb, ltb-false, lt-leb, pick, by-bool}
 use lib.Seq.{take-add}
 use Rattle.machines.specs.Machines.{Answer, Done, Failed, heard, heardRead, heardDone, stepped}
 use Rattle.machines.specs.Forms.{answerOf, takenOf, Between, requestOf, Placed, GoesTo}
-use Rattle.machine_judge.specs.{Text.longestVerdict, Words.EnoughRoom, Words.lacksRoom, Words.inPhase, Words.stateOf, Words.placeOf, Words.StandsFor}
+use Rattle.machine_judge.specs.{Text.longestVerdict, Words.EnoughRoom, Words.lacksRoom, Words.inPhase, Words.stateOf, Words.StandsFor}
 use Rattle.machine_judge.specs.Judging.{mostRead, wanted, State, Reading, Printing, Failing, Stopped, inputName, outputName, ask, next, printing, onward, afterRead, afterWrite, judging}
 use Rattle.machine_judge.proofs.Standing.{wanted-fits, state-in, phase-read, phase-printed}
 use Rattle.machines.specs.declared.Request as requests

@@ -1,11 +1,11 @@
 -- What the machine does with every list of answers.
 -- Assumes nothing.
-use Rattle.laws.specs.Basics.{_≡_, refl, sym, _∙_, ap, Bool, true, false, _&&_, _||_, List, [], _∷_, _++_, append-nil, append-assoc, ℕ, _+_, _-_, _≤_, _<_, arith, ltb, leb, length, pick, by-bool}
-use Rattle.machines.specs.Machines.{Request, Count, Argument, Open, Read, Write, Say, Fail, Stop, Answer, Number, Bytes, End, Done, Failed, Machine, Exchange, heard, heardRead, heardDone, stepped, exchanged, stateAfter, exchanges, asked, written, errorText, writtenOf, errorTextOf, brought, readBy, readOf, requestsOf}
+use Rattle.laws.specs.Basics.{_≡_, refl, sym, _∙_, ap, Bool, true, false, _&&_, _||_, List, [], _∷_, _++_, append-nil, append-assoc, ℕ, _+_, _-_, _≤_, _<_, arith, leb, length, pick, by-bool}
+use Rattle.machines.specs.Machines.{Request, Read, Write, Fail, Stop, Answer, Number, Bytes, End, Done, Failed, Exchange, heard, heardRead, heardDone, stepped, exchanged, stateAfter, exchanges, written, errorText, writtenOf, errorTextOf, brought, readBy, readOf, requestsOf}
 use Rattle.machines.proofs.Runs.{throughout, read-next, written-next, error-text-next, written-is, error-text-is, stops}
 use Rattle.theory_patterns.specs.Verdicts.{verdict}
 use Rattle.machine_judge.specs.Text.{verdictText}
-use Rattle.machine_judge.specs.Judging.{mostRead, settled, inputName, outputName, wanted, State, Reading, Printing, Failing, Stopped, ask, next, printing, onward, afterRead, afterWrite, judging, isEnd, endMet, isWhole, failure, failures, Judges, JudgesAlways}
+use Rattle.machine_judge.specs.Judging.{mostRead, settled, inputName, outputName, wanted, State, Reading, Printing, Failing, Stopped, ask, next, onward, afterRead, afterWrite, judging, isEnd, endMet, isWhole, failure, failures, JudgesAlways}
 use Rattle.machine_judge.proofs.{Standing.wanted-fits, Ending.unsettled-short, Ending.judging-ends}
 
 abbrev printedIn : List Exchange → List ℕ

@@ -7,7 +7,7 @@ use Rattle.whole_runs.specs.Listing.{lineFeed}
 use Rattle.listing.specs.Lines.{pairText}
 use Rattle.machines.specs.programs.Texts.{figureText, refusedName}
 use Rattle.theory_patterns.specs.declared.{Verdict.Verdict, Verdict.the-variants.Refused, Verdict.the-variants.Trackable, Verdict.the-variants.Breaks}
-use Rattle.theory_patterns.specs.Verdicts.{Pair, JudgeReport, judgeReport, verdict}
+use Rattle.theory_patterns.specs.Verdicts.{Pair, JudgeReport, judgeReport}
 
 -- "trackable" and "breaks", byte by byte.
 abbrev pub trackableWord : List ℕ
@@ -37,7 +37,3 @@ Small (Breaks p k q x) = (p < mostProcesses) × (q < mostProcesses)
 -- No line is longer.
 abbrev pub longestVerdict : ℕ
 longestVerdict = 96
-
--- The line tells the verdict on this trace.
-abbrev pub IsVerdictLine : List ℕ → List ℕ → Type 0
-IsVerdictLine trace line = line ≡ verdictText (verdict trace)

@@ -7,7 +7,7 @@ use Rattle.machines.specs.Machines.{Answer, Bytes, Done, Failed, heard, heardCo
 use Rattle.machines.specs.Forms.{answerOf, takenOf}
 use Rattle.machine_merge.specs.declared.marks.Marks.{Marks}
 use Rattle.machine_merge.specs.{Buffered.mostCounted, Buffered.bufferedSize, Buffered.wanted, Printed.Printed, Printed.refusing, Printed.printed}
-use Rattle.machine_merge.specs.Merging.{longestWord, longestName, usage, prefix, firstName, secondName, outputName, Stage, FirstHalf, SecondHalf, State, Counting, Setting, Naming, Opening, Reading, Writing, Reporting, Failing, Stopped, ask, noNameText, fileText, shown, showing, halfRead, ended, onward, afterCount, afterSet, afterName, afterOpen, afterRead, afterWrite, next, merging}
+use Rattle.machine_merge.specs.Merging.{longestWord, longestName, usage, prefix, firstName, secondName, outputName, Stage, FirstHalf, SecondHalf, State, Counting, Setting, Naming, Opening, Reading, Writing, Reporting, Failing, Stopped, ask, noNameText, fileText, shown, showing, halfRead, onward, afterCount, afterSet, afterName, afterOpen, afterRead, afterWrite, next, merging}
 use Rattle.machine_merge.specs.Words.{halfAt, nameAt, readTo, stageOf, nameOf, keptOf}
 use Rattle.machine_merge.proofs.Parts.{read-most, wanted-most, keeping-is, buffered-part}
 use Rattle.machines.specs.declared.Answer as answers

@@ -2,10 +2,9 @@
 -- Assumes nothing.
 use Rattle.laws.specs.Basics.{_≡_, refl, sym, _∙_, ap, List, [], _∷_, none, ℕ, zero, suc, _+_, _≤_, arith, length, take, drop, replicate, sets, le-ltb}
 use lib.Seq.{sets-eq, take-at}
-use Rattle.model.specs.declared.{Fields.Fields, Refusal.Refusal}
+use Rattle.model.specs.{declared.Fields.Fields, declared.Refusal.Refusal, laws.Refusals.by-refusal}
 use Rattle.theory_merges.specs.Halves.{HalfEvent}
 use Rattle.theory_merges.specs.Merge.{halfEventOf, nextRecord, Taken, stopped, took, takeFrom, takeAll, countOf, afterFirstByte, fieldsIn, mergeRefusal, plainBytes, MergeOutcome, finished, mergeOutcome}
-use Rattle.model.specs.laws.Refusals.{by-refusal}
 use Rattle.theory_merges.proofs.{Keeping.next-out, Keeping.record-out, Replaying.plain-length, Replaying.how-many, Replaying.fine}
 use Rattle.library_halves.proofs.Rules.{after-first-is}
 use Rattle.machine_merge.specs.Printed.{refusing, putting, printed}

@@ -1,6 +1,6 @@
 -- The program `merge` as a machine: it takes the set, reads one half after the other to its end, writes the merged trace or reports why there is none, and stops.
 -- Assumes nothing.
-use Rattle.laws.specs.Basics.{List, [], _∷_, _++_, none, ℕ, _+_, eqb, ltb, length, take, pick}
+use Rattle.laws.specs.Basics.{List, [], _∷_, _++_, ℕ, _+_, eqb, ltb, length, take, pick}
 use Rattle.machines.specs.programs.Numbers.{numberIn, noNumber, atMost}
 use Rattle.machines.specs.Machines.{Request, Count, Argument, Open, Read, Write, Say, Fail, Stop, Answer, Number, Bytes, End, Done, Failed, Machine, isNumber}
 use Rattle.machine_merge.specs.{Buffered.mostCounted, Buffered.bufferedSize, Buffered.wanted, Buffered.keeping, Printed.Printed, Printed.printed}

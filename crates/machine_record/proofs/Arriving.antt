@@ -103,11 +103,6 @@ module _ (words input lines : List ℕ) where
       left-text [] none-there = absurd (none-there refl)
       left-text (b ∷ rest) none-there = unfold toEnd endLine number refusedLine in refl
 
--- Texts of the program.
-pub lines-empty : (p : Position) (lines : List ℕ) → toReport (take 0 lines) p ≡ toRead p
-unfolding toReport
-lines-empty p lines = refl
-
 -- Where a block was recorded.
 pub arrives-write : (m : Marks) (words input out lines : List ℕ) → m .phase ≡ 4 → m .left ≤ 4000000001 → m .done ≤ mostRecords → m .kept ≤ 3 → m .size ≤ length out → m .pending ≤ blockLines
     → (m .size ≡ 0 → ⊥) → Arrives m words input out lines (toWrite (take (m .size) out) (take (m .pending) lines) (positionOf m words input))

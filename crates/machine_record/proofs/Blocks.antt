@@ -2,8 +2,7 @@
 -- Assumes nothing.
 use Rattle.laws.specs.Basics.{_≡_, refl, sym, _∙_, ap, List, [], _∷_, _++_, append-nil, append-assoc, Option, ℕ, _+_, _-_, _*_, _≤_, _<_, arith, length, take, drop, length-drop, length-take-le, eq-eqb, le-leb, pick}
 use lib.Seq.{length-sets, drop-drop}
-use Rattle.model.specs.declared.{Event.Event, Run.Run}
-use Rattle.model.specs.Trace.{decoded}
+use Rattle.model.specs.{declared.Event.Event, declared.Run.Run, Trace.decoded}
 use Rattle.trace.specs.Answers.{recordAt, eventIn}
 use Rattle.machine_record.specs.declared.block.Taken.{Taken}
 use Rattle.machine_record.specs.Records.{Standing, standingNext, bytesOf, lineOf, standingAfter, bytesAfter, linesAfter}

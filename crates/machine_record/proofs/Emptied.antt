@@ -43,9 +43,6 @@ record Alike {A : Type 0} (b : List ℕ) (p : ℕ) (c : List ℕ) (q : ℕ) (x y
   buffer-other : y .buffer ≡ sets c q bytes
   place-other : y .place ≡ q + length bytes
 
-sets-nothing : (b : List ℕ) (p : ℕ) → b ≡ sets b p []
-sets-nothing b p = refl
-
 module _ {A : Type 0} (own : Option Refusal) (outcome short : Outcome A) (bytes b : List ℕ) (p : ℕ) (c : List ℕ) (q : ℕ) (inside : p ≤ length b) (inside-other : q ≤ length c)
     (room : ltb (length b - p) 4 ≡ ltb (length c - q) 4) where
   still : (o : Outcome A) → Alike b p c q (unwritten o b p) (unwritten o c q)

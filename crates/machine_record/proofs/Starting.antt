@@ -1,30 +1,19 @@
 -- A start in place through the recorder, in a buffer of no byte or one, and the start in a long buffer.
 -- Assumes nothing.
-use Rattle.laws.specs.Basics.{_≡_, refl, sym, _∙_, ap, true, false, _&&_, List, [], _∷_, _++_, none, ℕ, _+_, _-_, _≤_, min, arith, eqb, ltb, leb, length, take, drop, length-append, length-replicate, length-drop, sets, length-take-le, eq-eqb, ne-eqb, lt-ltb, le-ltb, ltb-true, ltb-false, leb-true, by-bool}
-use Rattle.laws.specs.Truth.{and-right}
+use Rattle.laws.specs.Basics.{_≡_, refl, sym, _∙_, ap, true, false, _&&_, List, [], _∷_, _++_, none, ℕ, _+_, _-_, _≤_, min, arith, eqb, ltb, length, take, drop, length-append, length-replicate, length-drop, sets, length-take-le, eq-eqb, ne-eqb, lt-ltb, le-ltb, ltb-true, ltb-false, by-bool}
 use Rattle.model.specs.declared.{Refusal.Refusal, Refusal.the-variants.BufferTooShort, StartAnswer.StartAnswer, StartAnswer.the-variants.Refused}
-use Rattle.model.specs.{Words.ones, Words.mostProcesses, Steps.startState, Refusals.firstOf, Refusals.startRefusal, laws.Refusals.by-refusal}
+use Rattle.model.specs.{Words.ones, Steps.startState, Refusals.startRefusal, laws.Refusals.by-refusal}
 use Rattle.whole_runs.specs.Outcomes.{Outcome, Report, startReport, startOutcome}
 use Rattle.whole_runs.proofs.whole.Reached.{refused-number}
 use Rattle.listing.specs.declared.Summary.{Summary}
 use Rattle.listing.specs.Summarised.{reportIn}
 use Rattle.theory_recording.specs.Recording.{unwritten, appended, recording, recordedStart}
-use Rattle.words.specs.Layout.{stateSize, runOf}
-use Rattle.in_place.specs.Starting.{startRefusalIn, startOutcomeIn}
+use Rattle.words.specs.Layout.{runOf}
 use Rattle.library_recorder.specs.Recorded.{recordedStartIn}
 use Rattle.machine_record.specs.{Recorded.lent, Recorded.startNumber, Recorded.refusedLine, Machine.ending, Machine.begun as machine-begun}
 use Rattle.machine_record.specs.{Played.longestLine, Played.blockLines, Lent.stateIn, Lent.Arrives}
 use Rattle.machine_record.proofs.Arriving.{bounds}
-
-refusal-same : (n : ℕ) → startRefusalIn 6464 n ones ≡ startRefusal n ones
-unfolding startRefusalIn startRefusal firstOf
-refusal-same n = by-bool (leb 1 n && leb n mostProcesses)
-    (λ h. rw (h, le-ltb (length ones) n (leb-true n mostProcesses (and-right (leb 1 n) (leb n mostProcesses) h))) refl)
-    (λ h. rw h refl)
-
-outcome-same : (n : ℕ) → startOutcomeIn 6464 n ones ≡ startOutcome n ones
-unfolding startOutcomeIn startOutcome
-outcome-same n = rw (refusal-same n) refl
+use Rattle.in_place.proofs.Starting.{refusal-same, outcome-same}
 
 -- The buffers have the same room for the count.
 room-same : (left : ℕ) (buffer : List ℕ) → length buffer ≡ min left 1 → ltb (length buffer) 1 ≡ ltb (length (lent left) - 0) 1

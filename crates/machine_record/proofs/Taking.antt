@@ -1,14 +1,12 @@
 -- What the functions leave that take records.
 -- Assumes nothing.
 use Rattle.laws.specs.Basics.{_≡_, refl, sym, _∙_, ap, true, false, List, [], _∷_, Option, none, some, ℕ, _+_, _-_, _≤_, arith, ltb, length, take, length-replicate, sets, lt-ltb, le-ltb, ltb-true, ltb-false, by-bool}
-use Rattle.model.specs.declared.{Event.Event, Run.Run}
-use Rattle.model.specs.Refusals.{number}
+use Rattle.model.specs.{declared.Event.Event, declared.Run.Run, Refusals.number}
 use Rattle.whole_runs.specs.{Outcomes.Report, Calls.Reply, Calls.answered}
 use Rattle.listing.specs.declared.Summary.{Summary}
 use Rattle.listing.specs.{Summarised.reportIn, Printed.Printed}
 use Rattle.theory_recording.specs.Recording.{Recorded, Tape, taped}
-use Rattle.trace.specs.declared.{Decoded.Decoded, Decoded.the-variants.Malformed, Decoded.the-variants.StandsFor}
-use Rattle.trace.specs.Answers.{eventRead}
+use Rattle.trace.specs.{declared.Decoded.Decoded, declared.Decoded.the-variants.Malformed, declared.Decoded.the-variants.StandsFor, Answers.eventRead}
 use Rattle.machine_record.specs.declared.{calls.Played.Played, block.Taken.Taken}
 use Rattle.machine_record.specs.Recorded.{lent, inFront, recordedIn, lineFor}
 use Rattle.machine_record.specs.Records.{Standing, emptied, taken, standingNext, bytesOf, lineOf}

@@ -3,8 +3,7 @@
 use Rattle.laws.specs.Basics.{_≡_, List, Option, ℕ, _+_, _-_, _≤_, ltb, length, take, sets, pick}
 use Rattle.model.specs.declared.{Event.Event, Run.Run}
 use Rattle.theory_recording.specs.Recording.{Tape}
-use Rattle.machine_record.specs.declared.{calls.Played.Played, block.Taken.Taken}
-use Rattle.machine_record.specs.Recorded.{recordedIn}
+use Rattle.machine_record.specs.{declared.calls.Played.Played, declared.block.Taken.Taken, Recorded.recordedIn}
 use Rattle.machine_record.specs.Records.{Standing, standingNext, bytesOf, lineOf, standingAfter, bytesAfter, linesAfter}
 
 abbrev pub tape : Run → List ℕ → ℕ → Tape

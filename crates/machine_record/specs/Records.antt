@@ -2,8 +2,7 @@
 -- took. What it wrote has gone. proofs/Emptied has the theorem that nothing of what is written or reported depends on that.
 -- Assumes nothing.
 use Rattle.laws.specs.Basics.{_≡_, List, [], _∷_, _++_, Option, ℕ, _+_, _-_, _≤_, length}
-use Rattle.model.specs.declared.{Event.Event, Run.Run}
-use Rattle.model.specs.Trace.{decoded}
+use Rattle.model.specs.{declared.Event.Event, declared.Run.Run, Trace.decoded}
 use Rattle.theory_recording.specs.Recording.{Tape, Taped}
 use Rattle.machine_record.specs.Recorded.{lent, inFront, recordedIn, lineFor}
 

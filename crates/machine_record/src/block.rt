@@ -5,7 +5,7 @@ ghost use Rattle.laws.specs.Basics.{_≡_, _+_, _*_, _≤_, length};
 ghost use Rattle.whole_runs.specs.Listing.{mostRecords};
 ghost use Rattle.trace.specs.Answers.{eventIn};
 ghost use Rattle.words.specs.Layout.{runOf};
-ghost use Rattle.machine_record.specs.{Records.Standing, Machine.blockBytes};
+ghost use Rattle.machine_record.specs.{Machine.blockBytes};
 ghost use Rattle.machine_record.specs.Played.{longestLine, blockLines, placeFor, TakesOne, TakesAll};
 
 // How many bytes of the buffer are left and how many records were taken; how many bytes were recorded, and how many are reported.

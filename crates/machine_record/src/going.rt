@@ -9,13 +9,13 @@ use machines::heard;
 use machines::heard::Taken;
 use model::PROCESSES;
 use whole_runs::MOST_RECORDS;
-ghost use Rattle.laws.specs.Basics.{_≡_, true, List, ℕ, _+_, _-_, _*_, _≤_, min, length, take};
+ghost use Rattle.laws.specs.Basics.{_≡_, List, ℕ, _+_, _-_, _*_, _≤_, min, length, take};
 ghost use Rattle.whole_runs.specs.Listing.{mostRecords};
 ghost use Rattle.words.specs.Layout.{stateSize};
 ghost use Rattle.machines.specs.{programs.Numbers.numberIn, Machines.stepped, Forms.answerOf};
 ghost use Rattle.machine_record.specs.{Recorded.refusedLine, Recorded.endLine, Played.longestLine, Played.blockLines};
-ghost use Rattle.machine_record.specs.Machine.{machine, counting, naming, beginning, writing, reporting, reading, ending, failing, stopped, sized, begun, toRead, toReport, toEnd, blockTaken, blockBytes};
-ghost use Rattle.machine_record.specs.Lent.{inBounds, positionOf, stateIn, Arrives, inputSize, longestTrace};
+ghost use Rattle.machine_record.specs.Machine.{machine, counting, naming, beginning, writing, reading, ending, failing, stopped, sized, begun, toRead, toReport, toEnd, blockTaken, blockBytes};
+ghost use Rattle.machine_record.specs.Lent.{positionOf, stateIn, Arrives, inputSize, longestTrace};
 
 fn stop() -> Marks
     ensures { λ r. ⌜ ((words input out lines : List ℕ) → Arrives r words input out lines stopped) ⌝ }

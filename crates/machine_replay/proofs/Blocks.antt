@@ -1,17 +1,16 @@
 -- Where a block of records leads: to a read, to its lines, or to the last lines.
 -- Assumes nothing.
-use Rattle.laws.specs.Basics.{_≡_, refl, sym, _∙_, ap, Bool, true, false, _&&_, List, [], _∷_, ℕ, zero, suc, _+_, _-_, _*_, _≤_, _<_, arith, eqb, ltb, leb, length, take, drop, length-drop, sets, length-take-le, ne-eqb, lt-ltb, le-ltb, le-leb, leb-true, leb-false, pick, by-bool}
+use Rattle.laws.specs.Basics.{_≡_, refl, sym, _∙_, ap, Bool, true, false, _&&_, List, [], _∷_, ℕ, zero, suc, _+_, _-_, _*_, _≤_, _<_, arith, eqb, ltb, leb, length, take, drop, length-drop, sets, length-take-le, ne-eqb, lt-ltb, le-ltb, le-leb, leb-true, leb-false, by-bool}
 use lib.Seq.{drop-drop, take-at, take-nil}
 use Rattle.laws.specs.{Truth.and-no-right, Front.written-front}
-use Rattle.model.specs.declared.Run.{Run}
 use Rattle.whole_runs.specs.Listing.{mostRecords, stateAfterRecords}
 use Rattle.listing.specs.Lines.{longestLine}
 use Rattle.words.specs.Layout.{runOf}
 use Rattle.library_replay.specs.declared.block.Progress.{Progress}
-use Rattle.library_replay.specs.Taken.{BlockOutcome, mayTake, takenOf, outcomeOf, blockOutcome, Within, BlocksGoOn}
+use Rattle.library_replay.specs.Taken.{BlockOutcome, mayTake, outcomeOf, blockOutcome, Within, BlocksGoOn}
 use Rattle.library_replay.proofs.Onward.{blocks-go-on}
 use Rattle.machine_replay.specs.declared.place.Place.{Place}
-use Rattle.machine_replay.specs.Replaying.{Between, State, reading, printing, ending, taking, onward}
+use Rattle.machine_replay.specs.Replaying.{Between, ending, taking, onward}
 use Rattle.machine_replay.specs.Standing.{enoughRoom, inside, stateIn, betweenIn, textPlace, waitingPlace, Lies, Blocked}
 use Rattle.machine_replay.proofs.Places.{enough-out, inside-in, is-reading, is-printing, text-ending}
 

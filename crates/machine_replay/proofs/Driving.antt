@@ -1,13 +1,13 @@
 -- The loop that obeys the machine: where it stands before each request.
 -- Assumes nothing.
-use Rattle.laws.specs.Basics.{_≡_, refl, sym, _∙_, ap, subst, Bool, true, false, false≢true, List, [], ℕ, _≤_, _<_, arith, eqb, leb, length, take, drop, leb-true, pick, by-bool, by-eq}
-use Rattle.machines.specs.Machines.{Request, Count, Argument, Open, Read, Write, Say, Fail, Stop, Answer, Machine, stepped, Reached, Ended}
+use Rattle.laws.specs.Basics.{_≡_, refl, sym, _∙_, ap, subst, Bool, true, false, false≢true, List, [], ℕ, _≤_, _<_, leb, length, take, leb-true, by-bool, by-eq}
+use Rattle.machines.specs.Machines.{Request, Count, Argument, Open, Read, Write, Say, Fail, Stop, Answer, stepped, Reached, Ended}
 use Rattle.machines.specs.Forms.{requestOf, goesOn, Leaves, Asks}
 use Rattle.machines.proofs.{Runs.reached-first, Runs.reached-next, Places.going-is, Places.stopped-is, Places.leaves-front}
 use Rattle.machine_replay.specs.declared.place.Place.{Place}
-use Rattle.machine_replay.specs.Replaying.{Between, State, starting, printing, stopped, asks, replaying}
+use Rattle.machine_replay.specs.Replaying.{starting, asks, replaying}
 use Rattle.machine_replay.specs.Standing.{numbers, enoughRoom, inside, betweenIn, byPhase, stateIn, stateOf, placeIn, placeOf, FromStart}
-use Rattle.machine_replay.proofs.{Places.Inside, Places.inside-out, Places.is-printing, Steps.state-of, Ending.left, Ending.next-falls}
+use Rattle.machine_replay.proofs.{Places.inside-out, Places.is-printing, Steps.state-of, Ending.left, Ending.next-falls}
 use Rattle.machines.specs.declared.Request as requests
 use Rattle.machines.specs.declared.Request.the-variants as request
 

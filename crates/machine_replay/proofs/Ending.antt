@@ -1,13 +1,13 @@
 -- The replay program ends after finitely many answers: a number falls with each.
 -- Assumes nothing.
-use Rattle.laws.specs.Basics.{_≡_, refl, sym, _∙_, ap, Bool, true, false, _&&_, false≢true, List, [], _∷_, _++_, Option, none, some, ℕ, _+_, _-_, _*_, _≤_, _<_, arith, eqb, ltb, leb, length, getD, take, drop, length-append, length-drop, eqb-false, leb-true, pick, by-bool}
+use Rattle.laws.specs.Basics.{_≡_, refl, sym, _∙_, ap, Bool, true, false, _&&_, false≢true, List, [], _∷_, _++_, Option, none, some, ℕ, _+_, _-_, _*_, _≤_, _<_, arith, eqb, ltb, leb, length, getD, length-append, length-drop, eqb-false, leb-true, by-bool}
 use Rattle.laws.specs.Truth.{and-left, and-right}
 use Rattle.model.specs.declared.Refusal.{Refusal}
 use Rattle.model.specs.{Words.ones, Refusals.startRefusal}
 use Rattle.whole_runs.specs.Listing.{mostRecords}
-use Rattle.library_replay.specs.Taken.{BlockOutcome, outcomeOf, blockOutcome, Within, BlocksGoOn}
+use Rattle.library_replay.specs.Taken.{outcomeOf, blockOutcome, BlocksGoOn}
 use Rattle.library_replay.proofs.Onward.{blocks-go-on}
-use Rattle.machines.specs.Machines.{Request, Count, Argument, Open, Read, Write, Say, Fail, Stop, Answer, Number, Bytes, End, Done, Failed, Machine, Ends, stepped, heard, heardRead, heardDone, heardCount, heardWord}
+use Rattle.machines.specs.Machines.{Request, Count, Argument, Open, Read, Write, Say, Fail, Stop, Answer, Number, Bytes, End, Done, Failed, Ends, stepped, heard, heardRead, heardDone}
 use Rattle.machine_replay.specs.Replaying.{Between, State, starting, counted, opening, reading, printing, ending, failing, stopped, mostToRead, asks, taking, onward, begun, opened, filled, wrote, next, replaying}
 
 -- How many bytes it may still read, three for each of them, and those that it has read and not taken.

@@ -3,7 +3,6 @@
 use Rattle.laws.specs.Basics.{_≡_, refl, sym, _∙_, ap, Bool, true, false, _&&_, List, [], _∷_, _++_, append-nil, append-assoc, none, ℕ, _+_, _-_, _*_, _/_, _≤_, _<_, arith, ltb, length, take, drop, length-append, length-drop, length-take-le, ltb-false, pick, by-bool}
 use lib.ListN.{take-append-drop}
 use lib.Seq.{take-append-le, drop-append-le, take-add, drop-drop}
-use Rattle.laws.specs.Choice.{pick-same}
 use Rattle.model.specs.declared.Run.{Run}
 use Rattle.model.specs.{Words.ones, Refusals.startRefusal, Steps.startState}
 use Rattle.whole_runs.specs.Listing.{mostRecords, records, goesOnAfterAll, stateAfterRecords, started, listing}

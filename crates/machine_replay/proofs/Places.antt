@@ -1,12 +1,12 @@
 -- The state that stands in lent lists, by the numbers of its place.
 -- Assumes nothing.
-use Rattle.laws.specs.Basics.{_≡_, refl, sym, _∙_, ap, Bool, true, false, _&&_, List, [], _∷_, ℕ, _+_, _-_, _≤_, _<_, arith, eqb, ltb, leb, length, getD, take, drop, set, eq-eqb, ne-eqb, eqb-true, lt-ltb, ltb-true, le-leb, leb-true, pick, by-bool, by-eq}
-use Rattle.laws.specs.{Choice.pick-same, Truth.and-left, Truth.and-right}
+use Rattle.laws.specs.Basics.{_≡_, refl, _∙_, Bool, true, false, _&&_, List, [], _∷_, ℕ, _+_, _-_, _≤_, _<_, arith, eqb, ltb, leb, length, take, set, ne-eqb, eqb-true, lt-ltb, ltb-true, le-leb, leb-true, pick, by-bool}
+use Rattle.laws.specs.{Truth.and-left, Truth.and-right}
 use Rattle.whole_runs.specs.Listing.{mostRecords}
 use Rattle.listing.specs.Lines.{longestLine}
 use Rattle.words.specs.Layout.{stateSize}
 use Rattle.machine_replay.specs.declared.place.Place.{Place}
-use Rattle.machine_replay.specs.Replaying.{State, starting, counted, opening, reading, printing, ending, failing, stopped}
+use Rattle.machine_replay.specs.Replaying.{starting, counted, opening, reading, printing, ending, failing, stopped}
 use Rattle.machine_replay.specs.Standing.{leastInput, bitOf, placeIn, enoughRoom, inside, byPhase, stateIn, betweenIn, plainPlace, textPlace, Holds, Lies}
 
 module _ (words input out : ℕ) (h : enoughRoom words input out ≡ true) where

@@ -1,12 +1,12 @@
 -- What the replay program asks to be written is the listing of what it read, over every list of answers.
 -- Assumes nothing.
-use Rattle.laws.specs.Basics.{_≡_, refl, sym, _∙_, ap, subst, Bool, true, false, _&&_, _||_, false≢true, List, [], _∷_, _++_, append-nil, append-assoc, Option, none, some, ℕ, _+_, _-_, _*_, _≤_, _<_, arith, eqb, ltb, leb, length, getD, take, drop, length-append, eqb-true, eqb-false, lt-ltb, ltb-true, le-leb, leb-true, leb-false, pick, by-bool}
+use Rattle.laws.specs.Basics.{_≡_, refl, sym, _∙_, ap, Bool, true, false, _&&_, _||_, false≢true, List, [], _∷_, _++_, append-nil, append-assoc, Option, none, some, ℕ, _+_, _-_, _*_, _≤_, _<_, arith, eqb, ltb, leb, length, length-append, eqb-true, lt-ltb, ltb-true, le-leb, leb-true, leb-false, by-bool}
 use Rattle.laws.specs.{Truth.and-left, Truth.and-right, Truth.or-left, Tests.same}
-use Rattle.model.specs.declared.{Refusal.Refusal, Run.Run}
+use Rattle.model.specs.declared.{Refusal.Refusal}
 use Rattle.model.specs.{Words.ones, Refusals.startRefusal}
 use Rattle.whole_runs.specs.Listing.{mostRecords, asksForAll, records, started, listing}
 use Rattle.listing.specs.Lines.{longestLine}
-use Rattle.library_replay.specs.Taken.{BlockOutcome, mayTake, takenOf, outcomeOf, blockOutcome, Within, BlocksGoOn}
+use Rattle.library_replay.specs.Taken.{BlockOutcome, mayTake, outcomeOf, blockOutcome, Within, BlocksGoOn}
 use Rattle.library_replay.proofs.Onward.{blocks-go-on}
 use Rattle.machines.specs.Machines.{Request, Count, Argument, Open, Read, Write, Say, Fail, Stop, Answer, Number, Bytes, End, Done, Failed, Machine, Exchange, stepped, exchanged, stateAfter, exchanges, asked, writtenOf, errorTextOf, readBy, readOf, requestsOf, brought, isNumber, heard, heardRead, heardDone, heardCount, heardWord}
 use Rattle.machines.proofs.Runs.{throughout, asked-is, requests-then, written-then, error-text-then, read-then, written-one, error-text-one, written-is}

@@ -1,17 +1,16 @@
 -- The first byte: the start in place, and what was read.
 -- Assumes nothing.
-use Rattle.laws.specs.Basics.{_≡_, refl, sym, _∙_, ap, Bool, true, false, _&&_, List, [], _∷_, _++_, Option, none, some, ℕ, zero, suc, _+_, _-_, _*_, _≤_, _<_, min, arith, leb, length, getD, take, drop, length-drop, length-take-le, leb-true, by-bool}
+use Rattle.laws.specs.Basics.{_≡_, refl, sym, _∙_, ap, false, _&&_, List, [], _∷_, _++_, Option, none, some, ℕ, zero, suc, _+_, _-_, _*_, _≤_, _<_, min, arith, leb, length, getD, take, drop, length-take-le, leb-true, by-bool}
 use lib.Seq.{take-add}
 use Rattle.laws.specs.Truth.{and-no-right}
 use Rattle.model.specs.declared.{Run.Run, Refusal.Refusal, StartAnswer.StartAnswer}
 use Rattle.model.specs.{Words.ones, Refusals.startRefusal, Refusals.firstOf, Steps.startState}
 use Rattle.whole_runs.specs.{Outcomes.Outcome, Outcomes.startOutcome, Listing.mostRecords}
-use Rattle.words.specs.Layout.{stateSize, runOf}
+use Rattle.words.specs.Layout.{stateSize}
 use Rattle.in_place.specs.Starting.{startRefusalIn, startOutcomeIn, StartsTheSame}
 use Rattle.in_place.proofs.Judging.{starts-the-same}
 use Rattle.machine_replay.specs.declared.place.Place.{Place}
-use Rattle.machine_replay.specs.Replaying.{Between, State, reading, ending, begun, mostToRead}
-use Rattle.machine_replay.specs.Standing.{betweenIn, holding}
+use Rattle.machine_replay.specs.{Replaying.mostToRead, Standing.betweenIn, Standing.holding}
 use Rattle.model.specs.declared.StartAnswer.the-variants as start-answer
 
 by-refusal : {P : Type 0} (o : Option Refusal) → (o ≡ none → P) → ((x : Refusal) → o ≡ some x → P) → P

@@ -1,11 +1,11 @@
 -- A step on lent lists: the state that stands in them, and that calls from a start led to its run.
 -- Assumes nothing.
-use Rattle.laws.specs.Basics.{_≡_, refl, sym, _∙_, ap, subst, Bool, true, false, _&&_, List, Option, none, some, ℕ, _+_, _≤_, _<_, arith, eqb, ltb, leb, length, getD, take, le-leb, lt-leb, pick, by-bool}
+use Rattle.laws.specs.Basics.{_≡_, refl, _∙_, ap, subst, Bool, _&&_, List, Option, none, some, ℕ, _+_, _≤_, _<_, eqb, ltb, length, getD, le-leb, lt-leb, by-bool}
 use Rattle.model.specs.declared.Refusal.{Refusal}
 use Rattle.model.specs.{Words.ones, Refusals.startRefusal}
 use Rattle.whole_runs.specs.{Outcomes.startOutcome, WholeRuns.Reachable}
 use Rattle.whole_runs.proofs.WholeRuns.{reachable-start}
-use Rattle.library_replay.specs.Taken.{BlockOutcome, blockOutcome}
+use Rattle.library_replay.specs.Taken.{blockOutcome}
 use Rattle.library_replay.proofs.Iterations.{block-reachable}
 use Rattle.machines.specs.Machines.{Answer, Number, Bytes, End, Done, Failed, stepped, heard}
 use Rattle.machines.specs.Forms.{requestOf, answerOf, Placed, GoesTo, Asks}

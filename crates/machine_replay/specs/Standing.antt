@@ -1,7 +1,6 @@
 -- The state that stands in lent lists: six numbers, the words of the run, the bytes that were read, and the text that is written.
 -- Assumes nothing.
 use Rattle.laws.specs.Basics.{_≡_, Bool, true, false, _&&_, List, ℕ, _+_, _-_, _≤_, _<_, eqb, ltb, leb, length, getD, take, drop, sets, pick}
-use Rattle.model.specs.declared.Run.{Run}
 use Rattle.whole_runs.specs.{Listing.mostRecords, WholeRuns.Reachable}
 use Rattle.listing.specs.Lines.{longestLine}
 use Rattle.words.specs.Layout.{stateSize, runOf}
@@ -49,9 +48,6 @@ endingPhase = 5
 
 abbrev pub failingPhase : ℕ
 failingPhase = 6
-
-abbrev pub stoppedPhase : ℕ
-stoppedPhase = 7
 
 -- The least buffer that what is read goes to.
 abbrev pub leastInput : ℕ

@@ -1,6 +1,6 @@
 -- Which state the lent numbers and buffers stand for once a phase, a count and the numbers of the words are put.
 -- Assumes nothing.
-use Rattle.laws.specs.Basics.{_≡_, refl, sym, _∙_, ap, subst, Bool, true, false, _||_, List, [], _∷_, ℕ, _≤_, _<_, arith, eqb, ltb, length, getD, take, set, length-set, ne-eqb, le-ltb, ltb-false, le-leb, lt-leb, pick}
+use Rattle.laws.specs.Basics.{_≡_, refl, sym, _∙_, ap, subst, Bool, true, false, _||_, List, [], _∷_, ℕ, _≤_, _<_, arith, eqb, ltb, length, getD, take, set, ne-eqb, le-ltb, ltb-false, le-leb, lt-leb, pick}
 use Rattle.laws.specs.{Choice.pick-same, Truth.or-none}
 use Rattle.machines.specs.Forms.{requestOf, Placed, GoesTo}
 use Rattle.machine_simulate.specs.declared.words.Numbers.{Numbers}

@@ -1,6 +1,6 @@
 -- Answers in their forms, as they are taken.
 -- Assumes nothing.
-use Rattle.laws.specs.Basics.{_≡_, refl, sym, _∙_, ap, subst, Bool, true, false, _&&_, false≢true, List, ℕ, zero, suc, _+_, _-_, _≤_, _<_, arith, eqb, leb, length, take, drop, length-drop, length-take-le, eq-eqb, ne-eqb, le-ltb, le-leb, lt-leb, leb-true, pick, by-bool}
+use Rattle.laws.specs.Basics.{_≡_, refl, sym, _∙_, ap, Bool, true, false, _&&_, false≢true, List, ℕ, zero, suc, _+_, _-_, _≤_, _<_, arith, eqb, leb, length, take, drop, length-drop, length-take-le, eq-eqb, ne-eqb, le-ltb, le-leb, lt-leb, leb-true, pick, by-bool}
 use lib.IntN.{ℤ, pos, negsuc}
 use lib.Signed.{ltZ}
 use mir.Syntax.{w32}

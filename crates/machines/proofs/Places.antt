@@ -1,6 +1,6 @@
 -- What the places of a request come to, by its kind.
 -- Assumes nothing.
-use Rattle.laws.specs.Basics.{_≡_, refl, sym, _∙_, ap, subst, true, false, List, ℕ, _+_, _-_, _≤_, arith, length, take, drop, sets}
+use Rattle.laws.specs.Basics.{_≡_, refl, sym, _∙_, ap, subst, true, false, List, ℕ, _+_, _-_, _≤_, arith, length, take, sets}
 use borrow.Rule.Slice.PartMut.{midOf, putMid, mid-len, take-put, drop-put, same-len-mid}
 use Rattle.machines.specs.{Machines.Stop, Packed.packed, Forms.goesOn, Forms.requestOf, Forms.Placed, Forms.Around, Forms.Leaves, Forms.GoesTo}
 use Rattle.machines.specs.declared.Request as requests

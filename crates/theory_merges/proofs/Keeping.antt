@@ -1,11 +1,11 @@
 -- Note 12, proved: a merge that comes to its end keeps both halves' orders, and each record stands in the half of its process.
 -- Assumes nothing.
-use Rattle.laws.specs.Basics.{_≡_, refl, sym, _∙_, ap, fun-ext, Bool, true, false, not, _&&_, _||_, List, [], _∷_, _++_, map, append-assoc, Option, none, some, _⊎_, inl, inr, ℕ, zero, suc, _+_, _/_, _%_, _≤_, _<_, arith, eqb, leb, length, leb-true, not-true, not-false, pick, by-bool}
-use Rattle.laws.specs.{Tests.every, Truth.never-both, Truth.and-both, Truth.or-right}
+use Rattle.laws.specs.Basics.{_≡_, refl, sym, _∙_, ap, fun-ext, Bool, true, false, not, _&&_, _||_, List, [], _∷_, _++_, map, append-assoc, Option, none, some, _⊎_, inl, inr, ℕ, zero, suc, _+_, _/_, _%_, _≤_, _<_, arith, eqb, leb, length, leb-true, not-true, not-false, by-bool}
+use Rattle.laws.specs.{Tests.every, Truth.and-both}
 use Rattle.model.specs.declared.{Fields.Fields, Refusal.Refusal}
 use Rattle.model.specs.{Words.inSet, Trace.ifZero, laws.Refusals.no-rule}
 use Rattle.whole_runs.specs.Outcomes.{judged}
-use Rattle.theory_merges.specs.Halves.{HalfEvent, checkpointAt, sendTo, deliverOf, loseOf, sendBy, howMany, messageNumber, receiverOf, receiverIn, newestFirst, KeepsBoth, wasSent, sendsFirst, happensAt, SplitBy}
+use Rattle.theory_merges.specs.Halves.{HalfEvent, checkpointAt, sendTo, deliverOf, loseOf, messageNumber, receiverOf, receiverIn, newestFirst, KeepsBoth, wasSent, sendsFirst, happensAt, SplitBy}
 use Rattle.theory_merges.specs.Merge.{argumentSender, argumentCount, halfEventOf, isReady, Next, nextIs, neither, nextOfSecond, nextRecord, inHalf, recordRefusal, Taken, stopped, took, onRecord, onNext, takeFrom, MergeKeeps}
 use Rattle.theory_merges.proofs.{Lists.number-out, Lists.reversed-append, Lists.receiver-still, Orders.same-receiver}
 

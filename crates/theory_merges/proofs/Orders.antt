@@ -1,13 +1,13 @@
 -- Note 12, proved: any two orders of two halves in which every record is accepted end with the same vectors, pins and kept checkpoints.
 -- Assumes nothing.
-use Rattle.laws.specs.Basics.{_≡_, refl, sym, _∙_, ap, subst, Bool, true, false, not, _&&_, List, [], _∷_, _++_, none, some, _⊎_, inl, inr, ℕ, suc, _+_, _≤_, _<_, arith, eqb, length, eqb-true, by-bool}
+use Rattle.laws.specs.Basics.{_≡_, refl, sym, _∙_, ap, subst, Bool, true, false, not, _&&_, List, [], _∷_, _++_, none, _⊎_, ℕ, suc, _+_, _≤_, _<_, arith, eqb, length, eqb-true, by-bool}
 use Rattle.laws.specs.{Lists.select, Tests.every, Truth.never-both, Truth.and-left, Truth.and-right, Truth.and-both}
 use Rattle.model.specs.declared.Run.{Run}
 use Rattle.model.specs.{Words.inSet, Words.withMessages, Words.withDisk, Words.blank, Steps.withProcesses, laws.Refusals.by-refusal}
-use Rattle.whole_runs.specs.{Outcomes.startOutcome, Calls.Call, Calls.call, Calls.stateAfter, Listing.callOf}
-use Rattle.whole_runs.specs.Survival.{Surviving, beginning, after, survivingFrom}
+use Rattle.whole_runs.specs.{Outcomes.startOutcome, Calls.Call, Calls.call, Listing.callOf}
+use Rattle.whole_runs.specs.Survival.{Surviving, beginning, after}
 use Rattle.theory_merges.specs.Seen.{isAccepted, allAccepted}
-use Rattle.theory_merges.specs.Halves.{HalfEvent, checkpointAt, sendTo, deliverOf, loseOf, isSend, sendBy, howMany, messageNumber, receiverOf, receiverIn, plainEvent, callsFrom, newestFirst, happensAt, SplitBy, KeepsBoth, SameProcesses, OrdersAgree}
+use Rattle.theory_merges.specs.Halves.{HalfEvent, checkpointAt, sendTo, deliverOf, loseOf, sendBy, howMany, messageNumber, receiverOf, receiverIn, plainEvent, callsFrom, newestFirst, happensAt, SplitBy, KeepsBoth, SameProcesses, OrdersAgree}
 use Rattle.histories.proofs.{Run.Ideal, Run.begun, Messages.underway-proper, Local.localOf}
 use Rattle.theory_merges.proofs.Lists.{own, own-append, reversed-append, reversed-select, keeps-first, keeps-second, receiver-of-sends, receiver-still, receiver-new, one-more, keeps-append}
 use Rattle.theory_merges.proofs.Parts.{Part, partOf, partAfter, carriedBy, Follows, follows-begin, follows-checkpoint, follows-lose, follows-deliver, follows-send}

@@ -1,13 +1,13 @@
 -- Note 12: what a process is after its own records is the same in every order: its part of the run is a function of its records, in which a delivered message
 -- carries what its sender's records before the send make of the sender. How far back messages go is bounded by the number of records.
-use Rattle.laws.specs.Basics.{_≡_, refl, sym, _∙_, ap, subst, Bool, true, false, List, [], _∷_, _++_, _⊎_, inl, inr, ℕ, zero, suc, _≤_, _<_, arith, eqb, length, eq-eqb, ne-eqb, pick, by-bool, by-eq}
+use Rattle.laws.specs.Basics.{_≡_, refl, sym, _∙_, ap, subst, Bool, false, List, [], _∷_, _++_, _⊎_, inl, inr, ℕ, zero, suc, _≤_, _<_, arith, length, eq-eqb, ne-eqb, pick, by-bool, by-eq}
 use Rattle.laws.specs.Update.{upd, upd-same, upd-other}
 use Rattle.model.specs.Words.{basic, forced}
-use Rattle.theory_merges.specs.Halves.{HalfEvent, checkpointAt, sendTo, deliverOf, loseOf, isSend, sendBy, howMany, messageNumber, receiverOf, happensAt}
+use Rattle.theory_merges.specs.Halves.{HalfEvent, checkpointAt, sendTo, deliverOf, loseOf, isSend, sendBy, howMany, messageNumber, happensAt}
 use Rattle.histories.proofs.Run.{Ideal, begin, because, begun, stores, checkpointed, sending, forces, takenBy, takenIn, delivered, lost}
 use Rattle.histories.proofs.Local.{Local, localOf, liveOf, tookAt, sentAt, forcesAt, gotAt, forces-local, local-took, local-took-other, local-sent, local-sent-other, local-got, local-got-other, local-lost}
 use Rattle.histories.proofs.DeliveredViews.{delivered-n}
-use Rattle.theory_merges.proofs.Lists.{number-out, number-used, number-still, number-new, before, before-is, own, own-nil, own-here, own-elsewhere, own-append, own-sends, receiver-still, receiver-new}
+use Rattle.theory_merges.proofs.Lists.{number-out, number-used, number-still, number-new, before, before-is, own, own-nil, own-here, own-elsewhere, own-sends}
 
 -- One process's part of the run with the causes of its checkpoints.
 pub record Part : Type 0 where

@@ -1,6 +1,6 @@
 -- Note 12, proved: the bytes of a merge are a plain trace, and replaying them is the run of the merged calls.
 -- Assumes nothing.
-use Rattle.laws.specs.Basics.{_≡_, refl, sym, _∙_, ap, Bool, true, false, List, [], _∷_, _++_, append-nil, append-assoc, Option, none, some, ℕ, zero, suc, _+_, _*_, _/_, _≤_, _<_, arith, eqb, ltb, leb, length, length-append, eqb-false, lt-ltb, ltb-false, leb-true, leb-false, not-false, by-bool}
+use Rattle.laws.specs.Basics.{_≡_, refl, sym, _∙_, ap, Bool, true, false, List, [], _∷_, _++_, append-nil, append-assoc, Option, none, some, ℕ, zero, suc, _+_, _*_, _/_, _≤_, _<_, arith, eqb, leb, length, length-append, eqb-false, lt-ltb, ltb-false, leb-true, leb-false, not-false, by-bool}
 use Rattle.laws.specs.Truth.{and-right, or-none}
 use Rattle.model.specs.declared.{Fields.Fields, Refusal.Refusal, Run.Run, Event.Event}
 use Rattle.model.specs.{Words.mostProcesses, laws.Refusals.no-rule, laws.Refusals.number-range}

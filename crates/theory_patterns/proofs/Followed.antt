@@ -1,15 +1,14 @@
 -- Every trace that is read to its end leaves a pattern with a trail: so its lists have vectors with their laws.
 -- Assumes nothing.
-use Rattle.laws.specs.Basics.{_≡_, refl, sym, _∙_, ap, Bool, true, false, not, false≢true, List, [], _∷_, Option, none, some, ℕ, suc, _+_, arith, length, by-eq}
+use Rattle.laws.specs.Basics.{_≡_, refl, sym, _∙_, ap, Bool, true, false, not, false≢true, [], _∷_, Option, none, some, ℕ, suc, _+_, arith, length, by-eq}
 use native.Mathlib.Numerals.{add-one}
 use Rattle.laws.specs.Update.{upd, upd-same, upd-other}
 use Rattle.model.specs.declared.{Event.Event, Refusal.Refusal}
 use Rattle.model.specs.declared.Event.the-variants.{Checkpoint, Send, Deliver, Lose, Recover}
 use Rattle.histories.specs.History.{HistoryEvent, stored, sent, received, Lists}
-use Rattle.model.specs.{Refusals.firstOf, Trace.decoded}
-use Rattle.whole_runs.specs.{Survival.added, Outcomes.judged}
-use Rattle.theory_patterns.specs.Patterns.{Pattern, recordRefusal, taken, Reading, refused, whole, readFrom}
-use Rattle.theory_patterns.specs.Paths.{eventAt}
+use Rattle.model.specs.{Refusals.firstOf}
+use Rattle.whole_runs.specs.{Survival.added}
+use Rattle.theory_patterns.specs.{Patterns.Pattern, Patterns.recordRefusal, Patterns.taken, Paths.eventAt}
 use Rattle.theory_patterns.proofs.Trail.{Trail, Right, storing, storing-right, sending, sending-right, receiving, receiving-right}
 use Rattle.theory_patterns.proofs.Adding.{event-old, event-new}
 
@@ -102,24 +101,3 @@ taken-followed n t (some (Send i j)) h f = sent-followed t f i j
 taken-followed n t (some (Deliver m)) h f = received-followed t f m (on-way (t .underway m) _ h)
 taken-followed n t (some (Lose m)) h f = lost-followed t f m
 taken-followed n t (some (Recover F)) h f = absurd (never h)
-
--- So does a whole reading.
-by-refusal : (o : Option Refusal) (r : Reading) (u : Pattern) → judged o refused r ≡ whole u → (o ≡ none) × (r ≡ whole u)
-by-refusal none r u e = (refl, e)
-by-refusal (some x) r u e = absurd (let z : _≡_ {A = ℕ} 0 1 = cc in omega arith)
-
-not-whole : {P : Type 0} (r : Refusal) (u : Pattern) → refused r ≡ whole u → P
-not-whole r u e = absurd (let z : _≡_ {A = ℕ} 0 1 = cc in omega arith)
-
-same-whole : (t u : Pattern) → whole t ≡ whole u → t ≡ u
-same-whole t u e = cc
-
-pub read-followed : (n : ℕ) (t : Pattern) (l : List ℕ) (u : Pattern) → readFrom n t l ≡ whole u → Followed t → Followed u
-unfolding readFrom
-read-followed n t [] u e f = rw (same-whole t u e) at f
-read-followed n t (a ∷ []) u e f = not-whole _ u e
-read-followed n t (a ∷ b ∷ []) u e f = not-whole _ u e
-read-followed n t (a ∷ b ∷ c ∷ []) u e f = not-whole _ u e
-read-followed n t (a ∷ b ∷ c ∷ d ∷ l) u e f =
-    let w = by-refusal (recordRefusal n t (decoded (a ∷ b ∷ c ∷ d ∷ []))) (readFrom n (taken t (decoded (a ∷ b ∷ c ∷ d ∷ []))) l) u e in
-    read-followed n (taken t (decoded (a ∷ b ∷ c ∷ d ∷ []))) l u (w .1) (taken-followed n t (decoded (a ∷ b ∷ c ∷ d ∷ [])) (w .0) f)

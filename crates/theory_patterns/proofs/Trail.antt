@@ -39,9 +39,6 @@ pub record Right (t : Trail) : Type 0 where
 abbrev Hears : Trail → ℕ → ℕ → ℕ → Type 0
 Hears t p k f = (x : ℕ) × (j : ℕ) × (eventAt (t .lists p) j ≡ some (received x)) × (j < placeOf k (t .lists p)) × (t .vector p k f ≤ t .carried x f)
 
-clash : {P : Type 0} (x y : HistoryEvent) → x ≡ y → (x ≡ y → ⊥) → P
-clash x y e n = absurd (n e)
-
 stored-sent : (m : ℕ) → stored ≡ sent m → ⊥
 stored-sent m e = let z : _≡_ {A = ℕ} 0 1 = cc in omega arith
 

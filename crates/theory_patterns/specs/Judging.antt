@@ -4,8 +4,7 @@
 use Rattle.laws.specs.Basics.{Bool, false, not, _&&_, _||_, List, Option, none, some, ℕ, zero, suc, eqb, ltb, leb, length, pick}
 use Rattle.laws.specs.Search.{anyBelow}
 use Rattle.histories.specs.History.{HistoryEvent, stored, sent, received, Lists, checkpoints}
-use Rattle.theory_patterns.specs.declared.{Verdict.Verdict, Verdict.the-variants.Breaks}
-use Rattle.theory_patterns.specs.Paths.{eventAt, interval}
+use Rattle.theory_patterns.specs.{declared.Verdict.Verdict, declared.Verdict.the-variants.Breaks, Paths.eventAt, Paths.interval}
 
 -- An event, if there is one, is "sent m", or "received m".
 unfoldable pub isSend : ℕ → Option HistoryEvent → Bool

@@ -1,14 +1,14 @@
 -- Accepted events and the replay of their records: the same state, the same replies.
 -- Assumes nothing.
-use Rattle.laws.specs.Basics.{_≡_, refl, sym, _∙_, ap, Bool, true, List, [], _∷_, _++_, map, none, some, ℕ, zero, suc, _+_, _*_, _^_, _≤_, _<_, arith, eqb, ltb, length, length-append, eqb-true, lt-ltb, by-bool}
+use Rattle.laws.specs.Basics.{_≡_, refl, _∙_, ap, Bool, true, List, [], _∷_, _++_, map, none, some, ℕ, zero, suc, _+_, _*_, _^_, _≤_, _<_, arith, eqb, ltb, length, length-append, eqb-true, lt-ltb, by-bool}
 use native.Mathlib.Nat.{pow-le-pow-right}
 use Rattle.laws.specs.{Lists.select, Prefixes.every-select, Tests.every, Truth.and-left, Truth.and-right, Truth.and-both, Truth.or-in-right}
 use Rattle.model.specs.declared.{Message.Message, Run.Run, Event.Event}
 use Rattle.model.specs.declared.Event.the-variants.{Checkpoint, Send, Deliver, Lose, Recover}
 use Rattle.model.specs.{Words.mostMessages, Words.ones, Words.underWay, Steps.startState, Steps.found, Sound.messageSound, Sound.sound, Refusals.startRefusal}
 use Rattle.model.specs.{laws.Sound.sound-state, laws.Sound.sound-message, Trace.decoded, Trace.isRecord, Trace.fieldsOf, Trace.fits}
-use Rattle.whole_runs.specs.{Calls.call, WholeRuns.Reachable, WholeRuns.Traced}
-use Rattle.whole_runs.specs.Listing.{lineText, mostRecords, callOf, perform, goesOn, records, stateAfterRecords, started, listing}
+use Rattle.whole_runs.specs.{Calls.call, WholeRuns.Traced}
+use Rattle.whole_runs.specs.Listing.{mostRecords, callOf, perform, goesOn, records, stateAfterRecords, started, listing}
 use Rattle.theory_recording.specs.Replay.{recordBytes, recordsOf, stateAfterEvents, EventReply, performed, repliesOf, noneRefused, paired, linesOf}
 use Rattle.model.proofs.simulation.Accepted.{checkpoint-out, send-out, lose-out, deliver-out, recover-out}
 use Rattle.model.proofs.Records.{records-are-events}

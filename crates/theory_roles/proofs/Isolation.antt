@@ -16,7 +16,7 @@ use Rattle.theory_roles.specs.declared.{Role.the-variants.JobOwner, Oper
 use Rattle.theory_roles.specs.declared.Operation.the-variants.{Checkpoint as Checkpointing, Send, Deliver, Lose}
 use Rattle.theory_roles.specs.Console.{may, owns, entitledBy, entitled, entitledMessageBy, entitledMessage, denied, deniedProcess, deniedMessage, listedTo, listRefusal, consoleList, consoleCheckpoint, consoleSend, consoleDeliver, consoleLose, consoleLine}
 use Rattle.theory_roles.specs.Runs.{ConsoleReached, ConsoleIsReachable}
-use Rattle.theory_roles.specs.Isolation.{owner, SameToOwner, ListIsOwn, CheckpointIsOwn, DeliveryIsOwn, LossIsOwn, SendIsOwn, lineAnswerBy, LineAnswerIsOwn, SoundLineAnswers}
+use Rattle.theory_roles.specs.Isolation.{owner, SameToOwner, ListIsOwn, CheckpointIsOwn, DeliveryIsOwn, LossIsOwn, SendIsOwn, lineAnswerBy, LineAnswerIsOwn}
 use Rattle.theory_roles.proofs.Runs.{console-reachable}
 use Rattle.model.specs.declared.CheckpointAnswer.the-variants as checkpoint-answer
 use Rattle.model.specs.declared.DeliverAnswer.the-variants as deliver-answer
@@ -325,15 +325,6 @@ line-by s F lent whole members = by-bool (shortLine s lent)
     (λ out. rw (whole, long, out))
     (λ inside. rw (whole, long, inside, members long inside)))
 
-line-meets : (s : Run) (F : ℕ) (lent : List ℕ) → sound s ≡ true → shortLine s lent ≡ false → outside s F ≡ false → noMember s F ≡ true
-    → lineOutcome s F lent .answer ≡ line-answer.Refused UnsoundState
-unfolding lineOutcome lineRefusal firstOf
-line-meets s F lent whole long inside missed = rw (whole, long, inside, missed)
-
-members-unless : (s : Run) (F : ℕ) (lent : List ℕ) → sound s ≡ true → (lineOutcome s F lent .answer ≡ line-answer.Refused UnsoundState → ⊥)
-    → shortLine s lent ≡ false → outside s F ≡ false → noMember s F ≡ false
-members-unless s F lent whole unmet long inside = by-bool (noMember s F) (λ e. absurd (unmet (line-meets s F lent whole long inside e))) (λ e. e)
-
 -- A state that calls reached has a member at each process.
 pub reachable-members : (s : Run) → Reachable s → (F : ℕ) → noMember s F ≡ false
 unfolding Reachable
@@ -344,10 +335,3 @@ reachable-members s v F =
 pub line-answer-is-own : LineAnswerIsOwn
 unfolding LineAnswerIsOwn ConsoleIsReachable consoleLine denied may
 line-answer-is-own owned s v F lent = line-by s F lent (console-sound s v) (λ long inside. reachable-members s (console-reachable s v) F)
-
-pub sound-line-answers : SoundLineAnswers
-unfolding SoundLineAnswers consoleLine denied may
-sound-line-answers owned s t hs ht size F lent p q =
-    line-by s F lent hs (members-unless s F lent hs p)
-    ∙ ap (λ (n : ℕ). lineAnswerBy n F (length lent)) size
-    ∙ sym (line-by t F lent ht (members-unless t F lent ht q))

@@ -1,48 +1,22 @@
 -- What a list and the counts hold on a state that console calls reach: what the history keeps.
 -- Assumes nothing.
-use Rattle.laws.specs.Basics.{_≡_, refl, sym, _∙_, ap, Bool, true, false, List, [], _∷_, _++_, append-nil, none, some, ℕ, zero, suc, _*_, _≤_, _<_, arith, ltb, length, lt-ltb, le-ltb, pick, by-bool}
+use Rattle.laws.specs.Basics.{_≡_, refl, sym, _∙_, ap, true, false, List, [], _∷_, _++_, none, some, ℕ, _*_, _≤_, _<_, arith, ltb, length, lt-ltb, le-ltb, pick, by-bool}
 use lib.ListN.{length-map}
-use Rattle.laws.specs.{Counting.count-same, Front.written-front, Lists.table, Lists.gather, Select.map-append, Sums.sumBelow, Sums.sum-same, Sums.length-gather}
+use Rattle.laws.specs.{Counting.count-same, Front.written-front, Lists.table, Lists.gather, Sums.sumBelow, Sums.sum-same, Sums.length-gather}
 use Rattle.laws.specs.Tables.{gather-same, table-same, length-table}
 use Rattle.model.specs.declared.{Run.Run, Checkpoint.Checkpoint, Refusal.the-variants.ListTooShort}
 use Rattle.model.specs.{Words.mostProcesses, Words.process, Steps.Deletion, Steps.listed, Sound.sound, Refusals.firstOf}
 use Rattle.histories.specs.History.{Lists, checkpoints}
 use Rattle.whole_runs.specs.{Outcomes.pairs, Survival.Surviving, Answers.liveOf}
 use Rattle.histories.proofs.{Run.Ideal, Run.keeps, Invariant.Inv}
-use Rattle.model.proofs.simulation.View.{passing, checkpointOf, keptOf, processOf, stateOf}
+use Rattle.model.proofs.simulation.View.{keptOf, processOf, stateOf}
 use Rattle.model.proofs.{simulation.Reads.count-is, simulation.Reads.process-is, simulation.Kept.kept-length, simulation.Kept.kept-most}
 use Rattle.whole_runs.proofs.{whole.Pairs.length-pairs, whole.Handed.gather-length, whole.Agreement.Agrees, whole.Reached.Reached, WholeRuns.reached-sound}
+use Rattle.whole_runs.proofs.whole.Gone.{pairs-gather, pairIf, listed-pairs}
 use Rattle.theory_roles.specs.declared.{Caller.Caller, Operation.the-variants.List as Listing, Operation.the-variants.Counts}
 use Rattle.theory_roles.specs.Console.{denied, entitled, listedTo, listRefusal, consoleList, keptCounts, countsRefusal, consoleCounts}
 use Rattle.theory_roles.specs.Shown.{keptNumber, keptPairs, ListIsRight, CountsAreRight, ListIsKept, CountsAreKept}
 use Rattle.theory_roles.proofs.Runs.{console-reached}
-
--- The numbers of the pairs, of lists in a row.
-pairs-append : (a b : List Deletion) → pairs (a ++ b) ≡ pairs a ++ pairs b
-unfolding pairs
-pairs-append [] b = refl
-pairs-append (d ∷ a) b = rw (pairs-append a b)
-
-pairs-gather : (n : ℕ) (f : ℕ → List Deletion) → pairs (gather n f) ≡ gather n (λ p. pairs (f p))
-unfolding gather pairs
-pairs-gather zero f = refl
-pairs-gather (suc n) f = rw (pairs-append (gather n f) (f n), pairs-gather n f)
-
--- The numbers p, k of the checkpoints k that pass a test.
-abbrev pairIf : ℕ → (ℕ → Bool) → ℕ → List ℕ
-pairIf p t k = pick (t k) (p ∷ k ∷ []) []
-
-listed-pairs : (r : Ideal) (p m : ℕ) (t : ℕ → Bool) → pairs (listed p (passing m t (checkpointOf r p))) ≡ gather m (pairIf p t)
-unfolding listed passing gather pairs checkpointOf
-listed-pairs r p zero t = refl
-listed-pairs r p (suc m) t = by-bool (t m)
-    (λ e. rw (
-      e,
-      map-append {B = Deletion} (λ c. record { process = p; index = c .index }) (passing m t (checkpointOf r p)) (checkpointOf r p m ∷ []),
-      pairs-append (listed p (passing m t (checkpointOf r p))) (record { process = p; index = record { 0 = m } } ∷ []),
-      listed-pairs r p m t,
-    ))
-    (λ e. rw (e, append-nil (passing m t (checkpointOf r p)), listed-pairs r p m t) (sym (append-nil (gather m (pairIf p t)))))
 
 listed-length : (p : ℕ) (l : List Checkpoint) → length (listed p l) ≡ length l
 unfolding listed

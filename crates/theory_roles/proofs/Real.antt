@@ -66,6 +66,3 @@ every-leak-is-real presence = near .3
 every-leak-is-real place = near .4
 every-leak-is-real rollback = near .5
 every-leak-is-real pins = near .6
-
-pub others-are-skipped : OthersAreSkipped
-others-are-skipped = near .7

@@ -4,10 +4,9 @@ use Rattle.laws.specs.Basics.{_≡_, true, false, List, [], none, some, ℕ, _�
 use Rattle.model.specs.declared.{Run.Run, Named.Named, Message.Message, Refusal.the-variants.Denied}
 use Rattle.model.specs.{Words.blank, Words.inSet, Steps.found}
 use Rattle.whole_runs.specs.Outcomes.{Outcome}
-use Rattle.theory_roles.specs.declared.{Role.the-variants.Operator, Operation.Operation, Caller.Caller}
+use Rattle.theory_roles.specs.{declared.Role.the-variants.Operator, declared.Operation.Operation, declared.Caller.Caller, Isolation.owner}
 use Rattle.theory_roles.specs.declared.Operation.the-variants.{Start, Checkpoint, Send, Deliver, Lose, Recover, Line, Earliest, List as Listing, Counts}
 use Rattle.theory_roles.specs.Console.{denied, deniedProcess, deniedMessage, consoleStart, consoleCheckpoint, consoleSend, consoleDeliver, consoleLose, consoleRecover, consoleLine, consoleEarliest, consoleList, consoleCounts}
-use Rattle.theory_roles.specs.Isolation.{owner}
 use Rattle.model.specs.declared.StartAnswer.the-variants as start-answer
 use Rattle.model.specs.declared.CheckpointAnswer.the-variants as checkpoint-answer
 use Rattle.model.specs.declared.SendAnswer.the-variants as send-answer

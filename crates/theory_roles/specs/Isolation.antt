@@ -5,9 +5,8 @@ use Rattle.model.specs.declared.{Run.Run, LineAnswer.LineAnswer}
 use Rattle.model.specs.declared.Refusal.the-variants.{UnsoundState, ListTooShort, NoSuchFailedProcess, TooManyUnderWay, MessageNumbersUsed, BlocksUsed}
 use Rattle.model.specs.{Words.process, Steps.found, Sound.sound}
 use Rattle.whole_runs.specs.Outcomes.{sendReport}
-use Rattle.theory_roles.specs.declared.{Role.the-variants.JobOwner, Caller.Caller}
+use Rattle.theory_roles.specs.{declared.Role.the-variants.JobOwner, declared.Caller.Caller, Runs.ConsoleReached}
 use Rattle.theory_roles.specs.Console.{owns, consoleCheckpoint, consoleSend, consoleDeliver, consoleLose, consoleLine, consoleList}
-use Rattle.theory_roles.specs.Runs.{ConsoleReached}
 use Rattle.model.specs.declared.CheckpointAnswer.the-variants as checkpoint-answer
 use Rattle.model.specs.declared.SendAnswer.the-variants as send-answer
 use Rattle.model.specs.declared.DeliverAnswer.the-variants as deliver-answer

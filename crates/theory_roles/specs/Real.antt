@@ -2,8 +2,7 @@
 -- different answers. So no leak could be left out of `exposed`. `EveryLeakIsReal` is proved in proofs/Real.
 -- Assumes nothing.
 use Rattle.laws.specs.Basics.{_≡_, false, List, [], _∷_, _++_, map, ℕ, zero, suc, eqb, replicate, pick}
-use Rattle.model.specs.declared.{Run.Run, StartAnswer.the-variants.Started}
-use Rattle.model.specs.Words.{ones}
+use Rattle.model.specs.{declared.Run.Run, declared.StartAnswer.the-variants.Started, Words.ones}
 use Rattle.whole_runs.specs.Calls.{Call, checkpoint, send, deliver, lose, recover, line}
 use Rattle.theory_tables.specs.Exam.{deletionList, lineList}
 use Rattle.theory_roles.specs.{Console.consoleStart, Isolation.owner, Runs.made, Runs.list, Runs.ConsoleCall, Table.operator}

@@ -3,8 +3,7 @@
 -- Assumes nothing.
 use Rattle.laws.specs.Basics.{List, [], Option, none, some, ℕ, _+_, eqb, leb, length, take, drop, replicate, pick}
 use Rattle.laws.specs.Lists.{orElse}
-use Rattle.model.specs.declared.{Event.Event, Fields.Fields}
-use Rattle.model.specs.Trace.{fields, decoded, fits, encoded}
+use Rattle.model.specs.{declared.Event.Event, declared.Fields.Fields, Trace.fields, Trace.decoded, Trace.fits, Trace.encoded}
 use Rattle.trace.specs.declared.{Decoded.Decoded, Decoded.the-variants.Malformed, Decoded.the-variants.StandsFor, Encoded.Encoded}
 
 -- The four bytes of a trace from a place on; nothing if fewer are left.

@@ -30,11 +30,6 @@ pub traced-call : (s : Run) → Traced s → (c : Call) → Traced (call s c .ru
 unfolding Traced
 traced-call s v c = (v .0, v .1, v .2 ++ (c ∷ []), ap (λ (t : Run). call t c .run) (v .3) ∙ sym (after-one (startOutcome (v .0) ones .run) (v .2) c))
 
-pub traced-record : (s : Run) → Traced s → (e : Option Event) → Traced (perform s e .run)
-unfolding perform
-traced-record s v none = v
-traced-record s v (some e) = traced-call s v (callOf e)
-
 -- Counts of 1.
 one-of : (p : ℕ) → p < mostProcesses → getD ones p 0 ≡ 1
 one-of p lt = getD-replicate mostProcesses p 1 0 lt

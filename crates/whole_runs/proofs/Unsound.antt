@@ -1,8 +1,7 @@
 -- A state that is not sound is refused with 2 by every call, before any other number: the state, the answer and the lent lists then.
 -- Assumes nothing.
 use Rattle.laws.specs.Basics.{_≡_, refl, sym, _∙_, Bool, true, false, not, List, ℕ}
-use Rattle.model.specs.declared.{Named.Named, Run.Run, Refusal.the-variants.UnsoundState}
-use Rattle.model.specs.Sound.{sound}
+use Rattle.model.specs.{declared.Named.Named, declared.Run.Run, declared.Refusal.the-variants.UnsoundState, Sound.sound}
 use Rattle.model.specs.Refusals.{firstOf, checkpointRefusal, sendRefusal, deliverRefusal, loseRefusal, lineRefusal, recoverRefusal}
 use Rattle.whole_runs.specs.Earliest.{earliestRefusal, earliestOutcome}
 use Rattle.whole_runs.specs.Outcomes.{checkpointOutcome, sendOutcome, deliverOutcome, loseOutcome, lineOutcome, recoverOutcome}

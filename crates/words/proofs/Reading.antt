@@ -3,8 +3,7 @@
 use Rattle.laws.specs.Basics.{_≡_, refl, sym, _∙_, ap, true, List, [], _∷_, ℕ, zero, suc, _+_, _-_, _*_, _/_, _%_, _≤_, _<_, arith, eqb, length, getD, drop, set, length-set, getD-set-same, getD-set-other, eq-eqb, ne-eqb, eqb-true, by-eq}
 use native.Mathlib.Nat.{add-zero, div-add-mod}
 use native.Mathlib.Numerals.{add-one}
-use Rattle.model.specs.Words.{names}
-use Rattle.model.specs.declared.{Pin.the-variants.At, CheckpointIndex.CheckpointIndex}
+use Rattle.model.specs.{Words.names, declared.Pin.the-variants.At, declared.CheckpointIndex.CheckpointIndex}
 use Rattle.words.specs.{Layout.word, Layout.indexOf, Layout.pinOf, Puts.Put, Puts.putFrom, Puts.puts}
 
 module _ (w : List ℕ) (at : ℕ) (f : ℕ → ℕ) where

@@ -1,6 +1,6 @@
 -- One iteration more of a loop that gathers.
 -- Assumes nothing.
-use Rattle.laws.specs.Basics.{_≡_, sym, _∙_, ap, Bool, true, false, _||_, ℕ, _+_, by-bool}
+use Rattle.laws.specs.Basics.{_≡_, _∙_, ap, Bool, _||_, ℕ, _+_, by-bool}
 use Rattle.laws.specs.{Loops.any-yes, Loops.any-no, Rows.or-false, Search.anyBelow, Truth.or-in-right}
 
 pub any-or : (t : ℕ → Bool) (i : ℕ) (mark x : Bool) → mark ≡ anyBelow i t → x ≡ t i → (mark || x) ≡ anyBelow (i + 1) t

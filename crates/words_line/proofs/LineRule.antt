@@ -1,16 +1,16 @@
 -- The line rule on the words says what Steps says of the run that sound words stand for.
 -- Assumes nothing.
-use Rattle.laws.specs.Basics.{_≡_, refl, sym, _∙_, ap, Bool, true, false, not, _||_, List, [], _∷_, _++_, append-nil, Option, none, some, ℕ, zero, suc, _+_, _-_, _≤_, _<_, arith, eqb, ltb, leb, length, getD, replicate, length-replicate, getD-replicate, eq-eqb, ne-eqb, eqb-false, lt-ltb, le-ltb, ltb-true, ltb-false, le-leb, lt-leb, leb-true, leb-false, pick, by-bool, by-eq}
-use Rattle.laws.specs.{Lists.select, Lists.lastOf, Lists.orElse, Lists.table, Loops.setBelow, Loops.below-length, Loops.below-at, Loops.below-above, Rows.by-lt}
+use Rattle.laws.specs.Basics.{_≡_, refl, sym, _∙_, ap, Bool, true, false, not, _||_, List, [], _∷_, _++_, append-nil, none, some, ℕ, zero, suc, _+_, _-_, _≤_, _<_, arith, eqb, ltb, leb, length, getD, replicate, length-replicate, getD-replicate, eq-eqb, ne-eqb, eqb-false, lt-ltb, le-ltb, le-leb, lt-leb, pick, by-bool, by-eq}
+use Rattle.laws.specs.{Lists.select, Lists.lastOf, Lists.orElse, Lists.table, Loops.below-length, Loops.below-at, Loops.below-above, Rows.by-lt}
 use Rattle.laws.specs.{Ranges.all-same, Below.all-not-any, Search.allBelow, Search.anyBelow, Search.any-none, Select.select-append, Select.lastOf-snoc}
 use Rattle.laws.specs.Tables.{table-same}
 use Rattle.model.specs.declared.{Interval.Interval, CheckpointIndex.CheckpointIndex, Checkpoint.Checkpoint, Run.Run}
-use Rattle.model.specs.Words.{mostProcesses, entry, below, failed, liveIndex, live, zeroVector, Process, process, own}
+use Rattle.model.specs.Words.{entry, below, failed, live, zeroVector, Process, process, own}
 use Rattle.model.specs.{Sound.sound, Steps.allowed, Steps.states, Steps.latestAllowed, Steps.member, Steps.lineOf, Refusals.missing, Refusals.noMember}
-use Rattle.words.specs.Layout.{word, countOf, keptCountAt, partAt, indexAt, storedAt, intervalOf, indexOf, vectorIn, checkpointIn, runOf}
+use Rattle.words.specs.Layout.{word, countOf, keptCountAt, partAt, storedAt, vectorIn, checkpointIn, runOf}
 use Rattle.words.specs.Parts.{processIn}
 use Rattle.words.proofs.{Same.vector-word, View.count-is, ViewRows.vector-within, ViewRows.vector-zero, ViewRows.stored-within, ViewRows.stored-zero}
-use Rattle.words.proofs.ViewSound.{sound-fits, sound-few, sound-process-is, sound-own-is, sound-part, sound-kept-is}
+use Rattle.words.proofs.ViewSound.{sound-fits, sound-few, sound-process-is, sound-own-is, sound-part}
 use Rattle.words_line.specs.Line.{limitOf, limitsIn, isWithin, pastKept, pastLatest, stateIn, stateBefore, hasMembers, pastsIn, indexIn, indexesIn}
 
 -- Numbers from n on that pass do not count.

@@ -1,10 +1,9 @@
 -- Where the words stand for a sound state and the indexes are those of the line for a failed set, the messages that are lost are those of Steps.
 -- Assumes nothing.
-use Rattle.laws.specs.Basics.{_≡_, sym, _∙_, ap, Bool, true, false, not, List, ℕ, _<_, arith, ltb, length, getD}
+use Rattle.laws.specs.Basics.{_≡_, sym, _∙_, ap, true, false, not, List, ℕ, _<_, arith, ltb}
 use Rattle.laws.specs.{Lists.select, Prefixes.select-same-on}
-use Rattle.model.specs.declared.{CheckpointIndex.CheckpointIndex, Message.Message, Run.Run}
-use Rattle.model.specs.{Words.entry, Words.underWay, Sound.messageSound, Sound.sound, Steps.member, Steps.lostBy, Steps.stillUnderWay, Refusals.noMember}
-use Rattle.model.specs.laws.Sound.{sound-state, sound-message}
+use Rattle.model.specs.{declared.CheckpointIndex.CheckpointIndex, declared.Message.Message, declared.Run.Run, laws.Sound.sound-state, laws.Sound.sound-message}
+use Rattle.model.specs.{Words.entry, Words.underWay, Sound.messageSound, Sound.sound, Steps.lostBy, Steps.stillUnderWay, Refusals.noMember}
 use Rattle.words.specs.Layout.{countOf, endOf, messageIn, messagesIn, runOf}
 use Rattle.words.proofs.{View.count-is, ViewSound.SoundWords, ViewSound.sound-words}
 use Rattle.words_line.specs.{Line.limitsIn, Line.pastsIn, Line.indexesIn, Sifted.lostTo, Sifted.SendersPresent}

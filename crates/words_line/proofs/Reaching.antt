@@ -1,15 +1,14 @@
 -- What the functions find of named checkpoints in the words is what Earliest says of the run that sound words stand for.
 -- Assumes nothing.
-use Rattle.laws.specs.Basics.{_≡_, refl, sym, _∙_, ap, Bool, true, false, not, _||_, List, [], _∷_, _++_, Option, ℕ, zero, suc, _+_, _-_, _*_, _/_, _%_, _≤_, _<_, max, arith, eqb, ltb, leb, length, getD, replicate, length-replicate, eq-eqb, ne-eqb, eqb-true, eqb-false, ltb-false, leb-false, pick, by-bool, by-eq}
+use Rattle.laws.specs.Basics.{_≡_, refl, sym, _∙_, ap, Bool, true, false, not, _||_, List, [], _∷_, _++_, ℕ, zero, suc, _+_, _-_, _*_, _/_, _%_, _≤_, _<_, max, arith, eqb, ltb, leb, length, getD, replicate, length-replicate, eq-eqb, ne-eqb, eqb-true, eqb-false, leb-false, by-bool}
 use Rattle.laws.specs.{Below.not-out, Below.all-not-any, Elements.same-test, Lists.select, Lists.lastOf, Lists.orElse, Lists.table, Loops.below-at}
 use Rattle.laws.specs.{Ranges.any-same, Search.allBelow, Search.anyBelow, Search.any-none, Search.all-out, Tables.length-table, Tables.table-same}
-use Rattle.laws.specs.{Select.some-append, Select.some-one, Select.some-table, Select.or-swap, Tests.some-of, Truth.never-both, Truth.or-none}
+use Rattle.laws.specs.{Select.some-append, Select.some-one, Select.some-table, Select.or-swap, Tests.some-of}
 use Rattle.model.specs.declared.{Interval.Interval, Checkpoint.Checkpoint, Named.Named, Run.Run}
 use Rattle.model.specs.{Words.entry, Words.comesBefore, Words.noCheckpoint, Words.process, Sound.sound}
 use Rattle.whole_runs.specs.Earliest.{isNamed, namedVector, greatest, earliestLine, someAbsent, repeats, unfit, notKept, someOrdered}
 use Rattle.words.specs.Layout.{word, countOf, keptCountAt, indexAt, storedAt, vectorIn, checkpointIn, runOf}
 use Rattle.words.proofs.{Same.vector-word, View.count-is, ViewSound.sound-fits, ViewSound.sound-few, ViewSound.sound-part, ViewSound.sound-kept-is}
-use Rattle.words_line.specs.declared.through.Starts.{Starts}
 use Rattle.words_line.specs.Through.{pairCount, processOf, indexOf, namedAt, namedIn, amongFirst, twiceIn, startOf, startAt, startsIn, beforeSome, greatestIn, Present, Searched, InWords}
 use Rattle.words_line.proofs.LineRule.{last-more, last-less}
 

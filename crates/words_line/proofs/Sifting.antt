@@ -1,6 +1,6 @@
 -- What is left of the messages under way where the lost ones leave their places.
 -- Assumes nothing.
-use Rattle.laws.specs.Basics.{_≡_, refl, sym, _∙_, ap, Bool, true, false, not, _&&_, _||_, List, [], _∷_, ℕ, zero, suc, _+_, _-_, _≤_, _<_, arith, eqb, leb, length, le-leb, pick, by-bool, by-eq}
+use Rattle.laws.specs.Basics.{_≡_, refl, sym, _∙_, ap, true, false, not, _&&_, _||_, List, [], _∷_, ℕ, zero, suc, _+_, _-_, _≤_, _<_, arith, eqb, leb, length, le-leb, by-bool, by-eq}
 use Rattle.laws.specs.{Lists.select, Lists.table, Rows.by-lt, Select.select-select, Tables.table-same}
 use Rattle.laws.specs.Truth.{never-both, and-out, and-both, or-in-right}
 use Rattle.model.specs.declared.{CheckpointIndex.CheckpointIndex, Message.Message}

@@ -2,8 +2,7 @@
 -- Assumes nothing.
 use Rattle.laws.specs.Basics.{_≡_, Bool, true, not, _&&_, List, ℕ, zero, suc, _<_, ltb, length, getD, pick}
 use Rattle.laws.specs.Lists.{select}
-use Rattle.model.specs.declared.{CheckpointIndex.CheckpointIndex, Message.Message}
-use Rattle.model.specs.Words.{entry, mostProcesses}
+use Rattle.model.specs.{declared.CheckpointIndex.CheckpointIndex, declared.Message.Message, Words.entry, Words.mostProcesses}
 use Rattle.words.specs.{Layout.word, Layout.wide2, Layout.senderAt, Layout.messageIn, Layout.isMessage, Layout.messagesIn, Layout.endFits, Frames.OnlyMessages}
 use Rattle.words.specs.{Clean.CleanMessages, messages.Places.cleared}
 

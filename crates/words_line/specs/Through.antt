@@ -1,7 +1,7 @@
 -- The earliest consistent line through named checkpoints (document 02, Note 8), which are pairs of numbers in a lent slice.
 -- proofs/Reaching has that they say what Earliest says of the run.
 -- Assumes nothing.
-use Rattle.laws.specs.Basics.{Bool, false, not, _||_, List, ℕ, zero, suc, _+_, _-_, _*_, _/_, _%_, _≤_, _<_, max, eqb, ltb, length, getD, replicate, pick}
+use Rattle.laws.specs.Basics.{Bool, not, _||_, List, ℕ, zero, suc, _+_, _-_, _*_, _/_, _%_, _≤_, _<_, max, eqb, ltb, length, getD, replicate, pick}
 use Rattle.laws.specs.{Lists.table, Loops.setBelow, Search.allBelow, Search.anyBelow}
 use Rattle.model.specs.declared.Named.{Named}
 use Rattle.model.specs.Words.{mostProcesses}

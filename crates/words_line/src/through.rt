@@ -2,7 +2,7 @@
 // process, index, process, index, and so on. Numbers of which one is left over are no pairs, and name nothing.
 use model::PROCESSES;
 use words::places;
-ghost use Rattle.laws.specs.Basics.{_≡_, _||_, _+_, _-_, _*_, _≤_, _<_, eqb, ltb, leb, length, getD, sets};
+ghost use Rattle.laws.specs.Basics.{_≡_, _||_, _+_, _-_, _*_, _≤_, _<_, eqb, ltb, leb, length, sets};
 ghost use Rattle.laws.specs.{Lists.table, Search.anyBelow};
 ghost use Rattle.model.specs.Words.{mostProcesses};
 ghost use Rattle.words.specs.Layout.{word, keptCountAt, stateSize};

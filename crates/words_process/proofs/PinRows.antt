@@ -7,7 +7,7 @@ use Rattle.laws.specs.{Tables.length-table, Tables.getD-table, Tables.table-sam
 use Rattle.model.specs.declared.{Interval.Interval, CheckpointIndex.CheckpointIndex, Pin.Pin, Pin.the-variants.Nothing, Pin.the-variants.At}
 use Rattle.model.specs.{Words.entry, Words.below, Words.names, Words.inSet, Steps.takenPin, Steps.takenPins, Steps.risen}
 use Rattle.words_process.specs.{receipts.Receipt.pinsFirst, Pins.pinRow, Pins.movedRow, Pins.risenOrOwn}
-use Rattle.words.specs.Layout.{word, indexOf, pinOf, rowIn, pinsIn}
+use Rattle.words.specs.Layout.{indexOf, pinOf, rowIn, pinsIn}
 use Rattle.words.proofs.{Reading.pin-back, Same.row-word}
 
 -- A pin names a checkpoint exactly if its word is the checkpoint's.

@@ -232,9 +232,6 @@ module _ (w : List ℕ) (size : length w ≡ 6464) (i : ℕ) (room : i < 16) (r 
   there : Collected (pinned w size i room r) i keptCount (pinRow r) v stay
   there = rw e at c
 
-  pub collected-size : length v ≡ 6464
-  collected-size = v-size w size i room r keptCount is most v stay there
-
   abbrev pub storing-then : Bool → List ℕ
   storing-then stores = pick stores (puts v (storedPuts i stay index cause vector ++ one (markAt i) 0 ∷ [])) v
 

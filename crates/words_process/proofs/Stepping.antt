@@ -8,7 +8,7 @@ use Rattle.laws.specs.{Lists.select, Lists.table, Lists.lastOf, Lists.orElse, R
 use Rattle.laws.specs.Tables.{length-table, getD-table, table-same}
 use Rattle.model.specs.declared.{Interval.Interval, Checkpoint.Checkpoint, CheckpointIndex.CheckpointIndex, Disk.Disk, Pin.Pin}
 use Rattle.model.specs.declared.Pin.the-variants.{Nothing, At}
-use Rattle.model.specs.Words.{basic, forced, entry, liveIndex, names, isPinned, Process, blocksOf, blockCount, noCheckpoint, process, own}
+use Rattle.model.specs.Words.{basic, forced, entry, liveIndex, names, isPinned, Process, blocksOf, blockCount, noCheckpoint, process}
 use Rattle.model.specs.Sound.{ascending, sound}
 use Rattle.model.specs.Steps.{listed, settled, gone, deletions, billed, storing, checkpointed, advanced, takenVector, takenPins, risen}
 use Rattle.words_process.specs.receipts.Receipt.{vectorFirst, pinsFirst, vectorThen, pinsThen, keptThen}

@@ -2,8 +2,7 @@
 -- Assumes nothing.
 use Rattle.laws.specs.Basics.{_≡_, true, List, [], _∷_, ℕ, _+_, _*_, _≤_, _<_, length}
 use Rattle.laws.specs.Lists.{select, table}
-use Rattle.model.specs.declared.{Interval.Interval, CheckpointIndex.CheckpointIndex, Pin.Pin}
-use Rattle.model.specs.Words.{isPinned, mostProcesses}
+use Rattle.model.specs.{declared.Interval.Interval, declared.CheckpointIndex.CheckpointIndex, declared.Pin.Pin, Words.isPinned, Words.mostProcesses}
 use Rattle.words.specs.Layout.{word, indexAt, causeAt, storedAt, rowIn, checkpointIn}
 use Rattle.words.specs.Puts.{Put, puts, one, rowPut, vectorPut, zeroPut}
 

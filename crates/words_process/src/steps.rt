@@ -3,14 +3,13 @@ use model::CheckpointIndex;
 use model::Interval;
 use model::PROCESSES;
 use words::places;
-ghost use Rattle.laws.specs.Basics.{_≡_, true, not, [], _∷_, _++_, _+_, _*_, _≤_, _<_, length, getD, sets, pick};
+ghost use Rattle.laws.specs.Basics.{_≡_, true, [], _∷_, _++_, _+_, _*_, _≤_, _<_, length, sets, pick};
 ghost use Rattle.laws.specs.Lists.{select, table};
-ghost use Rattle.model.specs.Words.{basic, forced, entry, isPinned, blocksOf, mostProcesses, mostInterval, mostBlocks};
-ghost use Rattle.model.specs.Sound.{sound};
+ghost use Rattle.model.specs.{Words.basic, Words.entry, Words.isPinned, Words.blocksOf, Words.mostProcesses, Words.mostInterval, Words.mostBlocks, Sound.sound};
 ghost use Rattle.model.specs.Steps.{listed, settled, gone, deletions, billed, advanced, checkpointed, takenVector, risen};
 ghost use Rattle.words_process.specs.{receipts.Receipt.vectorFirst, Kept.storedPuts, Kept.Used, Kept.AllPinned, Moves.diskIn, Moves.Moves, Pins.pinRow};
 ghost use Rattle.whole_runs.specs.Outcomes.{pairs};
-ghost use Rattle.words.specs.Layout.{word, countOf, keptCountAt, markAt, blocksAt, partAt, pinsAt, intervalOf, vectorIn, checkpointIn, runOf, stateSize};
+ghost use Rattle.words.specs.Layout.{word, countOf, keptCountAt, markAt, blocksAt, partAt, intervalOf, vectorIn, checkpointIn, runOf, stateSize};
 ghost use Rattle.words.specs.{Parts.processIn, Puts.puts, Puts.one, Puts.vectorPut};
 ghost use Rattle.words_process.specs.Steps.{storedIn, settledPart, unpinnedIn, received};
 

@@ -3,14 +3,13 @@
 use Rattle.laws.specs.Basics.{_≡_, refl, sym, _∙_, ap, Bool, true, false, not, _&&_, _||_, List, [], _∷_, _++_, map, append-nil, ℕ, zero, suc, _+_, _-_, _≤_, _<_, arith, eqb, ltb, leb, length, getD, take, drop, replicate, getD-replicate, length-take-le, eq-eqb, ne-eqb, eqb-true, lt-ltb, ltb-true, le-leb, leb-true, not-true, pick, by-bool, by-eq}
 use lib.ListN.{length-map, List·getD-append, List·getD-map}
 use lib.Seq.{getD-take, drop-append-seam, getD-append-add}
-use Rattle.laws.specs.Conjunctions.{none, test, _and_, each, holds, asks, same-tests, part-fails}
+use Rattle.laws.specs.Conjunctions.{none, test, _and_, holds, asks, same-tests, part-fails}
 use Rattle.laws.specs.{Counting.count-le, Counting.count-same, Elements.same-test, Elements.every-replicate, Lists.select, Lists.table, Lists.placed}
 use Rattle.laws.specs.{Prefixes.placed-length, Ranges.all-same, Search.allBelow, Search.all-in, Select.map-append, Tables.take-placed}
 use Rattle.laws.specs.Rows.{every-both, all-both, and-true, and-swap, every-at, every-beyond, by-lt}
 use Rattle.laws.specs.Tests.{every, allOf, countBelow}
 use Rattle.laws.specs.Truth.{and-left, and-right, and-no-right, or-in-right, or-right, never-both}
-use Rattle.model.specs.declared.{Message.Message, Run.Run}
-use Rattle.model.specs.Words.{mostProcesses, mostUnderWay, mostMessages, noMessage, underWay}
+use Rattle.model.specs.{declared.Message.Message, declared.Run.Run, Words.mostUnderWay, Words.mostMessages, Words.noMessage, Words.underWay}
 use Rattle.model.specs.Sound.{within, ascending, messageSound, zeroFrom, unusedMessage}
 use Rattle.words.specs.Layout.{word, wide2, countOf, endOf, senderAt, receiverAt, carriedAt, messageIn, isMessage, messagesIn, decoded}
 use Rattle.words_sound.specs.Test.{rowWithin, numberIn, numberBefore, messageTests, messageFits, carriedFits}

@@ -1,11 +1,10 @@
 -- The run that the words stand for, part by part: what its definitions read is at a place of the words.
 -- Assumes nothing.
-use Rattle.laws.specs.Basics.{_≡_, refl, sym, _∙_, ap, Bool, true, not, _&&_, _||_, List, [], ℕ, zero, _+_, _-_, _≤_, _<_, arith, eqb, ltb, leb, getD, take, drop, replicate, eq-eqb, eqb-true, lt-ltb, le-ltb, le-leb, leb-true, pick, by-bool}
+use Rattle.laws.specs.Basics.{_≡_, refl, sym, _∙_, ap, Bool, true, not, _&&_, _||_, List, [], ℕ, _+_, _-_, _≤_, _<_, arith, eqb, ltb, leb, getD, take, drop, replicate, eq-eqb, eqb-true, lt-ltb, le-ltb, le-leb, leb-true, pick, by-bool}
 use Rattle.laws.specs.{Elements.same-test, Elements.every-from, Lists.table, Ranges.all-same, Search.allBelow, Search.all-out, Tests.every}
 use Rattle.laws.specs.Tables.{length-table, getD-table, table-same}
-use Rattle.model.specs.declared.{Interval.Interval, Checkpoint.Checkpoint}
+use Rattle.model.specs.{declared.Interval.Interval, declared.Checkpoint.Checkpoint, Sound.within, Sound.zeroFrom, Sound.unusedCheckpoint}
 use Rattle.model.specs.Words.{mostProcesses, entry, zeroVector, noPins, noCheckpoint, process, own}
-use Rattle.model.specs.Sound.{within, zeroFrom, unusedCheckpoint}
 use Rattle.words.specs.Layout.{word, countOf, keptCountAt, partAt, pinsAt, vectorIn, pinsIn, checkpointIn, isKeptIn, keptIn, ofProcesses, decoded}
 use Rattle.words.proofs.Same.{vector-word}
 use Rattle.words_sound.specs.Test.{ownIn, most, rowWithin, indexIn}

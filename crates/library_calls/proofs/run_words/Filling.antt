@@ -2,8 +2,7 @@
 -- Assumes nothing.
 use Rattle.laws.specs.Basics.{_≡_, sym, _∙_, ap, Bool, true, false, _&&_, false≢true, List, ℕ, _≤_, _<_, length, le-leb, lt-leb, by-bool}
 use Rattle.laws.specs.Loops.{iter}
-use Rattle.model.specs.declared.{Interval.Interval, Pin.Pin, Checkpoint.Checkpoint, Run.Run}
-use Rattle.model.specs.Sound.{sound}
+use Rattle.model.specs.{declared.Interval.Interval, declared.Pin.Pin, declared.Checkpoint.Checkpoint, declared.Run.Run, Sound.sound}
 use Rattle.words.specs.{Layout.runOf, Puts.puts}
 use Rattle.library_calls.specs.run_words.Fits.{keptFits, rowsFit, messagesFit, fitsWords}
 use Rattle.library_calls.specs.run_words.Filled.{keptFilled, rowsFilled, messagesFilled, numberPuts, filled}

@@ -15,6 +15,7 @@ use Rattle.library_calls.specs.run_words.Fits.{pastMessages, indexFits, 
 use Rattle.library_calls.specs.run_words.Filled.{pinWord, markWord}
 use Rattle.library_calls.proofs.run_words.Sizes.{Sized}
 use Rattle.library_calls.proofs.run_words.Holding.{stored, message, HoldsProcess, HoldsStored, HoldsMessage, Holds}
+use Rattle.in_place_recover.proofs.Found.{nothing-is}
 
 -- What is unused is the unused one.
 pub zero-vector : (v : List Interval) → zeroFrom 0 v ≡ true → length v ≡ 16 → v ≡ zeroVector
@@ -23,11 +24,6 @@ zero-vector v e long =
     table-is (record { 0 = 0 }) v 16 (λ k. record { 0 = 0 }) long
     (λ k lt. ap (λ (x : ℕ). record { 0 = x }) (eqb-true (entry v k .0) 0 (every-at (λ (x : Interval). eqb (x .0) 0) v k (record { 0 = 0 }) (omega arith) e)))
     ∙ sym (table-replicate 16 (record { 0 = 0 }))
-
-nothing-is : (pin : Pin) → isNothing pin ≡ true → pin ≡ Nothing
-unfolding isNothing
-nothing-is Nothing e = refl
-nothing-is (At a) e = absurd (let z : _≡_ {A = ℕ} 0 1 = cc in omega arith)
 
 pub no-pins : (pins : List Pin) → nothingFrom 0 pins ≡ true → length pins ≡ 16 → pins ≡ noPins
 unfolding nothingFrom

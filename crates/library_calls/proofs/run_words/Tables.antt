@@ -6,8 +6,7 @@ use lib.Seq.{set-getD}
 use Rattle.laws.specs.{Lists.select, Lists.table, Lists.placed, Loops.setBelow, Loops.below-length, Loops.below-above, Loops.below-at, Prefixes.placed-more}
 use Rattle.laws.specs.{Rows.by-lt, Select.select-append, Select.select-one, Select.select-length, Update.upd, Update.upd-same, Update.upd-other, Truth.and-out}
 use Rattle.laws.specs.Tables.{length-table, getD-table, table-is, table-same, table-set, table-replicate}
-use Rattle.model.specs.declared.{Checkpoint.Checkpoint, Message.Message}
-use Rattle.model.specs.Words.{mostProcesses, noCheckpoint, noMessage}
+use Rattle.model.specs.{declared.Checkpoint.Checkpoint, declared.Message.Message, Words.mostProcesses, Words.noCheckpoint, Words.noMessage}
 use Rattle.words.specs.Layout.{word, keptCountAt, indexAt, countOf, checkpointIn, isKeptIn, keptIn, messageIn, isMessage, ofProcesses}
 
 -- A row for each process.
@@ -26,14 +25,6 @@ module _ (w : List ℕ) where
 
   unfoldable pub soFar : ℕ → List (List Checkpoint)
   soFar q = table 16 (λ p. table 16 (placeAt q p))
-
-  pub so-far-length : (q : ℕ) → length (soFar q) ≡ 16
-  unfolding soFar
-  so-far-length q = length-table 16 _
-
-  pub so-far-row : (q p : ℕ) → p < 16 → length (getD (soFar q) p []) ≡ 16
-  unfolding soFar
-  so-far-row q p lt = ap length (getD-table 16 (λ j. table 16 (placeAt q j)) p [] lt) ∙ length-table 16 _
 
   so-far-none : replicate 16 (replicate 16 noCheckpoint) ≡ soFar 0
   unfolding soFar

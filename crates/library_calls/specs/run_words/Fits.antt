@@ -3,9 +3,8 @@
 use Rattle.laws.specs.Basics.{Bool, true, false, not, _&&_, List, [], ℕ, _/_, _%_, eqb, ltb, leb, getD, pick}
 use Rattle.laws.specs.Search.{allBelow}
 use Rattle.model.specs.declared.{Interval.Interval, CheckpointIndex.CheckpointIndex, Pin.Pin, Pin.the-variants.Nothing, Pin.the-variants.At, Message.Message}
-use Rattle.model.specs.declared.{Checkpoint.Checkpoint, Run.Run}
+use Rattle.model.specs.{declared.Checkpoint.Checkpoint, declared.Run.Run, Sound.zeroFrom, Sound.nothingFrom, Sound.unusedCheckpoint, Sound.unusedMessage}
 use Rattle.model.specs.Words.{mostProcesses, mostUnderWay, pastEnd, mostInterval, keptPlaces}
-use Rattle.model.specs.Sound.{zeroFrom, nothingFrom, unusedCheckpoint, unusedMessage}
 
 -- What a read past the end of the messages gives, in the declared types.
 abbrev pub pastMessages : Message

@@ -1,7 +1,7 @@
 // The far end: the first process whose least reached row does not know the near end.
 use crate::decision::NO_ROW;
 use model::PROCESSES;
-ghost use Rattle.laws.specs.Basics.{_≡_, _+_, _*_, _≤_, _<_, length};
+ghost use Rattle.laws.specs.Basics.{_≡_, _+_, _*_, _≤_, _<_};
 ghost use Rattle.model.specs.Words.{mostProcesses};
 ghost use Rattle.library_judge.specs.decision.Far.{Reaching, FarEnd};
 

@@ -1,9 +1,6 @@
 -- `library_readers::carried_on` meets its contract. Assumes nothing.
-use Rattle.laws.specs.Basics.{_≡_, refl, sym, _∙_, ap, List, none, some, ℕ, zero, suc, _≤_, _<_, arith, needs}
-use Rattle.whole_runs.specs.Outcomes.{accepting}
-use Rattle.listing.specs.answers.Codes.{coded, valueCode}
+use Rattle.laws.specs.Basics.{_≡_, refl, sym, _∙_, ap, ℕ, zero, suc, _≤_, _<_, arith, needs}
 use Rattle.words.proofs.ViewSound.{sound-words}
-use Rattle.library_readers.specs.Readings.{Reading}
 use Rattle.words.specs.declared.messages.Found.the-variants.{Nothing, At}
 use Rattle.words.specs.messages.Places.{placeOf, foundAt}
 use Rattle.in_place.proofs.Losing.{place-in}

@@ -1,12 +1,8 @@
 -- `library_readers::kept_on` meets its contract. Assumes nothing.
-use Rattle.laws.specs.Basics.{_≡_, refl, sym, _∙_, ap, List, none, some, ℕ, _≤_, _<_, arith, needs}
-use Rattle.whole_runs.specs.Outcomes.{accepting}
-use Rattle.listing.specs.answers.Codes.{coded, valueCode}
+use Rattle.laws.specs.Basics.{_≡_, refl, _∙_, ap, _≤_, _<_, arith, needs}
 use Rattle.words.specs.Layout.{word}
 use Rattle.words.proofs.ViewSound.{sound-words}
-use Rattle.library_readers.specs.Readings.{Reading}
-use Rattle.library_readers.proofs.Readings.{answer-is, nothing-reported, refusedBy, read, kept-short, kept-absent, kept-read}
-use Rattle.library_readers.proofs.kept_on.Statement.{statement}
+use Rattle.library_readers.proofs.{Readings.answer-is, Readings.kept-short, Readings.kept-absent, Readings.kept-read, kept_on.Statement.statement}
 use Rattle.library_readers.proofs.kept_on.Tie as tie
 
 mul-if1 : tie.Need-mul-if1

@@ -1,10 +1,7 @@
 -- `library_readers::messages_on` meets its contract. Assumes nothing.
-use Rattle.laws.specs.Basics.{_≡_, refl, sym, _∙_, ap, List, none, some, ℕ, _≤_, _<_, arith, needs}
-use Rattle.whole_runs.specs.Outcomes.{accepting}
-use Rattle.listing.specs.answers.Codes.{coded, valueCode}
+use Rattle.laws.specs.Basics.{_≡_, refl, _∙_, _≤_, _<_, arith, needs}
 use Rattle.words.proofs.ViewSound.{sound-words}
-use Rattle.library_readers.specs.Readings.{Reading}
-use Rattle.library_readers.proofs.Readings.{answer-is, nothing-reported, refusedBy, read, messages-few, messages-short, messages-read}
+use Rattle.library_readers.proofs.Readings.{answer-is, messages-few, messages-short, messages-read}
 use Rattle.library_readers.proofs.messages_on.Statement.{statement}
 use Rattle.library_readers.proofs.messages_on.Tie as tie
 

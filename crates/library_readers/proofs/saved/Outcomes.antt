@@ -1,8 +1,6 @@
 -- What saving and loading answer and leave, in each of their cases.
 -- Assumes nothing.
-use Rattle.laws.specs.Basics.{_≡_, refl, sym, _∙_, ap, true, false, List, _++_, append-nil, Option, none, some, ℕ, _+_, _≤_, _<_, arith, length, getD, drop, sets, eq-eqb, ne-eqb, lt-ltb, le-ltb}
-use lib.Seq.{drop-length, ext-getD}
-use Rattle.laws.specs.{Front.written-front, Tables.length-table, Tables.getD-table}
+use Rattle.laws.specs.Basics.{_≡_, refl, _∙_, true, false, List, _++_, Option, none, some, ℕ, _+_, _≤_, _<_, length, eq-eqb, ne-eqb, lt-ltb, le-ltb}
 use Rattle.model.specs.declared.Refusal.the-variants.{UnsoundState, ListTooShort}
 use Rattle.model.specs.Sound.{sound}
 use Rattle.whole_runs.specs.Outcomes.{accepting}

@@ -1,5 +1,5 @@
 -- `library_readers::write_checkpoint` meets its contract. Assumes nothing.
-use Rattle.laws.specs.Basics.{_≡_, refl, sym, _∙_, ap, List, [], _∷_, ℕ, _*_, _≤_, arith, sets, needs}
+use Rattle.laws.specs.Basics.{_≡_, _∙_, ap, List, [], _∷_, ℕ, _*_, _≤_, sets, needs}
 use Rattle.model.specs.declared.CheckpointIndex.{CheckpointIndex}
 use Rattle.words.specs.Layout.{word, indexAt, causeAt, blocksAt, indexOf, checkpointIn}
 use Rattle.library_readers.specs.Written.{threeStored}

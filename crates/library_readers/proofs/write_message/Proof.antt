@@ -1,6 +1,5 @@
 -- `library_readers::write_message` meets its contract. Assumes nothing.
-use Rattle.laws.specs.Basics.{_≡_, refl, sym, _∙_, ap, true, false, List, [], _∷_, ℕ, _+_, _*_, sets, needs, eq-eqb, ne-eqb, pick}
-use Rattle.model.specs.declared.Message.{Message}
+use Rattle.laws.specs.Basics.{_≡_, refl, sym, _∙_, ap, List, [], _∷_, ℕ, _+_, _*_, sets, needs, eq-eqb, ne-eqb, pick}
 use Rattle.words.specs.Layout.{word, senderAt, receiverAt, messageIn, isMessage}
 use Rattle.library_readers.specs.Written.{threeOf}
 use Rattle.library_readers.proofs.write_message.Statement.{statement}

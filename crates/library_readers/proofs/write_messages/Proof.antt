@@ -1,5 +1,5 @@
 -- `library_readers::write_messages` meets its contract. Assumes nothing.
-use Rattle.laws.specs.Basics.{_≡_, refl, sym, _∙_, ap, List, ℕ, _+_, _-_, _*_, _≤_, arith, length, sets, needs}
+use Rattle.laws.specs.Basics.{_≡_, refl, _∙_, List, ℕ, _+_, _-_, _*_, _≤_, arith, length, sets, needs}
 use Rattle.laws.specs.{Lists.select, Lists.table, Select.select-length, Tables.length-table}
 use Rattle.words.specs.Layout.{messageIn, isMessage}
 use Rattle.library_readers.specs.{Readings.sentNumbers, Written.messagesBelow}

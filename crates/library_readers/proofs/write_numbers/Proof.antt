@@ -1,6 +1,6 @@
 -- `library_readers::write_numbers` meets its contract. Assumes nothing.
-use Rattle.laws.specs.Basics.{_≡_, refl, sym, _∙_, ap, List, [], _∷_, ℕ, arith, set, length-set, sets, needs}
-use Rattle.words.specs.Layout.{word, wide2, wide4, countOf}
+use Rattle.laws.specs.Basics.{_≡_, _∙_, List, [], _∷_, ℕ, arith, set, length-set, sets, needs}
+use Rattle.words.specs.Layout.{word, wide2, wide4}
 use Rattle.library_readers.specs.Written.{numbersIn}
 use Rattle.library_readers.proofs.write_numbers.Statement.{statement}
 use Rattle.library_readers.proofs.write_numbers.Tie as tie

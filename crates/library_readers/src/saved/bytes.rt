@@ -2,7 +2,7 @@
 use words::WORDS;
 ghost use Rattle.laws.specs.Basics.{_≡_, [], _∷_, _+_, _*_, _≤_, _<_, length, sets};
 ghost use Rattle.words.specs.Layout.{stateSize};
-ghost use Rattle.library_readers.specs.saved.Format.{heading, wordBytes, sumBytes, savedBytes, wordIn, wordsIn, sumIn, hasHeading, hasSum, isWhole, savedSize, summedSize};
+ghost use Rattle.library_readers.specs.saved.Format.{heading, wordBytes, sumBytes, savedBytes, wordIn, wordsIn, sumIn, hasHeading, isWhole, savedSize, summedSize};
 
 // How many bytes the heading has, how many the checksum is of, and how many there are.
 const HEADING: usize = 10;

@@ -24,10 +24,6 @@ module _ {A : Type 0} (own : Option Refusal) (outcome short : Outcome A) (bytes 
   unfolding recording
   refused-way x h = rw h
 
-  short-way : own ≡ none → length bytes ≡ 4 → ltb (length buffer - place) 4 ≡ true → recording own outcome short bytes buffer place ≡ unwritten short buffer place
-  unfolding recording
-  short-way h four b = rw (h, four, b)
-
   done-way : own ≡ none → length bytes ≡ 4 → ltb (length buffer - place) 4 ≡ false → recording own outcome short bytes buffer place ≡ appended outcome bytes buffer place
   unfolding recording
   done-way h four b = rw (h, four, b)
@@ -123,11 +119,6 @@ module _ (s : Run) (i j : ℕ) (buffer : List ℕ) (place : ℕ) where
   unfolding recordedSend
   send-done ok four b = done-way (sendRefusal s i j) (sendOutcome s i j) _ (recordBytes (Send i j)) buffer place ok four b
 
-  pub send-short : sendRefusal s i j ≡ none → length (recordBytes (Send i j)) ≡ 4 → ltb (length buffer - place) 4 ≡ true
-      → recordedSend s i j buffer place ≡ unwritten (record { run = s; answer = send-answer.Refused BufferTooShort; rose = 0; deleted = []; line = [] }) buffer place
-  unfolding recordedSend
-  send-short ok four b = short-way (sendRefusal s i j) (sendOutcome s i j) _ (recordBytes (Send i j)) buffer place ok four b
-
   -- Without room: the state as it came, and the answer of the call's own refusal, else 21.
   pub send-without : (answer : SendAnswer) → ltb (length buffer - place) 4 ≡ true
       → answer ≡ judged (sendRefusal s i j) (λ x. send-answer.Refused x) (send-answer.Refused BufferTooShort)
@@ -185,11 +176,6 @@ module _ (s : Run) (m : ℕ) (buffer : List ℕ) (place : ℕ) where
       → recordedLose s m buffer place ≡ appended (loseOutcome s m) (recordBytes (Lose m)) buffer place
   unfolding recordedLose
   lose-done ok four b = done-way (loseRefusal s m) (loseOutcome s m) _ (recordBytes (Lose m)) buffer place ok four b
-
-  pub lose-short : loseRefusal s m ≡ none → length (recordBytes (Lose m)) ≡ 4 → ltb (length buffer - place) 4 ≡ true
-      → recordedLose s m buffer place ≡ unwritten (record { run = s; answer = lose-answer.Refused BufferTooShort; rose = 0; deleted = []; line = [] }) buffer place
-  unfolding recordedLose
-  lose-short ok four b = short-way (loseRefusal s m) (loseOutcome s m) _ (recordBytes (Lose m)) buffer place ok four b
 
   -- Without room: the state as it came, and the answer of the call's own refusal, else 21.
   pub lose-without : (answer : LoseAnswer) → ltb (length buffer - place) 4 ≡ true

@@ -2,8 +2,7 @@
 -- Assumes nothing.
 use Rattle.laws.specs.Basics.{_≡_, sym, _∙_, ap, [], _∷_, ℕ, _%_, _≤_, _<_, arith, needs, pick}
 use native.Mathlib.Nat.{mod-lt}
-use Rattle.model.specs.declared.{Run.Run, Event.the-variants.Checkpoint}
-use Rattle.model.specs.Sound.{sound}
+use Rattle.model.specs.{declared.Run.Run, declared.Event.the-variants.Checkpoint, Sound.sound}
 use Rattle.theory_recording.specs.{Replay.stateAfterEvents, spacing.Trial.Trial, spacing.Spacing.stepEvents}
 use Rattle.words.specs.Layout.{runOf}
 use Rattle.words.proofs.{View.count-is, ViewSound.sound-fits}

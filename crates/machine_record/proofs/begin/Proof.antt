@@ -1,5 +1,5 @@
 -- `machine_record::begin` meets its contract. Assumes nothing.
-use Rattle.laws.specs.Basics.{_≡_, refl, sym, _∙_, ap, arith, length, needs}
+use Rattle.laws.specs.Basics.{_≡_, refl, _∙_, arith, needs}
 use Rattle.machine_record.proofs.{Arriving.arrives-counting, Stepping.enoughRoom, Stepping.room-kept, Stepping.begin-stands, begin.Statement.statement}
 use Rattle.machine_record.proofs.begin.Tie as tie
 

@@ -1,6 +1,6 @@
 -- The word `all`, byte by byte.
 -- Assumes nothing.
-use Rattle.laws.specs.Basics.{_≡_, refl, true, false, _&&_, List, [], _∷_, ℕ, arith, eqb, length, getD, by-bool}
+use Rattle.laws.specs.Basics.{_≡_, refl, false, _&&_, List, [], _∷_, ℕ, arith, eqb, length, getD, by-bool}
 use Rattle.laws.specs.Tests.{same}
 
 -- A word of three bytes is the same if each byte is.

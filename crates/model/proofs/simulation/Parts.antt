@@ -4,9 +4,8 @@ use Rattle.laws.specs.Basics.{_≡_, refl, sym, _∙_, ap, subst, false, List, 
 use native.Mathlib.Nat.{not-suc-le-zero}
 use lib.Seq.{set-set, set-comm}
 use Rattle.laws.specs.{Lists.placed, Tables.take-placed, Update.upd, Update.upd-same, Update.upd-other}
-use Rattle.model.specs.declared.{Message.Message, Disk.Disk, Run.Run}
+use Rattle.model.specs.{declared.Message.Message, declared.Disk.Disk, declared.Run.Run, Steps.withProcesses}
 use Rattle.model.specs.Words.{mostProcesses, mostUnderWay, Process, zeroVector, noPins, noCheckpoint, noMessage, blank, process, withProcess, underWay, withMessages, withDisk}
-use Rattle.model.specs.Steps.{withProcesses}
 
 -- One process's part put in twice, and two processes' parts put in.
 pub put-put : (s : Run) (p : ℕ) (P Q : Process) → withProcess (withProcess s p P) p Q ≡ withProcess s p Q

@@ -4,9 +4,8 @@ use Rattle.laws.specs.Basics.{_≡_, refl, _∙_, Bool, true, false, not, List,
 use native.Mathlib.Nat.{not-suc-le-zero}
 use lib.Seq.{drop-set-lt, drop-append-seam}
 use Rattle.laws.specs.{Lists.placed, Search.allBelow, Search.all-in, Tests.every, Elements.every-drop, Elements.every-from, Elements.every-replicate}
-use Rattle.model.specs.declared.{Pin.the-variants.Nothing, Checkpoint.Checkpoint, Run.Run}
+use Rattle.model.specs.{declared.Pin.the-variants.Nothing, declared.Checkpoint.Checkpoint, declared.Run.Run, Steps.withProcesses}
 use Rattle.model.specs.Words.{mostProcesses, mostUnderWay, Process, zeroVector, noPins, noCheckpoint, noMessage, blank, withProcess, underWay, withMessages, withDisk}
-use Rattle.model.specs.Steps.{withProcesses}
 use Rattle.model.specs.Sound.{zeroFrom, unusedCheckpoint, unusedMessage, isNothing, nothingFrom, rowUnused, unusedSound}
 use Rattle.histories.proofs.Run.{Ideal}
 use Rattle.model.proofs.simulation.View.{vectorOf, pinsOf, checkpointOf, keptOf, processOf, messageOf, messagesOf, partsOf, stateOf}

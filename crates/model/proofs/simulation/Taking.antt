@@ -2,8 +2,7 @@
 -- Assumes nothing.
 use Rattle.laws.specs.Basics.{_≡_, refl, sym, _∙_, ap, Bool, true, false, not, _&&_, ℕ, suc, _≤_, _<_, max, arith, ltb, getD, leb-true, leb-false, pick, by-bool}
 use Rattle.laws.specs.{Choice.pick-same, Ranges.any-same, Ranges.any-wider, Search.anyBelow, Tables.table-same, Update.upds}
-use Rattle.model.specs.declared.{Pin.Pin, Pin.the-variants.Nothing}
-use Rattle.model.specs.Words.{mostProcesses, entry, below, Process}
+use Rattle.model.specs.{declared.Pin.Pin, declared.Pin.the-variants.Nothing, Words.mostProcesses, Words.entry, Words.below, Words.Process}
 use Rattle.model.specs.Steps.{settled, gone, takenEntry, takenVector, takenPin, takenPins}
 use Rattle.histories.proofs.Run.{Ideal, Ledger, keeps, takenBy, takenIn}
 use Rattle.histories.proofs.TakenInViews.{takenIn-n, takenIn-own, takenIn-live, takenIn-vector, takenIn-mark, takenIn-keeps-old}

@@ -1,5 +1,5 @@
 -- `record::drive` meets its contract: the loop goes through states of the machine, and ends where it stops. Assumes nothing.
-use Rattle.laws.specs.Basics.{_≡_, refl, sym, _∙_, arith, length, needs}
+use Rattle.laws.specs.Basics.{_≡_, refl, sym, _∙_, length, needs}
 use Rattle.machine_record.specs.Lent.{stateOf}
 use Rattle.machine_record.proofs.Stepping.{room-kept}
 use Rattle.machine_record.proofs.Driving.{left, Driven, driven-first, driven-next, driven-less, driven-ends}

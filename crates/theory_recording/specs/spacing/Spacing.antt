@@ -9,8 +9,7 @@ use Rattle.model.specs.{Words.mostProcesses, Words.mostUnderWay, Words.ones, Wo
 use Rattle.whole_runs.specs.{Outcomes.judged, Outcomes.Report, Outcomes.refusing, Outcomes.accepting, Calls.Reply, Listing.stateAfterRecords, Listing.listing}
 use Rattle.whole_runs.specs.WholeRuns.{Reachable}
 use Rattle.theory_recording.specs.Replay.{recordsOf, stateAfterEvents, EventReply, performed, repliesOf, noneRefused, paired, linesOf}
-use Rattle.theory_recording.specs.spacing.Trial.{Trial}
-use Rattle.theory_recording.specs.declared.{spacing.TrialAnswer.TrialAnswer, spacing.TrialResult.TrialResult}
+use Rattle.theory_recording.specs.{spacing.Trial.Trial, declared.spacing.TrialAnswer.TrialAnswer, declared.spacing.TrialResult.TrialResult}
 use Rattle.theory_recording.specs.declared.spacing.TrialAnswer.the-variants as trial-answer
 
 -- "The generator takes the last value, multiplies by 1,664,525, adds 1,013,904,223 and keeps the low 32 bits": 4,294,967,296 is 2 to the power 32.

@@ -2,8 +2,7 @@
 -- Assumes nothing.
 use Rattle.laws.specs.Basics.{_≡_, _∙_, ap, Bool, true, false, _&&_, List, ℕ, ltb, replicate, needs, lt-ltb, le-ltb}
 use Rattle.laws.specs.Truth.{and-both, and-no-right}
-use Rattle.model.specs.declared.{Fields.Fields, Event.Event}
-use Rattle.model.specs.Trace.{fieldsOf, fits, wordOf, bytesOf, encoded}
+use Rattle.model.specs.{declared.Fields.Fields, declared.Event.Event, Trace.fieldsOf, Trace.fits, Trace.wordOf, Trace.bytesOf, Trace.encoded}
 use Rattle.model.proofs.Records.{kind-small}
 use Rattle.trace.specs.Answers.{recordOf}
 use Rattle.trace.proofs.encode.Statement.{statement}

@@ -3,8 +3,7 @@
 use Rattle.laws.specs.Basics.{_≡_, Bool, true, List, [], _∷_, _++_, ℕ, zero, suc, _+_, _*_, _≤_, _<_, eqb, ltb, length, drop, pick}
 use denote.Ref.{RefT, now}
 use Rattle.laws.specs.Tests.{every}
-use Rattle.model.specs.declared.{Run.Run, Refusal.the-variants.LeftOverBytes}
-use Rattle.model.specs.Trace.{decoded}
+use Rattle.model.specs.{declared.Run.Run, declared.Refusal.the-variants.LeftOverBytes, Trace.decoded}
 use Rattle.whole_runs.specs.Listing.{perform, lineText, refusalText, mostRecords, goesOn, records, stateAfterRecords}
 use Rattle.trace.specs.declared.reader.Reader.{Reader}
 use Rattle.trace.specs.reader.Reading.{recordAfter, recordLeft, newReader, readerAfter}

@@ -3,8 +3,7 @@
 -- Assumes nothing.
 use Rattle.laws.specs.Basics.{_≡_, sym, _∙_, ap, true, _&&_, ℕ, _-_, _*_, _<_, arith, eqb, eq-eqb}
 use Rattle.laws.specs.{Counting.count-same, Sums.sumBelow, Sums.sum-same, Tests.countBelow, Tests.every, Truth.and-both}
-use Rattle.model.specs.declared.{Disk.Disk, Run.Run}
-use Rattle.model.specs.Words.{process}
+use Rattle.model.specs.{declared.Disk.Disk, declared.Run.Run, Words.process}
 use Rattle.histories.specs.History.{Lists, checkpoints}
 use Rattle.whole_runs.specs.{Survival.Surviving, WholeRuns.BlocksAreRight}
 use Rattle.histories.proofs.{Run.Ideal, Run.keeps, Counted.keptIn}

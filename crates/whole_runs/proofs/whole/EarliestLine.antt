@@ -4,9 +4,8 @@ use Rattle.laws.specs.Basics.{_≡_, refl, sym, _∙_, ap, Bool, true, false, _
 use mathlib.Core.List.{List·Memᴰ, List·Memᴰ·head, List·Memᴰ·tail, List·Memᴰ·cases-cons, List·Memᴰ·not-nil}
 use mathlib.Core.Option.{Option·map}
 use Rattle.laws.specs.{Lists.select, Lists.orElse, Lists.lastOf, Members.none-of, Search.latest-is, Tests.some-of, Truth.and-both, Truth.and-no-right}
-use Rattle.model.specs.declared.{Checkpoint.Checkpoint, Named.Named, Run.Run}
+use Rattle.model.specs.{declared.Checkpoint.Checkpoint, declared.Named.Named, declared.Run.Run, laws.Refusals.no-rule}
 use Rattle.model.specs.Words.{mostProcesses, entry, comesBefore, noCheckpoint, Process, process, keepsIn}
-use Rattle.model.specs.laws.Refusals.{no-rule}
 use Rattle.whole_runs.specs.Earliest.{isNamed, namedVector, greatest, someAbsent, repeats, unfit, notKept, someOrdered, earliestRefusal}
 use Rattle.histories.proofs.{Run.Ideal, Run.keeps, Invariant.Inv, Line.keeps-below, Earliest.Topped}
 use Rattle.model.proofs.simulation.View.{vectorOf, checkpointOf, keptOf, processOf, stateOf}

@@ -28,21 +28,21 @@ gather-only (suc n) i f lt h = by-eq n i
     (λ ne. rw (h n (omega arith) ne) (append-nil (gather n f) ∙ gather-only n i f (omega arith) (λ k less. h k (omega arith))))
 
 -- The numbers of the pairs, of lists in a row.
-pairs-append : (a b : List Deletion) → pairs (a ++ b) ≡ pairs a ++ pairs b
+pub pairs-append : (a b : List Deletion) → pairs (a ++ b) ≡ pairs a ++ pairs b
 unfolding pairs
 pairs-append [] b = refl
 pairs-append (d ∷ a) b = rw (pairs-append a b)
 
-pairs-gather : (n : ℕ) (f : ℕ → List Deletion) → pairs (gather n f) ≡ gather n (λ p. pairs (f p))
+pub pairs-gather : (n : ℕ) (f : ℕ → List Deletion) → pairs (gather n f) ≡ gather n (λ p. pairs (f p))
 unfolding gather pairs
 pairs-gather zero f = refl
 pairs-gather (suc n) f = rw (pairs-append (gather n f) (f n), pairs-gather n f)
 
 -- The numbers p, k of the checkpoints k that pass a test.
-abbrev pairIf : ℕ → (ℕ → Bool) → ℕ → List ℕ
+abbrev pub pairIf : ℕ → (ℕ → Bool) → ℕ → List ℕ
 pairIf p t k = pick (t k) (p ∷ k ∷ []) []
 
-listed-pairs : (r : Ideal) (p m : ℕ) (t : ℕ → Bool) → pairs (listed p (passing m t (checkpointOf r p))) ≡ gather m (pairIf p t)
+pub listed-pairs : (r : Ideal) (p m : ℕ) (t : ℕ → Bool) → pairs (listed p (passing m t (checkpointOf r p))) ≡ gather m (pairIf p t)
 unfolding listed passing gather pairs checkpointOf
 listed-pairs r p zero t = refl
 listed-pairs r p (suc m) t = by-bool (t m)

@@ -2,9 +2,8 @@
 -- the history agrees. Here: the start, and that a refused call changes nothing.
 -- Assumes nothing.
 use Rattle.laws.specs.Basics.{_≡_, false, Option, some, ℕ, arith, eqb, ne-eqb}
-use Rattle.model.specs.declared.{Run.Run, Refusal.Refusal}
+use Rattle.model.specs.{declared.Run.Run, declared.Refusal.Refusal, laws.Refusals.number-range}
 use Rattle.model.specs.Refusals.{number, checkpointRefusal, sendRefusal, deliverRefusal, loseRefusal, lineRefusal, recoverRefusal}
-use Rattle.model.specs.laws.Refusals.{number-range}
 use Rattle.whole_runs.specs.Outcomes.{checkpointOutcome, sendOutcome, deliverOutcome, loseOutcome, lineOutcome, recoverOutcome, checkpointReport, sendReport, deliverReport, loseReport, lineReport, recoverReport}
 use Rattle.whole_runs.specs.{Earliest.earliestRefusal, Earliest.earliestOutcome, Survival.Surviving, Survival.after}
 use Rattle.whole_runs.specs.Calls.{Call, checkpoint, send, deliver, lose, recover, line, earliest, Exchange, answered, call}

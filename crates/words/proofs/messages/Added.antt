@@ -1,10 +1,10 @@
 -- A message put after those under way.
 -- Assumes nothing.
-use Rattle.laws.specs.Basics.{_≡_, refl, sym, _∙_, ap, Bool, true, false, not, _&&_, _||_, List, [], _∷_, _++_, ℕ, zero, suc, _+_, _-_, _*_, _≤_, _<_, arith, eqb, leb, length, le-leb}
+use Rattle.laws.specs.Basics.{_≡_, refl, _∙_, ap, true, _&&_, _||_, List, [], _∷_, _++_, ℕ, _+_, _-_, _*_, _≤_, _<_, arith, eqb, leb, length, le-leb}
 use native.Mathlib.Numerals.{add-one}
 use Rattle.laws.specs.{Lists.select, Lists.table, Tables.table-same, Truth.and-both, Truth.or-in-right}
 use Rattle.model.specs.declared.Message.{Message}
-use Rattle.words.specs.Layout.{stateSize, word, endOf, lowAt, highAt, senderAt, receiverAt, carriedAt, messageIn, isMessage, messagesIn, endFits}
+use Rattle.words.specs.Layout.{stateSize, word, endOf, messageIn, isMessage, messagesIn, endFits}
 use Rattle.words.specs.{Puts.Put, Puts.puts, Puts.one, messages.Places.messagePuts, messages.Places.putLast}
 use Rattle.words.proofs.{Reading.puts-length, Reading.untouched, Reading.touched, messages.Selected.select-more}
 use Rattle.words.proofs.messages.Placed.{message-stays, message-put, message-elsewhere}

@@ -1,11 +1,10 @@
 -- The used places closed up: the same messages under way, in the first places.
 -- Assumes nothing.
-use Rattle.laws.specs.Basics.{_≡_, refl, sym, _∙_, ap, Bool, true, false, not, _&&_, _||_, List, [], _∷_, _++_, ℕ, zero, suc, _+_, _-_, _*_, _≤_, _<_, arith, eqb, leb, length, le-leb, pick, by-bool, by-eq}
+use Rattle.laws.specs.Basics.{_≡_, refl, sym, _∙_, ap, true, false, _&&_, _||_, List, [], _∷_, _++_, ℕ, zero, suc, _+_, _-_, _*_, _≤_, _<_, arith, length, by-bool, by-eq}
 use Rattle.laws.specs.{Elements.every-table, Lists.select, Lists.table, Select.all-chosen, Tables.table-same, Tables.length-table}
-use Rattle.laws.specs.Truth.{and-both, or-in-right}
 use Rattle.model.specs.declared.Message.{Message}
-use Rattle.words.specs.Layout.{stateSize, word, endOf, lowAt, highAt, senderAt, receiverAt, carriedAt, messageIn, isMessage, messagesIn, endFits}
-use Rattle.words.specs.Puts.{Put, puts, one}
+use Rattle.words.specs.Layout.{stateSize, word, endOf, carriedAt, messageIn, isMessage, messagesIn}
+use Rattle.words.specs.Puts.{puts, one}
 use Rattle.words.proofs.{Reading.puts-length, Reading.untouched, Reading.touched, Same.vector-length}
 use Rattle.words.specs.messages.Places.{Closing, messagePuts, clearPuts, cleared, movedTo, closeStep, closing, clearedFrom, closedUp}
 use Rattle.words.proofs.messages.Selected.{select-more, select-less}
@@ -182,13 +181,3 @@ module _ (w : List ℕ) (long : length w ≡ stateSize) (full : endOf w ≡ 64) 
     where
       messages-length : length (select isMessage (table (endOf w) (messageIn w))) ≡ length (messagesIn w)
       messages-length = as-messages w
-
-  pub closed-fits : endFits then ≡ true
-  unfolding endFits
-  closed-fits = rw closed-end (and-both (leb (c .many) 64) _ (le-leb (c .many) 64 (h .many)) (last-used (c .many) refl))
-    where
-      last-used : (e : ℕ) → c .many ≡ e → (eqb e 0 || isMessage (messageIn then (e - 1))) ≡ true
-      last-used zero q = refl
-      last-used (suc e) q =
-          let same : suc e - 1 ≡ e = omega arith in
-          or-in-right (eqb (suc e) 0) _ (ap (λ j. isMessage (messageIn then j)) same ∙ ap isMessage (in-place e (omega (arith, q))) ∙ h .used e (omega (arith, q)))

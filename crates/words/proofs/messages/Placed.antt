@@ -1,13 +1,10 @@
 -- A message that was put into its place is read there; the messages in other places stay; a place that was cleared is unused.
 -- Assumes nothing.
-use Rattle.laws.specs.Basics.{_≡_, refl, sym, _∙_, ap, Bool, true, false, not, List, [], _∷_, _++_, ℕ, zero, suc, _+_, _-_, _*_, _/_, _%_, _≤_, _<_, arith, eqb, length, pick}
+use Rattle.laws.specs.Basics.{_≡_, refl, _∙_, List, [], _∷_, _++_, ℕ, _+_, _-_, _*_, _/_, _%_, _≤_, _<_, arith, length}
 use Rattle.model.specs.declared.Message.{Message}
-use Rattle.model.specs.Words.{noMessage}
-use Rattle.words.specs.Layout.{stateSize, word, endOf, lowAt, highAt, senderAt, receiverAt, carriedAt, messageIn, isMessage}
-use Rattle.words.specs.Puts.{Put, puts, one}
-use Rattle.words.proofs.Reading.{Clear, Hits, puts-length, untouched, touched, wide2-back}
-use Rattle.words.proofs.Same.{message-same, vector-is}
-use Rattle.words.specs.messages.Places.{messagePuts, clearPuts, cleared, takenOut, movedTo, endBelow}
+use Rattle.words.specs.Layout.{stateSize, lowAt, highAt, senderAt, receiverAt, carriedAt, messageIn}
+use Rattle.words.specs.{Puts.Put, Puts.puts, messages.Places.messagePuts, messages.Places.clearPuts, messages.Places.cleared}
+use Rattle.words.proofs.{Reading.Clear, Reading.puts-length, Reading.untouched, Reading.touched, Reading.wide2-back, Same.message-same, Same.vector-is}
 
 -- The words of place j are in none of the puts.
 abbrev pub ClearOf : List Put → ℕ → Type 0

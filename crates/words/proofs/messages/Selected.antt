@@ -1,6 +1,6 @@
 -- The used ones of two tables of messages agree; and which of them has a number.
 -- Assumes nothing.
-use Rattle.laws.specs.Basics.{_≡_, refl, sym, _∙_, ap, Bool, true, false, not, _&&_, List, [], _∷_, _++_, append-nil, Option, none, some, ℕ, zero, suc, _+_, _≤_, _<_, arith, eqb, eq-eqb, ne-eqb, eqb-true, pick, by-bool, by-eq}
+use Rattle.laws.specs.Basics.{_≡_, refl, sym, _∙_, ap, Bool, true, false, _&&_, List, [], _∷_, _++_, append-nil, Option, none, some, ℕ, zero, suc, _+_, _≤_, _<_, arith, eqb, ne-eqb, eqb-true, by-bool}
 use Rattle.laws.specs.{Lists.select, Lists.lastOf, Lists.table, Select.select-append, Select.select-select, Select.lastOf-snoc}
 use Rattle.model.specs.declared.Message.{Message}
 use Rattle.words.specs.{Layout.messageIn, Layout.isMessage, messages.Places.placeBelow, messages.Places.endBelow}

@@ -1,12 +1,11 @@
 -- What is left of the messages under way where one is taken out.
 -- Assumes nothing.
-use Rattle.laws.specs.Basics.{_≡_, refl, sym, _∙_, ap, Bool, true, false, not, _&&_, _||_, List, [], _∷_, _++_, ℕ, zero, suc, _+_, _-_, _*_, _≤_, _<_, arith, eqb, leb, length, length-append, eq-eqb, ne-eqb, eqb-true, le-leb, not-true, pick, by-bool, by-eq}
-use Rattle.laws.specs.{Lists.select, Lists.table, Select.select-select, Tables.table-same, Truth.never-both, Truth.and-both, Truth.or-in-right, Truth.or-left}
+use Rattle.laws.specs.Basics.{_≡_, refl, sym, _∙_, ap, Bool, true, false, not, _&&_, _||_, List, [], _∷_, _++_, ℕ, zero, suc, _+_, _-_, _*_, _≤_, _<_, arith, eqb, leb, length, length-append, eq-eqb, ne-eqb, le-leb, by-bool, by-eq}
+use Rattle.laws.specs.{Lists.select, Lists.table, Select.select-select, Tables.table-same, Truth.never-both, Truth.and-both, Truth.or-in-right}
 use Rattle.model.specs.declared.Message.{Message}
-use Rattle.words.specs.Layout.{stateSize, word, endOf, lowAt, highAt, senderAt, receiverAt, carriedAt, messageIn, isMessage, messagesIn, endFits}
-use Rattle.words.specs.Puts.{Put, puts, one}
+use Rattle.words.specs.Layout.{stateSize, word, endOf, messageIn, isMessage, messagesIn, endFits}
+use Rattle.words.specs.{Puts.Put, Puts.one, messages.Places.clearPuts, messages.Places.cleared, messages.Places.takenOut, messages.Places.endBelow}
 use Rattle.words.proofs.Reading.{puts-length, untouched, touched}
-use Rattle.words.specs.messages.Places.{clearPuts, cleared, takenOut, endBelow}
 use Rattle.words.proofs.messages.Selected.{select-tables, select-more, select-less, walked-back, end-under, end-used}
 use Rattle.words.proofs.messages.Placed.{message-stays, cleared-number, cleared-elsewhere, cleared-length}
 

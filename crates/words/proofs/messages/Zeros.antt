@@ -1,13 +1,13 @@
 -- Places that are not in use are zero again after a message was taken out, put, or the used places were closed up.
 -- Assumes nothing.
-use Rattle.laws.specs.Basics.{_≡_, refl, sym, _∙_, ap, Bool, true, false, not, _&&_, _||_, List, [], _∷_, _++_, ℕ, zero, suc, _+_, _-_, _*_, _≤_, _<_, arith, eqb, ltb, length, eqb-true, lt-ltb, le-ltb, ltb-true, ltb-false, pick, by-bool, by-eq}
-use Rattle.laws.specs.{Rows.by-lt, Truth.never-both, Truth.and-out}
+use Rattle.laws.specs.Basics.{_≡_, refl, _∙_, ap, true, false, _&&_, _||_, List, [], _∷_, _++_, ℕ, zero, suc, _+_, _-_, _*_, _≤_, _<_, arith, ltb, length, lt-ltb, le-ltb, ltb-false, by-bool, by-eq}
+use Rattle.laws.specs.{Rows.by-lt, Truth.never-both}
 use Rattle.model.specs.declared.Message.{Message}
 use Rattle.words.specs.Layout.{stateSize, word, endOf, lowAt, highAt, senderAt, receiverAt, carriedAt, messageIn, isMessage}
 use Rattle.words.specs.{Parts.isUsedIn, Clean.CleanMessages, Puts.Put, Puts.puts, Puts.one}
-use Rattle.words.proofs.{Reading.Clear, Reading.untouched, Reading.touched, Reading.puts-length, messages.Taken.taken-end}
+use Rattle.words.proofs.{Reading.untouched, Reading.touched, messages.Taken.taken-end}
 use Rattle.words.specs.messages.Places.{messagePuts, clearPuts, cleared, endBelow, takenOut, closing, clearedFrom, closedUp, putLast}
-use Rattle.words.proofs.messages.Placed.{ClearOf, message-stays, cleared-length, cleared-elsewhere, message-elsewhere}
+use Rattle.words.proofs.messages.Placed.{ClearOf, message-stays, cleared-elsewhere}
 use Rattle.words.proofs.messages.Closed.{closing-closed, cleared-from, closed-end, closed-used}
 use Rattle.words.proofs.messages.Added.{added-end, added-last, added-elsewhere}
 

@@ -1,8 +1,7 @@
 -- The messages under way in their places of the words: where one is, one taken out, one put after the others, the used places closed up.
 -- Assumes nothing.
-use Rattle.laws.specs.Basics.{Bool, List, [], _∷_, _++_, ℕ, zero, suc, _+_, _-_, _/_, _%_, eqb, pick}
-use Rattle.model.specs.declared.{Interval.Interval, Message.Message}
-use Rattle.model.specs.Words.{mostUnderWay}
+use Rattle.laws.specs.Basics.{List, [], _∷_, _++_, ℕ, zero, suc, _+_, _-_, _/_, _%_, eqb, pick}
+use Rattle.model.specs.{declared.Message.Message, Words.mostUnderWay}
 use Rattle.words.specs.Layout.{word, endOf, lowAt, highAt, senderAt, receiverAt, carriedAt, messageIn, isMessage}
 use Rattle.words.specs.declared.{messages.Found.Found, messages.Found.the-variants.Nothing, messages.Found.the-variants.At}
 use Rattle.words.specs.Puts.{Put, puts, one, vectorPut, zeroPut}

@@ -1,12 +1,12 @@
 -- The copy of a list of named checkpoints: how many they are, the greatest process, and the elements where there is room.
 -- Assumes nothing.
-use Rattle.laws.specs.Basics.{_≡_, refl, sym, _∙_, ap, Bool, true, false, _||_, List, [], _∷_, _++_, ℕ, zero, suc, _+_, _≤_, _<_, max, arith, eqb, ltb, leb, length, getD, take, eq-eqb, ne-eqb, eqb-true, eqb-false, lt-ltb, ltb-false, le-leb, lt-leb, leb-true, leb-false, by-bool}
+use Rattle.laws.specs.Basics.{_≡_, refl, sym, _∙_, ap, Bool, _||_, List, [], _∷_, _++_, ℕ, zero, suc, _+_, _≤_, _<_, max, arith, leb, length, getD, take, lt-ltb, le-leb, lt-leb, leb-true, leb-false, by-bool}
 use native.Mathlib.Numerals.{add-one}
 use lib.Seq.{take-all}
-use Rattle.laws.specs.{Copied.copied, Lists.placed, Loops.any-yes, Loops.any-no, Prefixes.take-more, Prefixes.placed-none, Search.anyBelow, Tables.take-placed}
+use Rattle.laws.specs.{Copied.copied, Lists.placed, Prefixes.take-more, Prefixes.placed-none, Tables.take-placed}
 use Rattle.laws.specs.{Select.some-append, Select.some-one, Tests.some-of}
 use Rattle.model.specs.declared.Named.{Named}
-use Rattle.whole_runs.specs.Earliest.{someAbsent, repeats, unfit}
+use Rattle.whole_runs.specs.Earliest.{someAbsent}
 use Rattle.words_line.specs.declared.earliest.list.Copied.{Copied}
 use Rattle.words_line.specs.earliest.Copying.{noNamed, nothingCopied, withElement, copyTo, copyOf}
 

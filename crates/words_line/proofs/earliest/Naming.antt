@@ -1,16 +1,16 @@
 -- The pairs of a list that was copied: the call says the same of both.
 -- Assumes nothing.
-use Rattle.laws.specs.Basics.{_≡_, refl, sym, _∙_, ap, Bool, true, false, _&&_, _||_, List, [], some, _⊎_, inl, inr, ℕ, zero, suc, _+_, _*_, _/_, _%_, _≤_, _<_, arith, eqb, ltb, leb, length, getD, take, set, replicate, length-set, getD-set-same, getD-set-other, length-take-le, ne-eqb, lt-ltb, le-ltb, ltb-true, ltb-false, le-leb, lt-leb, leb-true, leb-false, pick, by-bool, by-eq}
+use Rattle.laws.specs.Basics.{_≡_, refl, sym, _∙_, ap, Bool, true, false, _&&_, _||_, List, [], some, _⊎_, inl, inr, ℕ, _+_, _*_, _/_, _%_, _≤_, _<_, arith, eqb, ltb, leb, length, getD, take, set, replicate, length-set, getD-set-same, getD-set-other, length-take-le, ne-eqb, lt-ltb, ltb-false, le-leb, lt-leb, leb-false, pick, by-bool, by-eq}
 use lib.Seq.{getD-take}
 use Rattle.laws.specs.{Lists.table, Rows.by-lt, Rows.some-at, Loops.either, Search.anyBelow, Search.any-in, Search.any-out, Truth.never-both}
 use Rattle.laws.specs.Tables.{length-table, getD-table, table-same, table-is, table-replicate}
-use Rattle.model.specs.declared.{Named.Named, Run.Run, Refusal.Refusal, LineAnswer.LineAnswer, LineAnswer.the-variants.Refused}
-use Rattle.model.specs.{Sound.sound, laws.Sound.sound-state}
-use Rattle.whole_runs.specs.{Earliest.someAbsent, Earliest.unfit, Earliest.earliestRefusal, Earliest.earliestOutcome, Outcomes.Outcome}
-use Rattle.words_line.specs.{Through.pairCount, Through.processOf, Through.indexOf, Through.namedAt, Through.namedIn, earliest.Pairs.SameLine}
-use Rattle.words_line.proofs.{Reaching.absent-is, Reaching.unfit-is, earliest.Lists.copy-length, earliest.Lists.copy-process, earliest.Lists.copy-taken}
+use Rattle.model.specs.declared.{Named.Named, Run.Run, Refusal.Refusal, LineAnswer.the-variants.Refused}
+use Rattle.model.specs.{laws.Sound.sound-state}
+use Rattle.whole_runs.specs.{Earliest.someAbsent, Earliest.unfit, Earliest.earliestRefusal, Earliest.earliestOutcome}
+use Rattle.words_line.specs.{Through.pairCount, Through.processOf, Through.namedAt, Through.namedIn, earliest.Pairs.SameLine}
+use Rattle.words_line.proofs.{Reaching.absent-is, earliest.Lists.copy-length, earliest.Lists.copy-process, earliest.Lists.copy-taken}
 use Rattle.words_line.specs.declared.earliest.list.Copied.{Copied}
-use Rattle.words_line.specs.earliest.Copying.{noNamed, copyOf, IsCopy}
+use Rattle.words_line.specs.earliest.Copying.{noNamed, copyOf}
 use Rattle.words_line.proofs.earliest.Calling.{gives-short, gives-absent, gives-unfit}
 
 -- The numbers of m pairs are m pairs.

@@ -5,9 +5,8 @@ use Rattle.laws.specs.Basics.{_≡_, refl, _∙_, ap, Bool, true, List, [], _�
 use native.Mathlib.Nat.{min-eq-left}
 use lib.ListN.{length-take}
 use Rattle.laws.specs.{Lists.placed, Tests.every, Truth.and-left, Truth.and-right, Truth.and-out}
-use Rattle.model.specs.declared.{Interval.Interval, Checkpoint.Checkpoint, Run.Run}
+use Rattle.model.specs.{declared.Interval.Interval, declared.Checkpoint.Checkpoint, declared.Run.Run, Sound.zeroFrom, Sound.unusedCheckpoint, Sound.sound}
 use Rattle.model.specs.{Words.mostProcesses, Words.zeroVector, Words.noCheckpoint, Words.process, Words.underWay, laws.Sound.sound-state}
-use Rattle.model.specs.Sound.{zeroFrom, unusedCheckpoint, sound}
 use Rattle.words_process.specs.receipts.Sized.{Sized}
 use Rattle.words_process.proofs.receipts.Facts.{place, kept-count-places}
 

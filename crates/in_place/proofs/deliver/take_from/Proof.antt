@@ -1,7 +1,6 @@
 -- `in_place::deliver::take_from` meets its contract. Assumes nothing.
 use Rattle.laws.specs.Basics.{_∙_, ap, _<_, arith, needs, pick}
-use Rattle.model.specs.declared.{Interval.Interval, DeliverAnswer.the-variants.Received, DeliverAnswer.the-variants.Forced}
-use Rattle.model.specs.Words.{liveIndex}
+use Rattle.model.specs.{declared.Interval.Interval, declared.DeliverAnswer.the-variants.Received, declared.DeliverAnswer.the-variants.Forced, Words.liveIndex}
 use Rattle.words.specs.Layout.{countOf, messageIn}
 use Rattle.words.proofs.ViewSound.{sound-words, sound-part}
 use Rattle.in_place.proofs.{Delivering.receiver-in, Receiving.taken-at, Receiving.own-early, Receiving.out-there, deliver.take_from.Statement.statement}

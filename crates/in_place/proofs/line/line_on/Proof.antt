@@ -1,7 +1,6 @@
 -- `in_place::line::line_on` meets its contract: the list's length, the verdict on the failed set, then the line. Assumes nothing.
-use Rattle.laws.specs.Basics.{_≡_, refl, sym, _∙_, ap, true, false, List, ℕ, _≤_, arith, ltb, length, needs, ltb-false}
+use Rattle.laws.specs.Basics.{_≡_, refl, sym, _∙_, false, _≤_, arith, ltb, length, needs, ltb-false}
 use Rattle.admissions.specs.declared.Admission.the-variants.{Accepted}
-use Rattle.admissions.specs.Admissions.{recoveryAdmission}
 use Rattle.words.specs.Layout.{countOf}
 use Rattle.words.proofs.ViewSound.{sound-words}
 use Rattle.in_place.proofs.{Lining.refused, Lining.line-short, Lining.line-refused, Lining.line-passed, line.line_on.Statement.statement}

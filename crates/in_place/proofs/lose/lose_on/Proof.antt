@@ -1,7 +1,6 @@
 -- `in_place::lose::lose_on` meets its contract. Assumes nothing.
 use Rattle.laws.specs.Basics.{_≡_, refl, sym, _∙_, true, List, ℕ, suc, arith, needs}
-use Rattle.model.specs.declared.{Refusal.Refusal, LoseAnswer.the-variants.Refused, LoseAnswer.the-variants.Lost}
-use Rattle.model.specs.Sound.{sound}
+use Rattle.model.specs.{declared.Refusal.Refusal, declared.LoseAnswer.the-variants.Refused, declared.LoseAnswer.the-variants.Lost, Sound.sound}
 use Rattle.whole_runs.specs.Outcomes.{loseOutcome}
 use Rattle.words.specs.{Layout.runOf, messages.Places.placeOf, messages.Places.takenOut}
 use Rattle.in_place.specs.Left.{Leaves}

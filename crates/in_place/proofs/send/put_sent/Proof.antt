@@ -1,7 +1,7 @@
 -- `in_place::send::put_sent` meets its contract. Assumes nothing.
-use Rattle.laws.specs.Basics.{_≡_, refl, sym, _∙_, ap, List, [], _∷_, _++_, ℕ, _+_, _*_, _≤_, _<_, arith, length, set, length-set, needs}
-use Rattle.model.specs.declared.{Interval.Interval, Message.Message}
-use Rattle.words.specs.{Layout.word, Layout.wide2, Layout.markAt, Layout.partAt, Layout.vectorIn, Puts.puts, Puts.one, Puts.puts2}
+use Rattle.laws.specs.Basics.{_≡_, _∙_, ap, List, [], _∷_, _++_, ℕ, _+_, _*_, _≤_, _<_, arith, set, length-set}
+use Rattle.model.specs.declared.{Interval.Interval}
+use Rattle.words.specs.{Layout.wide2, Layout.markAt, Layout.partAt, Layout.vectorIn, Puts.puts, Puts.puts2}
 use Rattle.words.proofs.{Reading.set-is-put, ViewSound.sound-words}
 use Rattle.words.specs.messages.Places.{withRoom, putLast}
 use Rattle.in_place.specs.Sending.{sentIn, sentWords}

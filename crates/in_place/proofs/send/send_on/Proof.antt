@@ -2,8 +2,7 @@
 use Rattle.laws.specs.Basics.{_≡_, refl, sym, _∙_, ap, true, List, ℕ, _+_, arith, needs}
 use Rattle.admissions.specs.declared.Admission.the-variants.{Accepted}
 use Rattle.admissions.specs.Admissions.{sendAdmission}
-use Rattle.model.specs.declared.{Refusal.Refusal, SendAnswer.the-variants.Refused, SendAnswer.the-variants.Sent}
-use Rattle.model.specs.Sound.{sound}
+use Rattle.model.specs.{declared.Refusal.Refusal, declared.SendAnswer.the-variants.Refused, declared.SendAnswer.the-variants.Sent, Sound.sound}
 use Rattle.whole_runs.specs.Outcomes.{sendOutcome}
 use Rattle.words.specs.Layout.{word, wide2, countOf, runOf}
 use Rattle.in_place.specs.{Left.Leaves, Sending.sentWords}

@@ -1,5 +1,5 @@
 -- `in_place::start::answer_of` meets its contract. Assumes nothing.
-use Rattle.laws.specs.Basics.{_≡_, refl, sym, _∙_, arith, needs, not-true, not-false}
+use Rattle.laws.specs.Basics.{_≡_, refl, sym, _∙_, needs, not-true, not-false}
 use Rattle.in_place.proofs.Judging.{few, many-processes, other-size, short-counts, outside, fine}
 use Rattle.in_place.proofs.start.answer_of.Statement.{statement}
 use Rattle.in_place.proofs.start.answer_of.Tie as tie

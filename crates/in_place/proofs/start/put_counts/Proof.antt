@@ -1,5 +1,5 @@
 -- `in_place::start::put_counts` meets its contract. Assumes nothing.
-use Rattle.laws.specs.Basics.{_≡_, refl, sym, _∙_, ap, true, List, ℕ, _+_, _-_, _≤_, _<_, arith, leb, length, getD, set, length-set, needs, leb-true}
+use Rattle.laws.specs.Basics.{_≡_, refl, _∙_, List, ℕ, _+_, _-_, _≤_, _<_, arith, leb, length, getD, set, length-set, needs, leb-true}
 use native.Mathlib.Numerals.{add-one}
 use Rattle.laws.specs.{Search.all-out, Truth.and-right}
 use Rattle.model.specs.Sound.{isBlockCount}

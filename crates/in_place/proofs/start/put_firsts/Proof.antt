@@ -1,5 +1,5 @@
 -- `in_place::start::put_firsts` meets its contract. Assumes nothing.
-use Rattle.laws.specs.Basics.{_≡_, refl, sym, _∙_, ap, List, ℕ, _+_, _-_, _*_, _≤_, _<_, arith, length, getD, set, length-set, needs}
+use Rattle.laws.specs.Basics.{_≡_, refl, _∙_, List, ℕ, _+_, _-_, _*_, _≤_, _<_, arith, length, set, length-set, needs}
 use native.Mathlib.Numerals.{add-one}
 use Rattle.words.specs.Layout.{keptCountAt, partAt, pinsAt, indexAt}
 use Rattle.words.proofs.Reading.{set-is-put}

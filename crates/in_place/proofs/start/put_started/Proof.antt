@@ -1,5 +1,5 @@
 -- `in_place::start::put_started` meets its contract. Assumes nothing.
-use Rattle.laws.specs.Basics.{_≡_, refl, sym, _∙_, ap, List, [], _∷_, ℕ, _+_, _≤_, _<_, arith, length, getD, set, length-set, needs}
+use Rattle.laws.specs.Basics.{_≡_, refl, _∙_, ap, List, [], _∷_, ℕ, _+_, _≤_, _<_, arith, length, getD, set, length-set}
 use Rattle.laws.specs.Sums.{sumBelow}
 use Rattle.words.specs.Puts.{puts, puts4}
 use Rattle.words.proofs.Reading.{set-is-put}

@@ -1,13 +1,12 @@
 -- `in_place::start::start` meets its contract. Assumes nothing.
-use Rattle.laws.specs.Basics.{_≡_, refl, sym, _∙_, ap, true, List, [], Option, none, some, ℕ, _≤_, arith, eqb, ltb, length, getD, needs, eq-eqb, ne-eqb, pick}
-use Rattle.laws.specs.Search.{allBelow}
+use Rattle.laws.specs.Basics.{_≡_, refl, sym, _∙_, ap, List, [], none, some, ℕ, _≤_, arith, length, needs, eq-eqb, ne-eqb}
 use Rattle.model.specs.declared.{Refusal.Refusal, StartAnswer.StartAnswer, StartAnswer.the-variants.Refused, StartAnswer.the-variants.Started}
-use Rattle.model.specs.{Sound.isBlockCount, laws.Refusals.by-refusal}
+use Rattle.model.specs.{laws.Refusals.by-refusal}
 use Rattle.whole_runs.specs.WholeRuns.{StartPromise}
 use Rattle.words.specs.{Layout.stateSize, Layout.runOf, Clean.Clean}
 use Rattle.in_place.specs.Starting.{zeros, startedWords, startRefusalIn, startOutcomeIn, startWords}
 use Rattle.in_place.proofs.{Judging.by-answer, Judging.started-promise, start.start.Statement.statement}
-use Rattle.in_place.proofs.Starting.{zeros-length, start-run, start-clean, accepted-few, accepted-size, accepted-long, accepted-counts}
+use Rattle.in_place.proofs.Starting.{start-run, start-clean, accepted-few, accepted-size, accepted-long, accepted-counts}
 use Rattle.in_place.proofs.start.start.Tie as tie
 
 by-refused : (many n : ℕ) (blockCounts : List ℕ) (why : Refusal) → startOutcomeIn many n blockCounts .answer ≡ Refused why → startRefusalIn many n blockCounts ≡ some why

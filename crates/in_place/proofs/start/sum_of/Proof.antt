@@ -1,5 +1,5 @@
 -- `in_place::start::sum_of` meets its contract. Assumes nothing.
-use Rattle.laws.specs.Basics.{_≡_, refl, _∙_, ap, ℕ, _+_, _-_, _*_, _≤_, arith, getD, needs}
+use Rattle.laws.specs.Basics.{_≡_, refl, _∙_, ℕ, _+_, _-_, _*_, _≤_, arith, getD, needs}
 use native.Mathlib.Numerals.{add-one}
 use Rattle.laws.specs.Sums.{sumBelow}
 use Rattle.in_place.proofs.start.sum_of.Statement.{statement}

@@ -1,5 +1,5 @@
 -- `in_place::through::earliest_on` meets its contract: its tests in their order, then the line. Assumes nothing.
-use Rattle.laws.specs.Basics.{_≡_, refl, sym, _∙_, ap, Bool, true, false, _||_, ℕ, _*_, _≤_, arith, eqb, ltb, leb, length, needs, ltb-false}
+use Rattle.laws.specs.Basics.{_≡_, refl, sym, _∙_, ap, false, _||_, ℕ, _*_, _≤_, arith, eqb, ltb, leb, length, needs, ltb-false}
 use Rattle.laws.specs.Search.{anyBelow}
 use Rattle.whole_runs.specs.Earliest.{someAbsent, unfit}
 use Rattle.words.specs.Layout.{countOf}

@@ -1,5 +1,5 @@
 -- `in_place::through::line_through` meets its contract, by whether each named checkpoint is kept and whether two are ordered. Assumes nothing.
-use Rattle.laws.specs.Basics.{_≡_, refl, sym, _∙_, ap, arith, needs, not-true, not-false}
+use Rattle.laws.specs.Basics.{_≡_, refl, sym, _∙_, arith, needs, not-true, not-false}
 use Rattle.words.proofs.ViewSound.{sound-words}
 use Rattle.in_place.proofs.Reached.{refused, few-pairs, pairs-in, searched, all-in, missing-out, within, ordered-out, line-out}
 use Rattle.in_place.proofs.through.line_through.Statement.{statement}

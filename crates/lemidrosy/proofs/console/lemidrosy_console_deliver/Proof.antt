@@ -1,5 +1,5 @@
 -- `lemidrosy::console::lemidrosy_console_deliver` meets its contract. Assumes nothing.
-use Rattle.laws.specs.Basics.{_≡_, _∙_, ap, needs}
+use Rattle.laws.specs.Basics.{_≡_, _∙_, needs}
 use Rattle.listing.specs.answers.Codes.{deliverCode}
 use Rattle.words.specs.Layout.{runOf}
 use Rattle.lemidrosy.proofs.{Consoles.deliver-as-fits, console.lemidrosy_console_deliver.Statement.statement}

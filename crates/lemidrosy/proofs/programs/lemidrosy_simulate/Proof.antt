@@ -1,6 +1,6 @@
 -- `lemidrosy::programs::lemidrosy_simulate` meets its contract: the list's length, then the simulation. Note 10 is a theorem of `spacing`.
 -- Assumes nothing.
-use Rattle.laws.specs.Basics.{_≡_, refl, sym, _∙_, ap, List, ℕ, _≤_, _<_, length, needs, lt-ltb, le-ltb}
+use Rattle.laws.specs.Basics.{_≡_, refl, _∙_, List, ℕ, _≤_, _<_, length, needs, lt-ltb, le-ltb}
 use Rattle.model.specs.Refusals.{number}
 use Rattle.listing.specs.answers.Codes.{coded, valueCode}
 use Rattle.theory_recording.specs.declared.spacing.TrialResult.{TrialResult}

@@ -1,5 +1,5 @@
 -- `lemidrosy::programs::merge_code` meets its contract, by the cases of the answer. Assumes nothing.
-use Rattle.laws.specs.Basics.{_≡_, refl, arith, needs}
+use Rattle.laws.specs.Basics.{_≡_, arith, needs}
 use Rattle.listing.specs.{Lines.valueIn, Summarised.reportIn, answers.Codes.coded, answers.Codes.valueCode}
 use Rattle.theory_merges.specs.Merge.{mergeReport}
 use Rattle.lemidrosy.proofs.programs.merge_code.Statement.{statement}

@@ -2,8 +2,7 @@
 -- Assumes nothing.
 use Rattle.laws.specs.Basics.{_≡_, refl, ℕ, _<_, arith, needs}
 use Rattle.model.specs.declared.CheckpointIndex.{CheckpointIndex}
-use Rattle.theory_patterns.specs.declared.{Verdict.Verdict, Verdict.the-variants.Breaks}
-use Rattle.theory_patterns.specs.Verdicts.{judgeReport}
+use Rattle.theory_patterns.specs.{declared.Verdict.Verdict, declared.Verdict.the-variants.Breaks, Verdicts.judgeReport}
 use Rattle.lemidrosy.specs.Programs.{pairCode, judgeCoded, PairFits}
 use Rattle.lemidrosy.proofs.programs.verdict_code.Statement.{statement}
 use Rattle.lemidrosy.proofs.programs.verdict_code.Tie as tie

@@ -1,5 +1,5 @@
 -- `lemidrosy::programs::write_figures` meets its contract, by the cases of the answer. Assumes nothing.
-use Rattle.laws.specs.Basics.{_≡_, refl, ℕ, arith, length-set, needs}
+use Rattle.laws.specs.Basics.{_≡_, refl, arith, length-set, needs}
 use Rattle.listing.specs.answers.Codes.{coded, valueCode}
 use Rattle.lemidrosy.specs.Programs.{figuresAfter}
 use Rattle.lemidrosy.proofs.programs.write_figures.Statement.{statement}

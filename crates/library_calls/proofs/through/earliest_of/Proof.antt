@@ -2,8 +2,7 @@
 -- call in place does it, with the pairs of what was copied.
 -- Assumes nothing.
 use Rattle.laws.specs.Basics.{_≡_, sym, _∙_, ap, true, List, ℕ, _-_, arith, take, needs}
-use Rattle.model.specs.declared.{LineAnswer.LineAnswer, Named.Named, Run.Run}
-use Rattle.model.specs.Sound.{sound}
+use Rattle.model.specs.{declared.LineAnswer.LineAnswer, declared.Named.Named, declared.Run.Run, Sound.sound}
 use Rattle.words.specs.Layout.{runOf}
 use Rattle.whole_runs.specs.{Earliest.earliestOutcome, Outcomes.Outcome}
 use Rattle.whole_runs.proofs.Unsound.{earliest-unsound}

@@ -1,9 +1,9 @@
 -- `library_console::denied::count_of` meets its contract: words that fit have it in their first one, others stand for a state of zeros.
 -- Assumes nothing.
-use Rattle.laws.specs.Basics.{_≡_, refl, sym, _∙_, ap, Bool, true, false, not, List, ℕ, arith, needs}
+use Rattle.laws.specs.Basics.{_≡_, sym, _∙_, ap, Bool, true, false, not, List, ℕ, needs}
 use Rattle.model.specs.declared.Run.{Run}
 use Rattle.model.specs.Words.{blank}
-use Rattle.words.specs.Layout.{fits, countOf, runOf}
+use Rattle.words.specs.Layout.{fits, runOf}
 use Rattle.words.proofs.View.{run-unfit, fits-size, count-is}
 use Rattle.library_console.proofs.denied.count_of.Statement.{statement}
 use Rattle.library_console.proofs.denied.count_of.Tie as tie

@@ -2,7 +2,7 @@
 -- Assumes nothing.
 use Rattle.laws.specs.Basics.{_≡_, refl, sym, _∙_, ap, not, needs}
 use Rattle.theory_roles.specs.Console.{denied}
-use Rattle.library_console.specs.Asked.{claimOf, deniedAs}
+use Rattle.library_console.specs.Asked.{deniedAs}
 use Rattle.library_console.proofs.denied.is_denied.Statement.{statement}
 use Rattle.library_console.proofs.denied.is_denied.Tie as tie
 

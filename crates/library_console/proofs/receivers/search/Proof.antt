@@ -1,6 +1,6 @@
 -- `library_console::receivers::search` meets its contract. The loop's invariant: the places passed were searched.
 -- Assumes nothing.
-use Rattle.laws.specs.Basics.{_≡_, ℕ, _-_, _≤_, arith, needs}
+use Rattle.laws.specs.Basics.{_≡_, _-_, _≤_, arith, needs}
 use Rattle.library_console.specs.Receivers.{SearchedTo}
 use Rattle.library_console.proofs.{Receiving.none-searched, receivers.search.Statement.statement}
 use Rattle.library_console.proofs.receivers.search.Tie as tie

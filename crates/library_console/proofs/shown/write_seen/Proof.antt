@@ -1,7 +1,7 @@
 -- `library_console::shown::write_seen` meets its contract. The loop's invariant: of the places passed those that the caller may see are written, and nothing else in
 -- the lent list has changed.
 -- Assumes nothing.
-use Rattle.laws.specs.Basics.{_≡_, refl, sym, _∙_, ap, Bool, ℕ, _-_, _≤_, arith, length, getD, length-set, needs, pick}
+use Rattle.laws.specs.Basics.{_≡_, refl, sym, _∙_, ap, ℕ, _-_, _≤_, arith, length, getD, length-set, needs, pick}
 use Rattle.laws.specs.Loops.{either, setBelow, below-none, step-set, step-keep}
 use Rattle.theory_roles.specs.Console.{entitledBy}
 use Rattle.library_console.proofs.shown.write_seen.Statement.{statement}

@@ -1,5 +1,5 @@
 -- `library_readers::lost::lost_on` meets its contract: the list's length, the failed set, then the messages. Assumes nothing.
-use Rattle.laws.specs.Basics.{_≡_, refl, sym, _∙_, ap, true, ℕ, _^_, leb, needs}
+use Rattle.laws.specs.Basics.{_≡_, refl, sym, _∙_, ap, ℕ, _^_, leb, needs}
 use Rattle.library_readers.proofs.{Readings.answer-is, Losses.lost-short, Losses.lost-outside, lost.lost_on.Statement.statement}
 use Rattle.library_readers.proofs.lost.lost_on.Tie as tie
 

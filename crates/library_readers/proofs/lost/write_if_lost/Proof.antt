@@ -1,5 +1,5 @@
 -- `library_readers::lost::write_if_lost` meets its contract: the place is not in use, or its message remains, or it is lost. Assumes nothing.
-use Rattle.laws.specs.Basics.{_≡_, refl, sym, _∙_, ap, true, false, _&&_, List, ℕ, _+_, _*_, sets, needs, not-true, not-false, pick}
+use Rattle.laws.specs.Basics.{_≡_, refl, sym, _∙_, true, false, _&&_, List, ℕ, _+_, _*_, sets, needs, not-true, not-false, pick}
 use Rattle.model.specs.declared.CheckpointIndex.{CheckpointIndex}
 use Rattle.words.specs.Layout.{messageIn, isMessage}
 use Rattle.words_line.specs.Sifted.{lostTo}

@@ -1,6 +1,6 @@
 -- `library_readers::lost::write_lost` meets its contract. The loop's invariant: the lost messages of the places passed so far are written, and how many they are.
 -- Assumes nothing.
-use Rattle.laws.specs.Basics.{_≡_, refl, sym, _∙_, ap, _&&_, List, ℕ, _+_, _-_, _*_, _≤_, _<_, arith, length, sets, needs}
+use Rattle.laws.specs.Basics.{_≡_, refl, _∙_, _&&_, List, ℕ, _+_, _-_, _*_, _≤_, _<_, arith, length, sets, needs}
 use Rattle.laws.specs.Lists.{select, table}
 use Rattle.model.specs.declared.CheckpointIndex.{CheckpointIndex}
 use Rattle.words.specs.Layout.{messageIn, isMessage}

@@ -1,5 +1,5 @@
 -- `library_replay::record::sound_after` meets its contract. Assumes nothing.
-use Rattle.laws.specs.Basics.{sym, arith, needs}
+use Rattle.laws.specs.Basics.{sym, needs}
 use Rattle.library_replay.proofs.record.sound_after.Statement.{statement}
 use Rattle.library_replay.proofs.record.sound_after.Tie as tie
 

@@ -1,7 +1,7 @@
 -- `listing::answers::code_of` meets its contract.
 -- Assumes nothing.
-use Rattle.laws.specs.Basics.{_≡_, refl, sym, _∙_, ap, ℕ, _+_, _*_, _<_, arith, needs}
-use Rattle.listing.specs.{Lines.valueIn, Summarised.reportIn, answers.Codes.valueCode, answers.Codes.coded, answers.Codes.Fits}
+use Rattle.laws.specs.Basics.{_≡_, _∙_, _+_, _*_, _<_, arith, needs}
+use Rattle.listing.specs.{Summarised.reportIn, answers.Codes.coded, answers.Codes.Fits}
 use Rattle.listing.specs.declared.Summary.{Summary}
 use Rattle.listing.proofs.answers.code_of.Statement.{statement}
 use Rattle.listing.proofs.answers.code_of.Tie as tie

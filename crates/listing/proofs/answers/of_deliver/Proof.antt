@@ -1,7 +1,6 @@
 -- `listing::answers::of_deliver` meets its contract.
 -- Assumes nothing.
 use Rattle.laws.specs.Basics.{needs}
-use Rattle.listing.specs.answers.Codes.{Fits, coded}
 use Rattle.listing.proofs.answers.of_deliver.Statement.{statement}
 use Rattle.listing.proofs.answers.of_deliver.Tie as tie
 

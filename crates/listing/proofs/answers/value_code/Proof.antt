@@ -1,7 +1,7 @@
 -- `listing::answers::value_code` meets its contract, by the cases of the value.
 -- Assumes nothing.
-use Rattle.laws.specs.Basics.{_≡_, refl, sym, _∙_, ap, some, ℕ, _<_, arith, needs}
-use Rattle.listing.specs.declared.{Value.Value, Value.the-variants.Hyphen, Value.the-variants.Number}
+use Rattle.laws.specs.Basics.{_≡_, refl, _∙_, some, ℕ, _<_, arith, needs}
+use Rattle.listing.specs.declared.{Value.Value, Value.the-variants.Number}
 use Rattle.listing.specs.{Lines.valueIn, answers.Codes.valueCode}
 use Rattle.listing.proofs.answers.value_code.Statement.{statement}
 use Rattle.listing.proofs.answers.value_code.Tie as tie

@@ -1,5 +1,5 @@
 -- `machine_console::marks::most_done` meets its contract. Assumes nothing.
-use Rattle.laws.specs.Basics.{refl, needs, eq-eqb, ne-eqb}
+use Rattle.laws.specs.Basics.{refl, eq-eqb, ne-eqb}
 use Rattle.machine_console.specs.Lent.{mostDone}
 use Rattle.machine_console.proofs.marks.most_done.Statement.{statement}
 use Rattle.machine_console.proofs.marks.most_done.Tie as tie

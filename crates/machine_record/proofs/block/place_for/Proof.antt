@@ -1,5 +1,5 @@
 -- `machine_record::block::place_for` meets its contract. Assumes nothing.
-use Rattle.laws.specs.Basics.{refl, needs, lt-ltb, le-ltb}
+use Rattle.laws.specs.Basics.{refl, lt-ltb, le-ltb}
 use Rattle.machine_record.specs.Played.{placeFor}
 use Rattle.machine_record.proofs.block.place_for.Statement.{statement}
 use Rattle.machine_record.proofs.block.place_for.Tie as tie

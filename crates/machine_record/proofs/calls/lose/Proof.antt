@@ -1,5 +1,5 @@
 -- `machine_record::calls::lose` meets its contract. Assumes nothing.
-use Rattle.laws.specs.Basics.{refl, some, replicate, needs}
+use Rattle.laws.specs.Basics.{refl, some, needs}
 use Rattle.model.specs.declared.Event.the-variants.{Lose}
 use Rattle.whole_runs.specs.{Outcomes.loseReport, Listing.callOf}
 use Rattle.theory_recording.specs.Recording.{recorded, recordedLose}

@@ -1,5 +1,5 @@
 -- `machine_record::calls::send` meets its contract. Assumes nothing.
-use Rattle.laws.specs.Basics.{refl, some, replicate, needs}
+use Rattle.laws.specs.Basics.{refl, some, needs}
 use Rattle.model.specs.declared.Event.the-variants.{Send}
 use Rattle.whole_runs.specs.{Outcomes.sendReport, Listing.callOf}
 use Rattle.theory_recording.specs.Recording.{recorded, recordedSend}

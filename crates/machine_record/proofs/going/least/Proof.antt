@@ -1,5 +1,5 @@
 -- `machine_record::going::least` meets its contract. Assumes nothing.
-use Rattle.laws.specs.Basics.{arith, needs}
+use Rattle.laws.specs.Basics.{arith}
 use Rattle.machine_record.proofs.going.least.Statement.{statement}
 use Rattle.machine_record.proofs.going.least.Tie as tie
 

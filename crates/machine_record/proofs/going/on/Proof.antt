@@ -1,5 +1,5 @@
 -- `machine_record::going::on` meets its contract. Assumes nothing.
-use Rattle.laws.specs.Basics.{arith, needs, ne-eqb}
+use Rattle.laws.specs.Basics.{needs, ne-eqb}
 use Rattle.machine_record.proofs.{Arriving.rest-stops, Leading.led, Leading.reported-then-read, going.on.Statement.statement}
 use Rattle.machine_record.specs.Lent.{stateIn}
 use Rattle.machine_record.proofs.going.on.Tie as tie

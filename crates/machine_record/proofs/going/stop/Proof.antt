@@ -1,7 +1,5 @@
 -- `machine_record::going::stop` meets its contract. Assumes nothing.
 use Rattle.laws.specs.Basics.{needs}
-use Rattle.machine_record.specs.declared.marks.Marks.{Marks}
-use Rattle.machine_record.specs.{Lent.Arrives, Machine.stopped}
 use Rattle.machine_record.proofs.{Arriving.arrives-stopped, going.stop.Statement.statement}
 use Rattle.machine_record.proofs.going.stop.Tie as tie
 

@@ -1,7 +1,6 @@
 -- `machine_record::going::take_size` meets its contract. Assumes nothing.
-use Rattle.laws.specs.Basics.{_∙_, ap, arith, needs}
+use Rattle.laws.specs.Basics.{_∙_, arith, needs}
 use Rattle.machine_record.proofs.{Arriving.arrives-beginning, Leading.led, Leading.sized-large, Leading.sized-small, going.take_size.Statement.statement}
-use Rattle.machine_record.specs.Machine.{sized}
 use Rattle.machine_record.proofs.going.take_size.Tie as tie
 
 end-with-requires : tie.Need-end-with-requires

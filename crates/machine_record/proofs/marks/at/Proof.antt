@@ -1,5 +1,5 @@
 -- `machine_record::marks::at` meets its contract. Assumes nothing.
-use Rattle.laws.specs.Basics.{refl, needs}
+use Rattle.laws.specs.Basics.{refl}
 use Rattle.machine_record.proofs.marks.at.Statement.{statement}
 use Rattle.machine_record.proofs.marks.at.Tie as tie
 

@@ -1,5 +1,5 @@
 -- `machine_record::marks::in_bounds` meets its contract. Assumes nothing.
-use Rattle.laws.specs.Basics.{refl, needs, le-leb, lt-leb}
+use Rattle.laws.specs.Basics.{refl, le-leb, lt-leb}
 use Rattle.machine_record.specs.Lent.{inBounds}
 use Rattle.machine_record.proofs.marks.in_bounds.Statement.{statement}
 use Rattle.machine_record.proofs.marks.in_bounds.Tie as tie

@@ -1,6 +1,6 @@
 -- `machine_replay::phases::after_first` meets its contract.
 -- Assumes nothing.
-use Rattle.laws.specs.Basics.{_≡_, refl, sym, _∙_, ap, true, arith, length, needs}
+use Rattle.laws.specs.Basics.{_≡_, _∙_, ap, true, arith, needs}
 use denote.Ref.{now}
 use Rattle.whole_runs.specs.Listing.{listing}
 use Rattle.machines.specs.Forms.{takenOf, Between}

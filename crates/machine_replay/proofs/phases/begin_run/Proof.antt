@@ -1,10 +1,9 @@
 -- `machine_replay::phases::begin_run` meets its contract.
 -- Assumes nothing.
-use Rattle.laws.specs.Basics.{_≡_, refl, sym, _∙_, ap, arith, needs}
+use Rattle.laws.specs.Basics.{_≡_, _∙_, ap, arith, needs}
 use denote.Ref.{now}
-use Rattle.model.specs.Words.{ones}
 use Rattle.words.specs.Layout.{runOf}
-use Rattle.machine_replay.specs.{Replaying.ending, Replaying.reading, Replaying.begun, Standing.betweenIn, Standing.plainPlace}
+use Rattle.machine_replay.specs.{Replaying.ending, Replaying.begun, Standing.betweenIn, Standing.plainPlace}
 use Rattle.machine_replay.proofs.{Places.enough-words, Places.enough-out, Places.text-ending, Places.plain-reading, Texts.front-text}
 use Rattle.machine_replay.proofs.{Starts.start-refuses, Starts.start-none, Starts.start-run, phases.begin_run.Statement.statement}
 use Rattle.machine_replay.proofs.phases.begin_run.Tie as tie

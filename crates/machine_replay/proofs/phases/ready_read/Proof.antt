@@ -1,6 +1,6 @@
 -- `machine_replay::phases::ready_read` meets its contract.
 -- Assumes nothing.
-use Rattle.laws.specs.Basics.{_≡_, refl, sym, _∙_, ap, List, _++_, ℕ, _+_, _-_, _≤_, _<_, arith, length, take, drop, length-take-le, needs}
+use Rattle.laws.specs.Basics.{_≡_, sym, _∙_, ap, List, _++_, ℕ, _+_, _-_, _≤_, _<_, arith, length, take, drop, length-take-le, needs}
 use denote.Ref.{now}
 use Rattle.whole_runs.specs.Listing.{records}
 use Rattle.words.specs.Layout.{runOf}

@@ -1,8 +1,7 @@
 -- `machine_replay::place::store` meets its contract.
 -- Assumes nothing.
-use Rattle.laws.specs.Basics.{_≡_, _∙_, ap, _<_, arith, length, set, needs}
+use Rattle.laws.specs.Basics.{_≡_, _∙_, _<_, arith, length, needs}
 use denote.Ref.{now}
-use Rattle.machine_replay.specs.Standing.{bitOf, placeIn}
 use Rattle.machine_replay.proofs.{Places.stored, place.store.Statement.statement}
 use Rattle.machine_replay.proofs.place.store.Tie as tie
 

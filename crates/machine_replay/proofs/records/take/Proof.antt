@@ -1,6 +1,6 @@
 -- `machine_replay::records::take` meets its contract.
 -- Assumes nothing.
-use Rattle.laws.specs.Basics.{_≡_, refl, sym, _∙_, ap, List, ℕ, _+_, _-_, arith, take, drop, needs, not-true, not-false}
+use Rattle.laws.specs.Basics.{_≡_, refl, _∙_, List, ℕ, _+_, _-_, arith, take, drop, needs, not-true, not-false}
 use denote.Ref.{now}
 use Rattle.library_replay.specs.declared.block.Progress.{Progress}
 use Rattle.machine_replay.specs.declared.place.Place.{Place}

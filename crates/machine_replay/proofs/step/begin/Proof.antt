@@ -1,9 +1,9 @@
 -- `machine_replay::step::begin` meets its contract.
 -- Assumes nothing.
-use Rattle.laws.specs.Basics.{_≡_, refl, sym, _∙_, ap, arith, length, needs}
+use Rattle.laws.specs.Basics.{_≡_, sym, _∙_, arith, needs}
 use denote.Ref.{now}
 use Rattle.machines.specs.Forms.{requestOf, Placed, GoesTo}
-use Rattle.machine_replay.specs.{Replaying.starting, Replaying.asks, Standing.stateOf}
+use Rattle.machine_replay.specs.{Replaying.asks}
 use Rattle.machine_replay.proofs.{Places.text-starting, Steps.state-of, step.begin.Statement.statement}
 use Rattle.machine_replay.proofs.step.begin.Tie as tie
 

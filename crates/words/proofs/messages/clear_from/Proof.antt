@@ -1,5 +1,5 @@
 -- `words::messages::clear_from` meets its contract. Assumes nothing.
-use Rattle.laws.specs.Basics.{_≡_, refl, sym, _∙_, ap, List, ℕ, zero, suc, _+_, _-_, _≤_, _<_, arith, length, needs}
+use Rattle.laws.specs.Basics.{_≡_, refl, _∙_, List, ℕ, suc, _+_, _-_, _≤_, _<_, arith, length, needs}
 use Rattle.words.specs.messages.Places.{cleared, clearedFrom}
 use Rattle.words.proofs.messages.clear_from.Statement.{statement}
 use Rattle.words.proofs.messages.clear_from.Tie as tie

@@ -1,5 +1,5 @@
 -- `words::messages::close_up` meets its contract. Assumes nothing.
-use Rattle.laws.specs.Basics.{_≡_, refl, sym, _∙_, ap, List, [], _∷_, ℕ, _-_, _≤_, arith, length, set, length-set, needs}
+use Rattle.laws.specs.Basics.{_≡_, _∙_, ap, List, [], _∷_, ℕ, _-_, _≤_, arith, length, set, length-set, needs}
 use Rattle.words.specs.{Layout.stateSize, Puts.puts, Puts.one, messages.Places.closing, messages.Places.clearedFrom, messages.Places.closedUp}
 use Rattle.words.proofs.{Reading.set-is-put, messages.Closed.closing-closed, messages.close_up.Statement.statement}
 use Rattle.words.proofs.messages.close_up.Tie as tie

@@ -1,5 +1,5 @@
 -- `words::messages::end_before` meets its contract. Assumes nothing.
-use Rattle.laws.specs.Basics.{_≡_, refl, sym, _∙_, ap, true, false, List, ℕ, zero, suc, _-_, _≤_, _<_, arith, needs}
+use Rattle.laws.specs.Basics.{_≡_, refl, sym, _∙_, true, false, List, ℕ, zero, suc, _-_, _≤_, _<_, arith, needs}
 use Rattle.words.specs.{Layout.messageIn, Layout.isMessage, messages.Places.endBelow}
 use Rattle.words.proofs.messages.end_before.Statement.{statement}
 use Rattle.words.proofs.messages.end_before.Tie as tie

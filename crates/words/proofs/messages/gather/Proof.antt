@@ -1,8 +1,7 @@
 -- `words::messages::gather` meets its contract. Assumes nothing.
-use Rattle.laws.specs.Basics.{_≡_, refl, sym, _∙_, ap, true, false, List, ℕ, zero, suc, _+_, _-_, _≤_, _<_, arith, length, needs, pick, by-bool}
+use Rattle.laws.specs.Basics.{_≡_, refl, _∙_, List, ℕ, _+_, _-_, _≤_, _<_, arith, length, needs, pick, by-bool}
 use native.Mathlib.Numerals.{add-one}
-use Rattle.words.specs.Layout.{messageIn, isMessage}
-use Rattle.words.specs.messages.Places.{Closing, movedTo, closeStep, closing}
+use Rattle.words.specs.{Layout.messageIn, Layout.isMessage, messages.Places.movedTo, messages.Places.closeStep, messages.Places.closing}
 use Rattle.words.proofs.messages.gather.Statement.{statement}
 use Rattle.words.proofs.messages.gather.Tie as tie
 

@@ -1,5 +1,5 @@
 -- `words::messages::is_used` meets its contract. Assumes nothing.
-use Rattle.laws.specs.Basics.{_≡_, refl, sym, _∙_, ap, Bool, not, ℕ, eqb, needs}
+use Rattle.laws.specs.Basics.{_≡_, _∙_, ap, not, ℕ, eqb, needs}
 use Rattle.words.specs.Layout.{isMessage}
 use Rattle.words.proofs.messages.is_used.Statement.{statement}
 use Rattle.words.proofs.messages.is_used.Tie as tie

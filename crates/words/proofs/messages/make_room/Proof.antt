@@ -1,6 +1,6 @@
 -- `words::messages::make_room` meets its contract. Assumes nothing.
-use Rattle.laws.specs.Basics.{_≡_, refl, sym, _∙_, ap, needs, eq-eqb, ne-eqb}
-use Rattle.words.specs.{Layout.endOf, messages.Places.withRoom}
+use Rattle.laws.specs.Basics.{_≡_, refl, _∙_, needs, eq-eqb, ne-eqb}
+use Rattle.words.specs.{messages.Places.withRoom}
 use Rattle.words.proofs.messages.make_room.Statement.{statement}
 use Rattle.words.proofs.messages.make_room.Tie as tie
 

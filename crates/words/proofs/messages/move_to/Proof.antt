@@ -1,5 +1,5 @@
 -- `words::messages::move_to` meets its contract. Assumes nothing.
-use Rattle.laws.specs.Basics.{_≡_, refl, sym, _∙_, ap, List, ℕ, arith, length-set, needs}
+use Rattle.laws.specs.Basics.{_≡_, _∙_, List, ℕ, arith, length-set, needs}
 use Rattle.model.specs.declared.Interval.{Interval}
 use Rattle.words.specs.{Layout.word, Layout.senderAt, Layout.receiverAt, Layout.carriedAt, Layout.vectorIn, Layout.messageIn, Puts.puts}
 use Rattle.words.proofs.{Reading.set-is-put, messages.move_to.Statement.statement}

@@ -1,5 +1,5 @@
 -- `words::messages::number_at` meets its contract. Assumes nothing.
-use Rattle.laws.specs.Basics.{_≡_, refl, _+_, _*_, arith, needs}
+use Rattle.laws.specs.Basics.{_≡_, _+_, _*_, arith, needs}
 use Rattle.words.specs.Layout.{messageIn}
 use Rattle.words.proofs.messages.number_at.Statement.{statement}
 use Rattle.words.proofs.messages.number_at.Tie as tie

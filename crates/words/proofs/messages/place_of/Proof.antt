@@ -1,5 +1,5 @@
 -- `words::messages::place_of` meets its contract. Assumes nothing.
-use Rattle.laws.specs.Basics.{_≡_, refl, sym, _∙_, ap, Bool, true, false, _&&_, List, ℕ, zero, suc, _+_, _-_, _*_, _/_, _%_, _≤_, _<_, arith, eqb, ltb, needs, eq-eqb, ne-eqb, eqb-true, lt-ltb, le-ltb, pick, by-bool}
+use Rattle.laws.specs.Basics.{_≡_, refl, sym, _∙_, ap, _&&_, List, ℕ, zero, suc, _+_, _-_, _*_, _/_, _%_, _≤_, _<_, arith, eqb, ltb, needs, eq-eqb, ne-eqb, eqb-true, lt-ltb, le-ltb, pick, by-bool}
 use native.Mathlib.Numerals.{add-one}
 use Rattle.laws.specs.{Elements.same-test, Truth.and-out, Truth.and-both}
 use Rattle.words.specs.Layout.{word, endOf, lowAt, highAt, messageIn}

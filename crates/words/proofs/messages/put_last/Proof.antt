@@ -1,5 +1,5 @@
 -- `words::messages::put_last` meets its contract. Assumes nothing.
-use Rattle.laws.specs.Basics.{_≡_, refl, sym, _∙_, ap, arith, length-set, needs}
+use Rattle.laws.specs.Basics.{_≡_, refl, _∙_, arith, length-set, needs}
 use Rattle.words.proofs.{Reading.set-is-put, messages.put_last.Statement.statement}
 use Rattle.words.specs.messages.Places.{putLast}
 use Rattle.words.proofs.messages.put_last.Tie as tie

@@ -1,5 +1,5 @@
 -- `words::messages::take_out` meets its contract. Assumes nothing.
-use Rattle.laws.specs.Basics.{_≡_, refl, sym, _∙_, ap, List, ℕ, _-_, _≤_, _<_, arith, getD, set, length-set, needs}
+use Rattle.laws.specs.Basics.{_≡_, _∙_, List, ℕ, _-_, _≤_, _<_, arith, getD, set, length-set, needs}
 use Rattle.words.specs.{Layout.word, Layout.endOf, messages.Places.endBelow, messages.Places.cleared, messages.Places.takenOut}
 use Rattle.words.proofs.{Reading.set-is-put, messages.Selected.end-under, messages.take_out.Statement.statement}
 use Rattle.words.proofs.messages.take_out.Tie as tie

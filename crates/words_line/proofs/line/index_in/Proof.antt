@@ -1,5 +1,5 @@
 -- `words_line::line::index_in` meets its contract, by whether the state is stored. Assumes nothing.
-use Rattle.laws.specs.Basics.{_≡_, _∙_, ap, ℕ, _+_, _-_, arith, needs, le-leb, lt-leb}
+use Rattle.laws.specs.Basics.{_≡_, _∙_, ap, _+_, _-_, arith, needs, le-leb, lt-leb}
 use Rattle.model.specs.declared.Interval.{Interval}
 use Rattle.model.specs.Words.{liveIndex}
 use Rattle.words.specs.Layout.{word, keptCountAt}

@@ -1,6 +1,6 @@
 -- `words_line::line::indexes_of` meets its contract. The loop's invariant: the indexes of the processes passed so far stand.
 -- Assumes nothing.
-use Rattle.laws.specs.Basics.{_≡_, ℕ, _-_, _≤_, arith, getD, needs}
+use Rattle.laws.specs.Basics.{_≡_, _-_, _≤_, arith, getD, needs}
 use Rattle.laws.specs.Loops.{setBelow, below-none, step-set}
 use Rattle.words_line.specs.Line.{indexIn, indexesIn}
 use Rattle.words_line.proofs.line.indexes_of.Statement.{statement}

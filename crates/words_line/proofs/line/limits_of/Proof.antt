@@ -1,6 +1,6 @@
 -- `words_line::line::limits_of` meets its contract. The loop's invariant: what is left of the failed set is its bits from f on, and the limits passed so far stand.
 -- Assumes nothing.
-use Rattle.laws.specs.Basics.{_≡_, _∙_, ap, Bool, ℕ, _+_, _-_, _/_, _%_, _^_, _≤_, arith, eqb, needs, pick}
+use Rattle.laws.specs.Basics.{_≡_, _∙_, ap, ℕ, _+_, _-_, _/_, _%_, _^_, _≤_, arith, eqb, needs, pick}
 use Rattle.laws.specs.{Bits.bits-all, Bits.bits-next, Loops.setBelow, Loops.below-none, Loops.step-set}
 use Rattle.model.specs.declared.Interval.{Interval}
 use Rattle.words.specs.Layout.{word, partAt}

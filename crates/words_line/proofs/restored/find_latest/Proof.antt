@@ -1,6 +1,6 @@
 -- `words_line::restored::find_latest` meets its contract. The loop's invariant: what is found of the checkpoints passed so far.
 -- Assumes nothing.
-use Rattle.laws.specs.Basics.{_≡_, refl, sym, _∙_, ap, List, ℕ, _+_, _-_, _≤_, arith, replicate, needs}
+use Rattle.laws.specs.Basics.{_≡_, refl, _∙_, ap, List, ℕ, _+_, _-_, _≤_, arith, replicate, needs}
 use native.Mathlib.Numerals.{add-one}
 use Rattle.model.specs.declared.Interval.{Interval}
 use Rattle.words.specs.Layout.{word, indexAt, storedAt, vectorIn}

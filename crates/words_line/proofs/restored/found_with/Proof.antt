@@ -1,6 +1,6 @@
 -- `words_line::restored::found_with` meets its contract. The loop's invariant: the pins passed so far stand.
 -- Assumes nothing.
-use Rattle.laws.specs.Basics.{_≡_, refl, _∙_, ℕ, _-_, _≤_, arith, eqb, getD, needs, pick}
+use Rattle.laws.specs.Basics.{_≡_, refl, _∙_, _-_, _≤_, arith, getD, needs, pick}
 use Rattle.laws.specs.Loops.{setBelow, below-none, step-set, below-all}
 use Rattle.model.specs.Words.{entry, below}
 use Rattle.words_line.specs.Restored.{foundRow}

@@ -1,6 +1,6 @@
 -- `words_line::restored::known_pin` meets its contract.
 -- Assumes nothing.
-use Rattle.laws.specs.Basics.{needs, eq-eqb, ne-eqb}
+use Rattle.laws.specs.Basics.{eq-eqb, ne-eqb}
 use Rattle.words_line.proofs.restored.known_pin.Statement.{statement}
 use Rattle.words_line.proofs.restored.known_pin.Tie as tie
 

@@ -1,8 +1,8 @@
 -- `words_line::restored::known_pins` meets its contract. The loop's invariant: the pins passed so far stand.
 -- Assumes nothing.
-use Rattle.laws.specs.Basics.{_≡_, refl, _∙_, ℕ, _-_, _≤_, arith, eqb, getD, needs, pick}
+use Rattle.laws.specs.Basics.{_≡_, refl, _∙_, _-_, _≤_, arith, eqb, getD, needs, pick}
 use Rattle.laws.specs.Loops.{setBelow, below-none, step-set, below-all}
-use Rattle.model.specs.Words.{entry, below}
+use Rattle.model.specs.Words.{entry}
 use Rattle.words_line.specs.Restored.{knownRow}
 use Rattle.words_line.proofs.restored.known_pins.Statement.{statement}
 use Rattle.words_line.proofs.restored.known_pins.Tie as tie

@@ -1,6 +1,6 @@
 -- `words_line::restored::later_of` meets its contract.
 -- Assumes nothing.
-use Rattle.laws.specs.Basics.{needs, lt-ltb, le-ltb}
+use Rattle.laws.specs.Basics.{lt-ltb, le-ltb}
 use Rattle.words_line.proofs.restored.later_of.Statement.{statement}
 use Rattle.words_line.proofs.restored.later_of.Tie as tie
 

@@ -1,5 +1,5 @@
 -- `words_line::sifted::is_lost` meets its contract. Assumes nothing.
-use Rattle.laws.specs.Basics.{_≡_, refl, sym, _∙_, ap, List, ℕ, _+_, _<_, arith, ltb, getD, needs}
+use Rattle.laws.specs.Basics.{_≡_, _∙_, List, ℕ, _+_, _<_, ltb, getD, needs}
 use Rattle.model.specs.declared.{CheckpointIndex.CheckpointIndex, Interval.Interval}
 use Rattle.words.specs.Layout.{word, senderAt, carriedAt, intervalOf, messageIn}
 use Rattle.words.proofs.Same.{vector-word}

@@ -1,5 +1,5 @@
 -- `words_line::sifted::sift` meets its contract. Assumes nothing.
-use Rattle.laws.specs.Basics.{_≡_, refl, sym, _∙_, ap, List, ℕ, _≤_, _<_, arith, length, set, length-set, needs}
+use Rattle.laws.specs.Basics.{_≡_, _∙_, List, ℕ, _≤_, _<_, arith, length, set, length-set, needs}
 use Rattle.laws.specs.Lists.{select, table}
 use Rattle.model.specs.declared.CheckpointIndex.{CheckpointIndex}
 use Rattle.words.specs.{Layout.stateSize, Layout.endOf, Layout.messageIn, messages.Places.endBelow}

@@ -1,5 +1,5 @@
 -- `words_line::sifted::sift_place` meets its contract: the place is not in use, or its message is lost, or it remains. Assumes nothing.
-use Rattle.laws.specs.Basics.{_≡_, refl, sym, _∙_, ap, true, false, List, ℕ, needs, not-true, not-false, pick}
+use Rattle.laws.specs.Basics.{_≡_, refl, sym, _∙_, true, false, List, ℕ, needs, not-true, not-false, pick}
 use Rattle.model.specs.declared.CheckpointIndex.{CheckpointIndex}
 use Rattle.words.specs.{Layout.messageIn, Layout.isMessage, messages.Places.cleared}
 use Rattle.words_line.specs.Sifted.{lostTo, remains, siftedPlace}

@@ -1,12 +1,12 @@
 -- `words_line::sifted::sift_places` meets its contract. The loop's invariant: the places passed so far are without the lost messages, and that many are left in them.
 -- Assumes nothing.
-use Rattle.laws.specs.Basics.{_≡_, refl, sym, _∙_, ap, true, false, List, [], _∷_, ℕ, _+_, _-_, _≤_, _<_, arith, length, length-append, needs, pick, by-bool}
+use Rattle.laws.specs.Basics.{_≡_, refl, sym, _∙_, ap, true, List, [], _∷_, ℕ, _+_, _-_, _≤_, _<_, arith, length, length-append, needs, pick, by-bool}
 use native.Mathlib.Numerals.{add-one}
 use Rattle.laws.specs.Lists.{select, table}
 use Rattle.model.specs.declared.{CheckpointIndex.CheckpointIndex, Message.Message}
 use Rattle.words.specs.Layout.{stateSize, word, senderAt, messageIn, isMessage}
 use Rattle.words.proofs.messages.Selected.{select-more, select-less}
-use Rattle.words_line.specs.Sifted.{remains, siftedPlace, siftedBelow, SendersPresent}
+use Rattle.words_line.specs.Sifted.{remains, siftedPlace, siftedBelow}
 use Rattle.words_line.proofs.{Sifting.sifted-below, sifted.sift_places.Statement.statement}
 use Rattle.words_line.proofs.sifted.sift_places.Tie as tie
 

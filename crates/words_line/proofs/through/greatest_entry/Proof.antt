@@ -1,12 +1,12 @@
 -- `words_line::through::greatest_entry` meets its contract. The loop's invariant: the greatest of the entries passed so far.
 -- Assumes nothing.
-use Rattle.laws.specs.Basics.{_≡_, refl, sym, _∙_, ap, true, false, List, ℕ, _+_, _-_, _≤_, max, arith, ltb, getD, needs}
+use Rattle.laws.specs.Basics.{_≡_, refl, _∙_, ap, List, ℕ, _+_, _-_, _≤_, max, arith, getD, needs}
 use native.Mathlib.Numerals.{add-one}
-use Rattle.laws.specs.{Loops.either, Loops.any-zero, Search.anyBelow}
+use Rattle.laws.specs.{Loops.either}
 use Rattle.model.specs.declared.Interval.{Interval}
 use Rattle.words.specs.Layout.{word}
-use Rattle.words_line.specs.Through.{beforeSome, greatestIn}
-use Rattle.words_line.proofs.{Iterations.any-or, through.greatest_entry.Statement.statement}
+use Rattle.words_line.specs.Through.{greatestIn}
+use Rattle.words_line.proofs.{through.greatest_entry.Statement.statement}
 use Rattle.words_line.proofs.through.greatest_entry.Tie as tie
 
 abbrev Inv-loop : tie.InvT-loop

@@ -1,11 +1,10 @@
 -- `words_line::through::is_before_some` meets its contract. The loop's invariant: whether the checkpoint comes before a state passed so far.
 -- Assumes nothing.
-use Rattle.laws.specs.Basics.{_≡_, refl, sym, _∙_, ap, true, false, List, ℕ, _+_, _-_, _≤_, max, arith, ltb, getD, needs}
-use native.Mathlib.Numerals.{add-one}
-use Rattle.laws.specs.{Loops.either, Loops.any-zero, Search.anyBelow}
+use Rattle.laws.specs.Basics.{_≡_, _∙_, ap, _+_, _-_, _≤_, arith, ltb, getD, needs}
+use Rattle.laws.specs.{Loops.any-zero, Search.anyBelow}
 use Rattle.model.specs.declared.Interval.{Interval}
 use Rattle.words.specs.Layout.{word}
-use Rattle.words_line.specs.Through.{beforeSome, greatestIn}
+use Rattle.words_line.specs.Through.{beforeSome}
 use Rattle.words_line.proofs.{Iterations.any-or, through.is_before_some.Statement.statement}
 use Rattle.words_line.proofs.through.is_before_some.Tie as tie
 

@@ -1,6 +1,6 @@
 -- `words_line::through::is_ordered` meets its contract. The loop's invariant: whether a checkpoint passed so far comes before one of the states.
 -- Assumes nothing.
-use Rattle.laws.specs.Basics.{_≡_, ℕ, _-_, _≤_, arith, needs}
+use Rattle.laws.specs.Basics.{_≡_, _-_, _≤_, arith, needs}
 use Rattle.laws.specs.{Loops.any-zero, Search.anyBelow}
 use Rattle.words_line.specs.Through.{processOf, indexOf, beforeSome}
 use Rattle.words_line.proofs.{Iterations.any-or, through.is_ordered.Statement.statement}

@@ -1,5 +1,5 @@
 -- `words_line::through::is_unfit` meets its contract. Assumes nothing.
-use Rattle.laws.specs.Basics.{_≡_, refl, true, false, _||_, needs, eq-eqb, ne-eqb, lt-ltb, le-ltb}
+use Rattle.laws.specs.Basics.{_≡_, _||_, needs, eq-eqb, ne-eqb, lt-ltb, le-ltb}
 use Rattle.words_line.proofs.through.is_unfit.Statement.{statement}
 use Rattle.words_line.proofs.through.is_unfit.Tie as tie
 

@@ -1,6 +1,6 @@
 -- `words_line::through::write_greatest` meets its contract. The loop's invariant: the entries passed so far are written, and nothing else in the lent list has changed.
 -- Assumes nothing.
-use Rattle.laws.specs.Basics.{_≡_, refl, _∙_, ℕ, _-_, _≤_, arith, length, length-set, needs}
+use Rattle.laws.specs.Basics.{_≡_, refl, _∙_, _-_, _≤_, arith, length, length-set, needs}
 use Rattle.laws.specs.{Below.below-written, Loops.setBelow, Loops.below-none, Loops.step-set}
 use Rattle.words_line.specs.Through.{greatestIn}
 use Rattle.words_line.proofs.through.write_greatest.Statement.{statement}

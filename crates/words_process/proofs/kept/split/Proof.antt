@@ -1,5 +1,5 @@
 -- `words_process::kept::split` meets its contract. Assumes nothing.
-use Rattle.laws.specs.Basics.{_≡_, refl, sym, _∙_, ap, true, false, not, List, [], ℕ, _+_, _-_, _*_, _≤_, _<_, arith, length, set, sets, needs}
+use Rattle.laws.specs.Basics.{_≡_, refl, sym, _∙_, ap, true, false, List, [], ℕ, _+_, _-_, _*_, _≤_, _<_, arith, length, set, sets, needs}
 use Rattle.laws.specs.{Loops.either, Tests.some-of}
 use Rattle.model.specs.{Words.names, Words.isPinned, Steps.listed}
 use Rattle.model.specs.declared.{Checkpoint.Checkpoint, CheckpointIndex.CheckpointIndex}

@@ -1,7 +1,6 @@
 -- `words_sound::process::last_word` meets its contract. Assumes nothing.
 use Rattle.laws.specs.Basics.{_≡_, _∙_, ap, ℕ, _+_, _-_, arith, needs}
-use Rattle.model.specs.declared.{Interval.Interval, CheckpointIndex.CheckpointIndex}
-use Rattle.model.specs.Words.{lastStored}
+use Rattle.model.specs.{declared.Interval.Interval, declared.CheckpointIndex.CheckpointIndex, Words.lastStored}
 use Rattle.words_sound.proofs.process.last_word.Statement.{statement}
 use Rattle.words_sound.proofs.process.last_word.Tie as tie
 

@@ -1,7 +1,6 @@
 -- `in_place_recover::process::restore::restore_stored` meets its contract. Assumes nothing.
 use Rattle.laws.specs.Basics.{_∙_, ap, List, _*_, arith, length, sets, needs}
-use Rattle.model.specs.declared.{Checkpoint.Checkpoint, Disk.Disk}
-use Rattle.model.specs.Steps.{listed}
+use Rattle.model.specs.{declared.Checkpoint.Checkpoint, declared.Disk.Disk, Steps.listed}
 use Rattle.whole_runs.specs.Outcomes.{pairs}
 use Rattle.in_place_recover.proofs.ProcessRestoring.{stored-ready, stored-gone, stored-moves}
 use Rattle.in_place_recover.proofs.process.restore.restore_stored.Statement.{statement}

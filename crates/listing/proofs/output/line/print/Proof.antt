@@ -1,9 +1,7 @@
 -- `listing::output::line::print` meets its contract: the line is no longer than the room.
 -- Assumes nothing.
-use Rattle.laws.specs.Basics.{_≤_, arith, length, needs}
+use Rattle.laws.specs.Basics.{_≤_, arith, needs}
 use denote.Ref.{now}
-use Rattle.whole_runs.specs.Listing.{lineText}
-use Rattle.listing.specs.Lines.{replyOf, longestLine}
 use Rattle.listing.proofs.{output.Lines.line-fits, output.line.print.Statement.statement}
 use Rattle.listing.proofs.output.line.print.Tie as tie
 

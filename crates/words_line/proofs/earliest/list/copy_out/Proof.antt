@@ -1,10 +1,10 @@
 -- `words_line::earliest::list::copy_out` meets its contract: a walk of its MIR, by hand. The loop's invariant: what is copied so far is the copy of the first k elements. Each iteration
 -- calls `element`, which is proved by hand, and `with_element`, which is covered; of the list an iteration passes a copy of the reference on.
 -- Assumes nothing.
-use Rattle.laws.specs.Basics.{_≡_, refl, sym, _∙_, ap, subst, List, [], _∷_, ℕ, zero, suc, _+_, _-_, _^_, _≤_, _<_, arith, ltb, length, getD}
+use Rattle.laws.specs.Basics.{_≡_, refl, _∙_, subst, List, [], _∷_, ℕ, _+_, _-_, _^_, _≤_, _<_, ltb, length, getD}
 use Prim.Native.Nat.{zero-le}
 use native.Mathlib.Nat.{le-antisymm, lt-of-le-of-lt}
-use native.Mathlib.Numerals.{add-one, add-one-le, add-one-dec}
+use native.Mathlib.Numerals.{add-one-le, add-one-dec}
 use mathlib.Core.WellFounded.{WellFounded, InvImage·wf}
 use lib.Dec.{T, ltb→lt, nltb→le, lit<}
 use lib.WfN.{Nat·lt-wfRel}
@@ -23,7 +23,7 @@ use contract.Running.{givenOf, tables, tablesOf}
 use types.Kit.{Given, Item, ‵, raw, _⊛_, ⋆, some, later, runs, anyQ, atRet, Sq, _$_, _∵_, !, qed, by, move, keep, use0, use1, use2, drop, split, join, pick, fsplit, fjoin, suffices, frame, await, done}
 use types.Part.{whole, sub, look-in}
 use types.Run.{look, store, init, forget, stop, fld, from, load, lit, of-opd, bin, and-then, no-more, assigns, assigns-last, land, first, skips, jumps, blocks, branches, returns, enter, alloc1, alloc0, params1, pass1, pass0, free1, free0, exec, Below, again, loops}
-use sound.WpLaws.{FmC, fmOf, WpFn-mono}
+use sound.WpLaws.{fmOf, WpFn-mono}
 use denote.Exit.{yes}
 use denote.Memory.{pointee}
 use denote.RattleType.{owns}
@@ -36,11 +36,11 @@ use denote.Builtin.{usize}
 use denote.Triple.Statement.{Contract, Triple}
 use denote.Triple.Call.{calls-at}
 use denote.Triple.Clauses.{ensured, lasts}
-use denote.Triple.Entry.{Vals, onEntry}
+use denote.Triple.Entry.{onEntry}
 use denote.Steps.{owned, facts, heard, nothing}
 use denote.Triple.Spec.{Meets, tripleOf}
 use denote.Triple.Table.{entered, cited}
-use denote.Triple.Walked.{says, Stays, stay-none-slice, walkOf, Walks, ends-at, walked, goes-none-slice, walk-meets}
+use denote.Triple.Walked.{says, Stays, stay-none-slice, walkOf, ends-at, walked, goes-none-slice, walk-meets}
 use Rattle.model.specs.declared.Named.{Named}
 use Rattle.words_line.specs.declared.earliest.list.Copied.{Copied}
 use Rattle.words_line.specs.earliest.Copying.{noNamed, nothingCopied, withElement, copyTo, copyOf}

@@ -1,6 +1,6 @@
 -- `words_line::earliest::list::copy_some` meets its contract. The loop's invariant: what is copied so far is the copy of the elements passed.
 -- Assumes nothing.
-use Rattle.laws.specs.Basics.{_≡_, sym, _∙_, _-_, _≤_, arith, length, take, length-take-le, needs}
+use Rattle.laws.specs.Basics.{_≡_, sym, _∙_, _-_, _≤_, arith, take, length-take-le, needs}
 use lib.Seq.{getD-take}
 use Rattle.words_line.specs.earliest.Copying.{noNamed, copyTo}
 use Rattle.words_line.proofs.earliest.Lists.{to-length, copy-none, copy-more, copy-whole}

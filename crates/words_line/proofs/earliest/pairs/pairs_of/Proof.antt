@@ -1,5 +1,5 @@
 -- `words_line::earliest::pairs::pairs_of` meets its contract. Assumes nothing.
-use Rattle.laws.specs.Basics.{_≡_, refl, ℕ, _≤_, _<_, arith, ltb, leb, replicate, needs, ltb-true, leb-true}
+use Rattle.laws.specs.Basics.{_≡_, refl, _≤_, _<_, arith, ltb, leb, replicate, needs, ltb-true, leb-true}
 use Rattle.laws.specs.Truth.{and-out}
 use Rattle.words_line.specs.earliest.Copying.{IsCopy}
 use Rattle.words_line.proofs.earliest.Naming.{process-low, whole-same, rest-same, same-numbers, not-whole}
