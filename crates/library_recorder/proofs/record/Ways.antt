@@ -10,7 +10,7 @@ use Rattle.model.specs.Refusals.{number, checkpointRefusal, sendRefusal, delive
 use Rattle.whole_runs.specs.Outcomes.{Outcome, judged, checkpointOutcome, checkpointReport, sendOutcome, sendReport, deliverOutcome, deliverReport, loseOutcome, loseReport, recoverOutcome, recoverReport}
 use Rattle.whole_runs.specs.Calls.{Call, checkpoint, send, deliver, lose, recover, answered, call}
 use Rattle.theory_recording.specs.Replay.{recordBytes}
-use Rattle.theory_recording.specs.Recording.{unwritten, appended, recording, recordedCheckpoint, recordedSend, recordedDeliver, recordedLose, recordedRecover, eventOfCall}
+use Rattle.theory_recording.specs.Recording.{Recorded, unwritten, appended, recording, recordedCheckpoint, recordedSend, recordedDeliver, recordedLose, recordedRecover, eventOfCall}
 use Rattle.theory_recording.proofs.{Replay.record-of, Recording.fits-event}
 use Rattle.whole_runs.proofs.{whole.Reached.refusal, whole.Reached.refused-number, whole.Reached.refused-report, whole.Accepted.accepted-report}
 use Rattle.model.specs.declared.CheckpointAnswer.the-variants as checkpoint-answer
@@ -18,15 +18,6 @@ use Rattle.model.specs.declared.SendAnswer.the-variants as send-answer
 use Rattle.model.specs.declared.DeliverAnswer.the-variants as deliver-answer
 use Rattle.model.specs.declared.LoseAnswer.the-variants as lose-answer
 use Rattle.model.specs.declared.RecoverAnswer.the-variants as recover-answer
-
-module _ {A : Type 0} (own : Option Refusal) (outcome short : Outcome A) (bytes buffer : List ℕ) (place : ℕ) where
-  refused-way : (x : Refusal) → own ≡ some x → recording own outcome short bytes buffer place ≡ unwritten outcome buffer place
-  unfolding recording
-  refused-way x h = rw h
-
-  done-way : own ≡ none → length bytes ≡ 4 → ltb (length buffer - place) 4 ≡ false → recording own outcome short bytes buffer place ≡ appended outcome bytes buffer place
-  unfolding recording
-  done-way h four b = rw (h, four, b)
 
 -- The record of an accepted call fits, and has four bytes.
 pub four : (s : Run) (c : Call) (e : Event) → eventOfCall c ≡ some e → refusal s c ≡ none → length (recordBytes e) ≡ 4
@@ -70,147 +61,75 @@ is-refused s c z = by-refusal (refusal s c)
     clash : {P : Type 0} (b : Bool) → b ≡ true → b ≡ false → P
     clash b p q = absurd (let y : _≡_ {A = ℕ} 0 1 = cc in omega arith)
 
-module _ (s : Run) (i : ℕ) (deleted : List ℕ) (buffer : List ℕ) (place : ℕ) where
-  pub checkpoint-accepted : {answer : CheckpointAnswer} {v : Bool} → answer ≡ checkpointOutcome s i deleted .answer → v ≡ eqb (checkpointReport answer .refused) 0 → not v ≡ false
-      → (checkpointRefusal s i deleted ≡ none) × (fits (Checkpoint i) ≡ true) × (length (recordBytes (Checkpoint i)) ≡ 4)
-  unfolding refusal call answered eventOfCall
-  checkpoint-accepted {answer} {v} e t h =
-      let ok = is-accepted s (checkpoint i deleted) (ap (λ (a : CheckpointAnswer). eqb (checkpointReport a .refused) 0) (sym e) ∙ sym t ∙ affirmed v h) in
-      (ok, fits-event s (checkpoint i deleted) (Checkpoint i) ok refl, four s (checkpoint i deleted) (Checkpoint i) refl ok)
+-- The ways of one call: what follows where its answer, or the room for its record, tells which it is. `numberOf` is an answer's number, `asLent` an outcome that leaves the
+-- state and the lists as they came, `refusedBy` the answer of a refusal.
+pub record Ways {A : Type 0} (own : Option Refusal) (e : Event) (outcome : Outcome A) (numberOf : A → ℕ) (recorded : Recorded A) (asLent : A → Outcome A) (refusedBy : Refusal → A) (buffer : List ℕ) (place : ℕ) : Type 0 where
+  pub accepted : (answer : A) (v : Bool) → answer ≡ outcome .answer → v ≡ eqb (numberOf answer) 0 → not v ≡ false → (own ≡ none) × (fits e ≡ true) × (length (recordBytes e) ≡ 4)
+  pub refused : (answer : A) (v : Bool) → answer ≡ outcome .answer → v ≡ eqb (numberOf answer) 0 → not v ≡ true → recorded ≡ unwritten outcome buffer place
+  pub done : own ≡ none → length (recordBytes e) ≡ 4 → ltb (length buffer - place) 4 ≡ false → recorded ≡ appended outcome (recordBytes e) buffer place
+  -- Without room the answer is that of the call's own refusal, else 21.
+  pub without : (answer : A) → ltb (length buffer - place) 4 ≡ true → answer ≡ judged own refusedBy (refusedBy BufferTooShort) → recorded ≡ unwritten (asLent answer) buffer place
 
-  pub checkpoint-refused : {answer : CheckpointAnswer} {v : Bool} → answer ≡ checkpointOutcome s i deleted .answer → v ≡ eqb (checkpointReport answer .refused) 0 → not v ≡ true
-      → recordedCheckpoint s i deleted buffer place ≡ unwritten (checkpointOutcome s i deleted) buffer place
-  unfolding refusal call answered recordedCheckpoint
-  checkpoint-refused {answer} {v} e t h =
-      let x = is-refused s (checkpoint i deleted) (ap (λ (a : CheckpointAnswer). eqb (checkpointReport a .refused) 0) (sym e) ∙ sym t ∙ negated v h) in
-      refused-way (checkpointRefusal s i deleted) (checkpointOutcome s i deleted) _ (recordBytes (Checkpoint i)) buffer place (x .0) (x .1)
+module _ {A : Type 0} (s : Run) (c : Call) (e : Event) (asks : eventOfCall c ≡ some e) (outcome : Outcome A) (numberOf : A → ℕ)
+    (same-number : call s c .reply .report .refused ≡ numberOf (outcome .answer)) (asLent : A → Outcome A) (refusedBy : Refusal → A)
+    (refused-as : (x : Refusal) → refusal s c ≡ some x → outcome ≡ asLent (refusedBy x)) (buffer : List ℕ) (place : ℕ) where
+  abbrev recorded : Recorded A
+  recorded = recording (refusal s c) outcome (asLent (refusedBy BufferTooShort)) (recordBytes e) buffer place
 
-  pub checkpoint-done : checkpointRefusal s i deleted ≡ none → length (recordBytes (Checkpoint i)) ≡ 4 → ltb (length buffer - place) 4 ≡ false
-      → recordedCheckpoint s i deleted buffer place ≡ appended (checkpointOutcome s i deleted) (recordBytes (Checkpoint i)) buffer place
-  unfolding recordedCheckpoint
-  checkpoint-done ok four b = done-way (checkpointRefusal s i deleted) (checkpointOutcome s i deleted) _ (recordBytes (Checkpoint i)) buffer place ok four b
+  number-is : (answer : A) (v : Bool) → answer ≡ outcome .answer → v ≡ eqb (numberOf answer) 0 → eqb (call s c .reply .report .refused) 0 ≡ v
+  number-is answer v q t = ap (λ (k : ℕ). eqb k 0) same-number ∙ ap (λ (a : A). eqb (numberOf a) 0) (sym q) ∙ sym t
 
-  -- Without room: the state and the lists as they came, and the answer of the call's own refusal, else 21.
-  pub checkpoint-without : (answer : CheckpointAnswer) → ltb (length buffer - place) 4 ≡ true
-      → answer ≡ judged (checkpointRefusal s i deleted) (λ x. checkpoint-answer.Refused x) (checkpoint-answer.Refused BufferTooShort)
-      → recordedCheckpoint s i deleted buffer place ≡ unwritten (record { run = s; answer = answer; rose = 0; deleted = deleted; line = [] }) buffer place
-  unfolding refusal eventOfCall recordedCheckpoint recording unwritten checkpointOutcome
-  checkpoint-without answer b e = by-refusal (checkpointRefusal s i deleted)
-      (λ h. rw (e, h, four s (checkpoint i deleted) (Checkpoint i) refl h, b))
-      (λ x h. rw (e, h))
+  accepts : (answer : A) (v : Bool) → answer ≡ outcome .answer → v ≡ eqb (numberOf answer) 0 → not v ≡ false → (refusal s c ≡ none) × (fits e ≡ true) × (length (recordBytes e) ≡ 4)
+  accepts answer v q t h =
+      let ok = is-accepted s c (number-is answer v q t ∙ affirmed v h) in
+      (ok, fits-event s c e ok asks, four s c e asks ok)
 
-module _ (s : Run) (i j : ℕ) (buffer : List ℕ) (place : ℕ) where
-  pub send-accepted : {answer : SendAnswer} {v : Bool} → answer ≡ sendOutcome s i j .answer → v ≡ eqb (sendReport answer .refused) 0 → not v ≡ false
-      → (sendRefusal s i j ≡ none) × (fits (Send i j) ≡ true) × (length (recordBytes (Send i j)) ≡ 4)
-  unfolding refusal call answered eventOfCall
-  send-accepted {answer} {v} e t h =
-      let ok = is-accepted s (send i j) (ap (λ (a : SendAnswer). eqb (sendReport a .refused) 0) (sym e) ∙ sym t ∙ affirmed v h) in
-      (ok, fits-event s (send i j) (Send i j) ok refl, four s (send i j) (Send i j) refl ok)
+  refuses : (answer : A) (v : Bool) → answer ≡ outcome .answer → v ≡ eqb (numberOf answer) 0 → not v ≡ true → recorded ≡ unwritten outcome buffer place
+  unfolding recording
+  refuses answer v q t h = let x = is-refused s c (number-is answer v q t ∙ negated v h) in rw (x .1)
 
-  pub send-refused : {answer : SendAnswer} {v : Bool} → answer ≡ sendOutcome s i j .answer → v ≡ eqb (sendReport answer .refused) 0 → not v ≡ true
-      → recordedSend s i j buffer place ≡ unwritten (sendOutcome s i j) buffer place
-  unfolding refusal call answered recordedSend
-  send-refused {answer} {v} e t h =
-      let x = is-refused s (send i j) (ap (λ (a : SendAnswer). eqb (sendReport a .refused) 0) (sym e) ∙ sym t ∙ negated v h) in
-      refused-way (sendRefusal s i j) (sendOutcome s i j) _ (recordBytes (Send i j)) buffer place (x .0) (x .1)
+  is-done : refusal s c ≡ none → length (recordBytes e) ≡ 4 → ltb (length buffer - place) 4 ≡ false → recorded ≡ appended outcome (recordBytes e) buffer place
+  unfolding recording
+  is-done h long b = rw (h, long, b)
 
-  pub send-done : sendRefusal s i j ≡ none → length (recordBytes (Send i j)) ≡ 4 → ltb (length buffer - place) 4 ≡ false
-      → recordedSend s i j buffer place ≡ appended (sendOutcome s i j) (recordBytes (Send i j)) buffer place
-  unfolding recordedSend
-  send-done ok four b = done-way (sendRefusal s i j) (sendOutcome s i j) _ (recordBytes (Send i j)) buffer place ok four b
+  no-place : (answer : A) → ltb (length buffer - place) 4 ≡ true → answer ≡ judged (refusal s c) refusedBy (refusedBy BufferTooShort) → recorded ≡ unwritten (asLent answer) buffer place
+  unfolding recording
+  no-place answer b q = by-refusal (refusal s c)
+      (λ h. rw (q, h, four s c e asks h, b))
+      (λ x h. rw (q, h, refused-as x h))
 
-  -- Without room: the state as it came, and the answer of the call's own refusal, else 21.
-  pub send-without : (answer : SendAnswer) → ltb (length buffer - place) 4 ≡ true
-      → answer ≡ judged (sendRefusal s i j) (λ x. send-answer.Refused x) (send-answer.Refused BufferTooShort)
-      → recordedSend s i j buffer place ≡ unwritten (record { run = s; answer = answer; rose = 0; deleted = []; line = [] }) buffer place
-  unfolding refusal eventOfCall recordedSend recording unwritten sendOutcome
-  send-without answer b e = by-refusal (sendRefusal s i j)
-      (λ h. rw (e, h, four s (send i j) (Send i j) refl h, b))
-      (λ x h. rw (e, h))
+  ways : Ways (refusal s c) e outcome numberOf recorded asLent refusedBy buffer place
+  ways = record { accepted = accepts; refused = refuses; done = is-done; without = no-place }
 
-module _ (s : Run) (m : ℕ) (deleted : List ℕ) (buffer : List ℕ) (place : ℕ) where
-  pub deliver-accepted : {answer : DeliverAnswer} {v : Bool} → answer ≡ deliverOutcome s m deleted .answer → v ≡ eqb (deliverReport answer .refused) 0 → not v ≡ false
-      → (deliverRefusal s m deleted ≡ none) × (fits (Deliver m) ≡ true) × (length (recordBytes (Deliver m)) ≡ 4)
-  unfolding refusal call answered eventOfCall
-  deliver-accepted {answer} {v} e t h =
-      let ok = is-accepted s (deliver m deleted) (ap (λ (a : DeliverAnswer). eqb (deliverReport a .refused) 0) (sym e) ∙ sym t ∙ affirmed v h) in
-      (ok, fits-event s (deliver m deleted) (Deliver m) ok refl, four s (deliver m deleted) (Deliver m) refl ok)
+abbrev unchanged : {A : Type 0} → Run → List ℕ → List ℕ → A → Outcome A
+unchanged s deleted line a = record { run = s; answer = a; rose = 0; deleted = deleted; line = line }
 
-  pub deliver-refused : {answer : DeliverAnswer} {v : Bool} → answer ≡ deliverOutcome s m deleted .answer → v ≡ eqb (deliverReport answer .refused) 0 → not v ≡ true
-      → recordedDeliver s m deleted buffer place ≡ unwritten (deliverOutcome s m deleted) buffer place
-  unfolding refusal call answered recordedDeliver
-  deliver-refused {answer} {v} e t h =
-      let x = is-refused s (deliver m deleted) (ap (λ (a : DeliverAnswer). eqb (deliverReport a .refused) 0) (sym e) ∙ sym t ∙ negated v h) in
-      refused-way (deliverRefusal s m deleted) (deliverOutcome s m deleted) _ (recordBytes (Deliver m)) buffer place (x .0) (x .1)
+pub checkpoint-ways : (s : Run) (i : ℕ) (deleted : List ℕ) (buffer : List ℕ) (place : ℕ) → Ways (checkpointRefusal s i deleted) (Checkpoint i) (checkpointOutcome s i deleted) (λ (a : CheckpointAnswer). checkpointReport a .refused)
+    (recordedCheckpoint s i deleted buffer place) (unchanged s deleted []) checkpoint-answer.Refused buffer place
+unfolding refusal call answered eventOfCall recordedCheckpoint checkpointOutcome
+checkpoint-ways s i deleted buffer place =
+    ways s (checkpoint i deleted) (Checkpoint i) refl (checkpointOutcome s i deleted) (λ (a : CheckpointAnswer). checkpointReport a .refused) refl (unchanged s deleted []) checkpoint-answer.Refused (λ x h. rw h) buffer place
 
-  pub deliver-done : deliverRefusal s m deleted ≡ none → length (recordBytes (Deliver m)) ≡ 4 → ltb (length buffer - place) 4 ≡ false
-      → recordedDeliver s m deleted buffer place ≡ appended (deliverOutcome s m deleted) (recordBytes (Deliver m)) buffer place
-  unfolding recordedDeliver
-  deliver-done ok four b = done-way (deliverRefusal s m deleted) (deliverOutcome s m deleted) _ (recordBytes (Deliver m)) buffer place ok four b
+pub send-ways : (s : Run) (i j : ℕ) (buffer : List ℕ) (place : ℕ) → Ways (sendRefusal s i j) (Send i j) (sendOutcome s i j) (λ (a : SendAnswer). sendReport a .refused)
+    (recordedSend s i j buffer place) (unchanged s [] []) send-answer.Refused buffer place
+unfolding refusal call answered eventOfCall recordedSend sendOutcome
+send-ways s i j buffer place =
+    ways s (send i j) (Send i j) refl (sendOutcome s i j) (λ (a : SendAnswer). sendReport a .refused) refl (unchanged s [] []) send-answer.Refused (λ x h. rw h) buffer place
 
-  -- Without room: the state and the lists as they came, and the answer of the call's own refusal, else 21.
-  pub deliver-without : (answer : DeliverAnswer) → ltb (length buffer - place) 4 ≡ true
-      → answer ≡ judged (deliverRefusal s m deleted) (λ x. deliver-answer.Refused x) (deliver-answer.Refused BufferTooShort)
-      → recordedDeliver s m deleted buffer place ≡ unwritten (record { run = s; answer = answer; rose = 0; deleted = deleted; line = [] }) buffer place
-  unfolding refusal eventOfCall recordedDeliver recording unwritten deliverOutcome
-  deliver-without answer b e = by-refusal (deliverRefusal s m deleted)
-      (λ h. rw (e, h, four s (deliver m deleted) (Deliver m) refl h, b))
-      (λ x h. rw (e, h))
+pub deliver-ways : (s : Run) (m : ℕ) (deleted : List ℕ) (buffer : List ℕ) (place : ℕ) → Ways (deliverRefusal s m deleted) (Deliver m) (deliverOutcome s m deleted) (λ (a : DeliverAnswer). deliverReport a .refused)
+    (recordedDeliver s m deleted buffer place) (unchanged s deleted []) deliver-answer.Refused buffer place
+unfolding refusal call answered eventOfCall recordedDeliver deliverOutcome
+deliver-ways s m deleted buffer place =
+    ways s (deliver m deleted) (Deliver m) refl (deliverOutcome s m deleted) (λ (a : DeliverAnswer). deliverReport a .refused) refl (unchanged s deleted []) deliver-answer.Refused (λ x h. rw h) buffer place
 
-module _ (s : Run) (m : ℕ) (buffer : List ℕ) (place : ℕ) where
-  pub lose-accepted : {answer : LoseAnswer} {v : Bool} → answer ≡ loseOutcome s m .answer → v ≡ eqb (loseReport answer .refused) 0 → not v ≡ false
-      → (loseRefusal s m ≡ none) × (fits (Lose m) ≡ true) × (length (recordBytes (Lose m)) ≡ 4)
-  unfolding refusal call answered eventOfCall
-  lose-accepted {answer} {v} e t h =
-      let ok = is-accepted s (lose m) (ap (λ (a : LoseAnswer). eqb (loseReport a .refused) 0) (sym e) ∙ sym t ∙ affirmed v h) in
-      (ok, fits-event s (lose m) (Lose m) ok refl, four s (lose m) (Lose m) refl ok)
+pub lose-ways : (s : Run) (m : ℕ) (buffer : List ℕ) (place : ℕ) → Ways (loseRefusal s m) (Lose m) (loseOutcome s m) (λ (a : LoseAnswer). loseReport a .refused)
+    (recordedLose s m buffer place) (unchanged s [] []) lose-answer.Refused buffer place
+unfolding refusal call answered eventOfCall recordedLose loseOutcome
+lose-ways s m buffer place =
+    ways s (lose m) (Lose m) refl (loseOutcome s m) (λ (a : LoseAnswer). loseReport a .refused) refl (unchanged s [] []) lose-answer.Refused (λ x h. rw h) buffer place
 
-  pub lose-refused : {answer : LoseAnswer} {v : Bool} → answer ≡ loseOutcome s m .answer → v ≡ eqb (loseReport answer .refused) 0 → not v ≡ true
-      → recordedLose s m buffer place ≡ unwritten (loseOutcome s m) buffer place
-  unfolding refusal call answered recordedLose
-  lose-refused {answer} {v} e t h =
-      let x = is-refused s (lose m) (ap (λ (a : LoseAnswer). eqb (loseReport a .refused) 0) (sym e) ∙ sym t ∙ negated v h) in
-      refused-way (loseRefusal s m) (loseOutcome s m) _ (recordBytes (Lose m)) buffer place (x .0) (x .1)
-
-  pub lose-done : loseRefusal s m ≡ none → length (recordBytes (Lose m)) ≡ 4 → ltb (length buffer - place) 4 ≡ false
-      → recordedLose s m buffer place ≡ appended (loseOutcome s m) (recordBytes (Lose m)) buffer place
-  unfolding recordedLose
-  lose-done ok four b = done-way (loseRefusal s m) (loseOutcome s m) _ (recordBytes (Lose m)) buffer place ok four b
-
-  -- Without room: the state as it came, and the answer of the call's own refusal, else 21.
-  pub lose-without : (answer : LoseAnswer) → ltb (length buffer - place) 4 ≡ true
-      → answer ≡ judged (loseRefusal s m) (λ x. lose-answer.Refused x) (lose-answer.Refused BufferTooShort)
-      → recordedLose s m buffer place ≡ unwritten (record { run = s; answer = answer; rose = 0; deleted = []; line = [] }) buffer place
-  unfolding refusal eventOfCall recordedLose recording unwritten loseOutcome
-  lose-without answer b e = by-refusal (loseRefusal s m)
-      (λ h. rw (e, h, four s (lose m) (Lose m) refl h, b))
-      (λ x h. rw (e, h))
-
-module _ (s : Run) (F : ℕ) (deleted lent : List ℕ) (buffer : List ℕ) (place : ℕ) where
-  pub recover-accepted : {answer : RecoverAnswer} {v : Bool} → answer ≡ recoverOutcome s F deleted lent .answer → v ≡ eqb (recoverReport answer .refused) 0 → not v ≡ false
-      → (recoverRefusal s F deleted lent ≡ none) × (fits (Recover F) ≡ true) × (length (recordBytes (Recover F)) ≡ 4)
-  unfolding refusal call answered eventOfCall
-  recover-accepted {answer} {v} e t h =
-      let ok = is-accepted s (recover F deleted lent) (ap (λ (a : RecoverAnswer). eqb (recoverReport a .refused) 0) (sym e) ∙ sym t ∙ affirmed v h) in
-      (ok, fits-event s (recover F deleted lent) (Recover F) ok refl, four s (recover F deleted lent) (Recover F) refl ok)
-
-  pub recover-refused : {answer : RecoverAnswer} {v : Bool} → answer ≡ recoverOutcome s F deleted lent .answer → v ≡ eqb (recoverReport answer .refused) 0 → not v ≡ true
-      → recordedRecover s F deleted lent buffer place ≡ unwritten (recoverOutcome s F deleted lent) buffer place
-  unfolding refusal call answered recordedRecover
-  recover-refused {answer} {v} e t h =
-      let x = is-refused s (recover F deleted lent) (ap (λ (a : RecoverAnswer). eqb (recoverReport a .refused) 0) (sym e) ∙ sym t ∙ negated v h) in
-      refused-way (recoverRefusal s F deleted lent) (recoverOutcome s F deleted lent) _ (recordBytes (Recover F)) buffer place (x .0) (x .1)
-
-  pub recover-done : recoverRefusal s F deleted lent ≡ none → length (recordBytes (Recover F)) ≡ 4 → ltb (length buffer - place) 4 ≡ false
-      → recordedRecover s F deleted lent buffer place ≡ appended (recoverOutcome s F deleted lent) (recordBytes (Recover F)) buffer place
-  unfolding recordedRecover
-  recover-done ok four b = done-way (recoverRefusal s F deleted lent) (recoverOutcome s F deleted lent) _ (recordBytes (Recover F)) buffer place ok four b
-
-  -- Without room: the state and the lists as they came, and the answer of the call's own refusal, else 21.
-  pub recover-without : (answer : RecoverAnswer) → ltb (length buffer - place) 4 ≡ true
-      → answer ≡ judged (recoverRefusal s F deleted lent) (λ x. recover-answer.Refused x) (recover-answer.Refused BufferTooShort)
-      → recordedRecover s F deleted lent buffer place ≡ unwritten (record { run = s; answer = answer; rose = 0; deleted = deleted; line = lent }) buffer place
-  unfolding refusal eventOfCall recordedRecover recording unwritten recoverOutcome
-  recover-without answer b e = by-refusal (recoverRefusal s F deleted lent)
-      (λ h. rw (e, h, four s (recover F deleted lent) (Recover F) refl h, b))
-      (λ x h. rw (e, h))
+pub recover-ways : (s : Run) (F : ℕ) (deleted lent : List ℕ) (buffer : List ℕ) (place : ℕ) → Ways (recoverRefusal s F deleted lent) (Recover F) (recoverOutcome s F deleted lent) (λ (a : RecoverAnswer). recoverReport a .refused)
+    (recordedRecover s F deleted lent buffer place) (unchanged s deleted lent) recover-answer.Refused buffer place
+unfolding refusal call answered eventOfCall recordedRecover recoverOutcome
+recover-ways s F deleted lent buffer place =
+    ways s (recover F deleted lent) (Recover F) refl (recoverOutcome s F deleted lent) (λ (a : RecoverAnswer). recoverReport a .refused) refl (unchanged s deleted lent) recover-answer.Refused (λ x h. rw h) buffer place
