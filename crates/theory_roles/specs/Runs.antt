@@ -53,7 +53,7 @@ unfoldable pub consoleTranscript : Run → List ConsoleCall → List Exchange
 consoleTranscript s [] = []
 consoleTranscript s (k ∷ l) = exchanged (k .caller) s (k .asked) ++ consoleTranscript (consoleCall s k .run) l
 
--- The surviving history of console calls behind a console start: "built from the calls and their answers, and from nothing in the state".
+-- The surviving history of console calls after a console start: "built from the calls and their answers, and from nothing in the state".
 unfoldable pub consoleHistory : Caller → ℕ → List ℕ → List ConsoleCall → Surviving
 consoleHistory c n sizes calls = surviving n sizes (consoleTranscript (consoleStart c n sizes .run) calls)
 
