@@ -1,24 +1,19 @@
 // Taking a carried vector in (document 02, Notes 1 and 3): a step for each entry, ascending.
 use model::Interval;
 use model::PROCESSES;
+use words::rows::vector;
 ghost use Rattle.laws.specs.Basics.{_≡_, [], _∷_, _+_, _^_, _≤_, _<_, length, pick};
 ghost use Rattle.model.specs.{Words.below, Words.mostProcesses, Steps.takenVector, Steps.risen};
 ghost use Rattle.words.specs.{Layout.vectorIn, Puts.puts, Puts.one, Puts.vectorPut};
 ghost use Rattle.words_process.specs.TakingIn.{takenWord, risenBit};
-
-// The greater of an own entry and the carried one.
-fn greater(own: Interval, carried: Interval) -> Interval
-    ensures { λ r. ⌜ r ≡ pick (below own carried) carried own ⌝ }
-{
-    if own.0 < carried.0 { carried } else { own }
-}
 
 // What entry f adds to the set: its bit, worth 2 to the power f, if it rises.
 fn bit_if_risen(own: Interval, carried: Interval, f: usize) -> u16
     requires { ⌜ f < mostProcesses ⌝ }
     ensures { λ r. ⌜ r ≡ pick (below own carried) (2 ^ f) 0 ⌝ }
 {
-    if own.0 < carried.0 { 1u16 << f } else { 0 }
+    let risen = vector::rises(own, carried);
+    if risen { 1u16 << f } else { 0 }
 }
 
 // The step for entry f: the entry takes the greater of the two, and its bit comes to the set if it rises. It is handed the vector, at its place in the words, and
@@ -30,7 +25,7 @@ fn take_entry(w: &mut [u16], at: usize, rose: u16, carried: [Interval; PROCESSES
 {
     let own = words::interval_of(w[at + f]);
     let other = carried[f];
-    let most = greater(own, other);
+    let most = vector::greater(own, other);
     w[at + f] = most.0;
     rose | bit_if_risen(own, other, f)
 }

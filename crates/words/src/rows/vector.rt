@@ -39,13 +39,23 @@ pub fn advanced(v: [Interval; PROCESSES], i: usize) -> [Interval; PROCESSES]
     w
 }
 
-// Some carried entry is greater than the own one.
+// Whether an own entry rises as the carried one is taken in. This is the one place where the two are compared.
+pub fn rises(own: Interval, carried: Interval) -> bool
+    ensures { λ r. ⌜ r ≡ below own carried ⌝ }
+{
+    own.0 < carried.0
+}
+
+// Some entry rises.
 pub fn is_newer(own: [Interval; PROCESSES], carried: [Interval; PROCESSES]) -> bool
     ensures { λ r. ⌜ r ≡ newer own carried ⌝ }
 {
     let mut any = false;
     for f in 0..PROCESSES {
-        if own[f].0 < carried[f].0 {
+        let x = own[f];
+        let y = carried[f];
+        let risen = rises(x, y);
+        if risen {
             any = true;
         }
     }
@@ -53,10 +63,11 @@ pub fn is_newer(own: [Interval; PROCESSES], carried: [Interval; PROCESSES]) -> b
 }
 
 // The greater of an own entry and the carried one.
-fn greater(own: Interval, carried: Interval) -> Interval
+pub fn greater(own: Interval, carried: Interval) -> Interval
     ensures { λ r. ⌜ r ≡ pick (below own carried) carried own ⌝ }
 {
-    if own.0 < carried.0 { carried } else { own }
+    let risen = rises(own, carried);
+    if risen { carried } else { own }
 }
 
 // The greater of two vectors at each entry. Every iteration stores its entry, changed or not: such a loop takes several entries at a time.
