@@ -3,10 +3,10 @@
 use crate::places;
 use model::MESSAGES;
 use model::Message;
-ghost use Rattle.laws.specs.Basics.{_≡_, _&&_, _+_, _-_, _≤_, _<_, eqb, ltb, length, pick};
+ghost use Rattle.laws.specs.Basics.{_≡_, _+_, _-_, _≤_, _<_, eqb, ltb, length, pick};
 ghost use Rattle.model.specs.Words.{mostUnderWay, mostProcesses};
 ghost use Rattle.words.specs.{Layout.word, Layout.endOf, Layout.messageIn, Layout.isMessage, Layout.stateSize, Puts.puts};
-ghost use Rattle.words.specs.messages.Places.{placeOf, foundAt, endBelow, messagePuts, cleared, takenOut, movedTo, closing, clearedFrom, closedUp, withRoom, putLast};
+ghost use Rattle.words.specs.messages.Places.{placeBelow, lowBelow, placeOf, foundAt, endBelow, messagePuts, cleared, takenOut, movedTo, closing, clearedFrom, closedUp, withRoom, putLast};
 
 // The place of a message that is under way.
 pub enum Found {
@@ -14,10 +14,13 @@ pub enum Found {
     At(usize),
 }
 
-// A word as a number of 32 bits.
 // The end of the places in use where all of them are.
 const LAST_PLACE: u16 = MESSAGES as u16;
 
+// How many places are looked at together.
+const TOGETHER: usize = 16;
+
+// A word as a number of 32 bits.
 fn wide(x: u16) -> u32
     ensures { λ r. ⌜ (r ≡ x) × (r < 65536) ⌝ }
 {
@@ -41,17 +44,12 @@ pub fn is_used(w: &[u16], k: usize) -> bool
     number_at(w, k) != 0
 }
 
-// One above the place k where it has the number, which comes as its two words; 0 where it has another. Words are compared, and not numbers, since a register holds
-// more of them.
-fn hit(low: u16, high: u16, wanted_low: u16, wanted_high: u16, k: u16) -> u16
+// One above the place k where its number has this low word; 0 where it has another.
+fn hit(low: u16, wanted: u16, k: u16) -> u16
     requires { ⌜ k < mostUnderWay ⌝ }
-    ensures { λ r. ⌜ r ≡ pick (eqb low «wanted_low» && eqb high «wanted_high») (k + 1) 0 ⌝ }
+    ensures { λ r. ⌜ r ≡ pick (eqb low wanted) (k + 1) 0 ⌝ }
 {
-    if (low == wanted_low) & (high == wanted_high) {
-        k + 1
-    } else {
-        0
-    }
+    if low == wanted { k + 1 } else { 0 }
 }
 
 fn greater(a: u16, b: u16) -> u16
@@ -60,7 +58,37 @@ fn greater(a: u16, b: u16) -> u16
     if a < b { b } else { a }
 }
 
-// The place of message m. A place that is not in use has the number 0, which no message has.
+// One past the last of the first places that has a number with this low word; 0 where none has. Words are compared, and not numbers, since a register holds more of them.
+fn low_before(w: &[u16], low: u16, to: usize) -> u16
+    requires { ⌜ (length (now w) ≡ stateSize) × (to ≤ mostUnderWay) ⌝ }
+    ensures { λ r. ⌜ r ≡ lowBelow (now (w .entry)) low to ⌝ }
+{
+    let mut past: u16 = 0;
+    for k in 0..to {
+        let here = hit(w[places::LOWS + k], low, k as u16);
+        past = greater(past, here);
+    }
+    past
+}
+
+// The place of message m among the first ones, one after the other.
+fn search_before(w: &[u16], m: u32, end: usize) -> Found
+    requires { ⌜ (length (now w) ≡ stateSize) × (end ≤ mostUnderWay) ⌝ }
+    ensures { λ r. ⌜ r ≡ foundAt (placeBelow (now (w .entry)) m end) ⌝ }
+{
+    let mut past = end;
+    while 0 < past {
+        let number = number_at(w, past - 1);
+        if number == m {
+            return Found::At(past - 1);
+        }
+        past -= 1;
+    }
+    Found::Nothing
+}
+
+// The place of message m. A place that is not in use has the number 0, which no message has. Low words are looked at first, to a whole number of places that are looked at
+// together: two numbers under way seldom share one, and seldom does a place past the end hold it.
 pub fn place_of(w: &[u16], m: u32) -> Found
     requires { ⌜ (length (now w) ≡ stateSize) × (endOf (now w) ≤ mostUnderWay) ⌝ }
     ensures { λ r. ⌜ r ≡ foundAt (placeOf (now (w .entry)) m) ⌝ }
@@ -68,24 +96,20 @@ pub fn place_of(w: &[u16], m: u32) -> Found
     if m == 0 {
         return Found::Nothing;
     }
-    let low = (m % 65536) as u16;
-    let high = (m / 65536) as u16;
     let end = w[places::END] as usize;
-    let mut past: u16 = 0;
-    for k in 0..end {
-        let here = hit(
-            w[places::LOWS + k],
-            w[places::HIGHS + k],
-            low,
-            high,
-            k as u16,
-        );
-        past = greater(past, here);
-    }
+    let whole = TOGETHER * ((end + TOGETHER - 1) / TOGETHER);
+    let past = low_before(w, (m % 65536) as u16, whole) as usize;
     if past == 0 {
         return Found::Nothing;
     }
-    Found::At(past as usize - 1)
+    if end < past {
+        return search_before(w, m, end);
+    }
+    let number = number_at(w, past - 1);
+    if number == m {
+        return Found::At(past - 1);
+    }
+    search_before(w, m, end)
 }
 
 fn put(w: &mut [u16], k: usize, x: Message)
@@ -167,13 +191,30 @@ fn one_if_used(w: &[u16], k: usize) -> usize
     if used { 1 } else { 0 }
 }
 
+// The first place that is not used, 64 where all are: what stands before it stays where it is when the messages close up.
+fn first_unused(w: &[u16]) -> usize
+    requires { ⌜ length (now w) ≡ stateSize ⌝ }
+    ensures { λ r. ⌜ (r ≤ mostUnderWay) × (closing (now (w .entry)) r ≡ record { words = now (w .entry); many = r }) ⌝ }
+{
+    let mut k = 0;
+    while k < MESSAGES {
+        let used = is_used(w, k);
+        if !used {
+            return k;
+        }
+        k += 1;
+    }
+    k
+}
+
 // The messages move to the first places, one after the other, with no branch: which places are used cannot be foreseen. The result says how many they are.
 fn gather(w: &mut [u16]) -> usize
     requires { ⌜ length (now w) ≡ stateSize ⌝ }
     ensures { λ r. ⌜ (now (w .exit) ≡ closing (now (w .entry)) mostUnderWay .words) × (r ≡ closing (now (w .entry)) mostUnderWay .many) ⌝ }
 {
-    let mut to = 0;
-    for k in 0..MESSAGES {
+    let first = first_unused(w);
+    let mut to = first;
+    for k in first..MESSAGES {
         let one = one_if_used(w, k);
         move_to(w, k, to);
         to += one;

@@ -15,6 +15,11 @@ placeBelow w m (suc k) = pick (eqb (messageIn w k .number) m) (suc k) (placeBelo
 unfoldable pub placeOf : List ℕ → ℕ → ℕ
 placeOf w m = pick (eqb m 0) 0 (placeBelow w m (endOf w))
 
+-- One past the last of the first places that has a number with this low word; 0 where none has.
+unfoldable pub lowBelow : List ℕ → ℕ → ℕ → ℕ
+lowBelow w x zero = 0
+lowBelow w x (suc k) = pick (eqb (word w (lowAt k)) x) (suc k) (lowBelow w x k)
+
 -- The place of a message that was looked up.
 unfoldable pub foundAt : ℕ → Found
 foundAt zero = Nothing

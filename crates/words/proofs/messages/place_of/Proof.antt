@@ -1,89 +1,99 @@
 -- `words::messages::place_of` meets its contract. Assumes nothing.
-use Rattle.laws.specs.Basics.{_≡_, refl, sym, _∙_, ap, _&&_, List, ℕ, zero, suc, _+_, _-_, _*_, _/_, _%_, _≤_, _<_, arith, eqb, ltb, needs, eq-eqb, ne-eqb, eqb-true, lt-ltb, le-ltb, pick, by-bool}
-use native.Mathlib.Numerals.{add-one}
-use Rattle.laws.specs.{Elements.same-test, Truth.and-out, Truth.and-both}
+use Rattle.laws.specs.Basics.{_≡_, refl, sym, _∙_, ap, List, ℕ, zero, suc, _+_, _-_, _*_, _/_, _%_, _≤_, _<_, arith, needs, eq-eqb, ne-eqb, by-eq}
 use Rattle.words.specs.Layout.{word, endOf, lowAt, highAt, messageIn}
 use Rattle.words.specs.declared.messages.Found.the-variants.{At}
-use Rattle.words.specs.messages.Places.{placeBelow, placeOf, foundAt}
+use Rattle.words.specs.messages.Places.{placeBelow, lowBelow, placeOf, foundAt}
 use Rattle.words.proofs.messages.place_of.Statement.{statement}
 use Rattle.words.proofs.messages.place_of.Tie as tie
 
-abbrev Inv-loop : tie.InvT-loop
-Inv-loop w m low high end past₀ k₀ past k = (k ≤ end) × (past ≤ k) × (past ≡ placeBelow w m k)
+-- The low word stands in no place past the last that has it.
+low-missing : (w : List ℕ) (x n j : ℕ) → lowBelow w x n ≤ j → j < n → word w (lowAt j) ≡ x → ⊥
+unfolding lowBelow
+low-missing w x zero j le lt e = omega arith
+low-missing w x (suc n) j le lt e = by-eq (word w (lowAt n)) x
+    (λ q. let z : suc n ≤ j = rw (eq-eqb _ _ q) at le in omega arith)
+    (λ q. by-eq j n (λ r. q (ap (λ i. word w (lowAt i)) (sym r) ∙ e)) (λ ne. low-missing w x n j (rw (ne-eqb _ _ q) at le) (omega arith) e))
 
-abbrev μ-loop : tie.MeasureT-loop
-μ-loop w m low high end past₀ k₀ past k = end - k
+-- The low words of all n places have been looked at, and of these e are in use: the words are of 16 bits.
+module _ (w : List ℕ) (m n : ℕ) (small : (j : ℕ) → word w (lowAt j) < 65536) where
+  other-number : (j : ℕ) → lowBelow w (m % 65536) n ≤ j → j < n → messageIn w j .number ≡ m → ⊥
+  unfolding messageIn
+  other-number j le lt e = low-missing w (m % 65536) n j le lt (omega (arith, small j))
 
--- Two words are those of a number exactly if they make it.
-same-words : (low high m : ℕ) → low < 65536 → (eqb low (m % 65536) && eqb high (m / 65536)) ≡ eqb (low + 65536 * high) m
-same-words low high m lt = same-test _ _
-    (λ h. let c = and-out (eqb low (m % 65536)) (eqb high (m / 65536)) h in eq-eqb (low + 65536 * high) m (let a = eqb-true low (m % 65536) (c .0) in let b = eqb-true high (m / 65536) (c .1) in omega arith))
-    (λ h. let e = eqb-true (low + 65536 * high) m h in
-    and-both (eqb low (m % 65536)) (eqb high (m / 65536)) (eq-eqb low (m % 65536) (omega arith)) (eq-eqb high (m / 65536) (omega arith)))
+  below-low : (e : ℕ) → e ≤ n → lowBelow w (m % 65536) n ≤ e → placeBelow w m e ≡ placeBelow w m (lowBelow w (m % 65536) n)
+  unfolding placeBelow
+  below-low zero le low = let z : lowBelow w (m % 65536) n ≡ 0 = omega arith in rw z refl
+  below-low (suc e) le low = by-eq (lowBelow w (m % 65536) n) (suc e)
+      (λ q. rw q refl)
+      (λ ne. rw (ne-eqb (messageIn w e .number) m (other-number e (omega arith) (omega arith))) (below-low e (omega arith) (omega arith)))
 
--- The greater of what was found and what stands here is what is found one place on.
-one-more : (w : List ℕ) (m k past here : ℕ) → past ≤ k → past ≡ placeBelow w m k → word w (lowAt k) < 65536
-    → here ≡ pick (eqb (word w (lowAt k)) (m % 65536) && eqb (word w (highAt k)) (m / 65536)) (k + 1) 0
-    → (pick (ltb past here) here past ≡ placeBelow w m (k + 1)) × (pick (ltb past here) here past ≤ k + 1)
-unfolding placeBelow messageIn
-one-more w m k past here le e lt h = by-bool (eqb (word w (lowAt k) + 65536 * word w (highAt k)) m)
-    (λ q. let z : here ≡ k + 1 = rw (same-words (word w (lowAt k)) (word w (highAt k)) m lt, q) at h in
-    rw (z, lt-ltb past (k + 1) (omega arith), add-one k, q) (refl, omega arith))
-    (λ q. let z : here ≡ 0 = rw (same-words (word w (lowAt k)) (word w (highAt k)) m lt, q) at h in
-    rw (z, le-ltb past 0 (omega arith), add-one k, q) (e, omega arith))
+  none-below : (e past : ℕ) → e ≤ n → past ≡ lowBelow w (m % 65536) n → past ≡ 0 → placeBelow w m e ≡ 0
+  unfolding placeBelow
+  none-below e past le p z = below-low e le (omega arith) ∙ rw (← p, z) refl
 
-nowhere : (w : List ℕ) (m : ℕ) → 0 ≡ placeBelow w m 0
-unfolding placeBelow
-nowhere w m = refl
+  last-number : (k : ℕ) → (k ≡ 0 → ⊥) → messageIn w (k - 1) .number ≡ m → placeBelow w m k ≡ k
+  unfolding placeBelow
+  last-number zero ne is = absurd (ne refl)
+  last-number (suc k) ne is = let q : suc k - 1 ≡ k = omega arith in rw (eq-eqb (messageIn w k .number) m (rw q at is))
+
+  last-below : (e past : ℕ) → e ≤ n → past ≡ lowBelow w (m % 65536) n → past ≤ e → (past ≡ 0 → ⊥) → messageIn w (past - 1) .number ≡ m → placeBelow w m e ≡ past
+  last-below e past le p less ne is = below-low e le (omega arith) ∙ rw (← p) (last-number past ne is)
+
+-- A whole number of 16 places.
+whole : (e : ℕ) → e ≤ 16 * ((e + 16 - 1) / 16)
+whole e = omega arith
 
 no-number : (w : List ℕ) (m : ℕ) → m ≡ 0 → placeOf w m ≡ 0
 unfolding placeOf
 no-number w m e = rw (eq-eqb m 0 e) refl
 
-some-number : (w : List ℕ) (m k : ℕ) → (m ≡ 0 → ⊥) → k ≡ placeBelow w m (endOf w) → placeOf w m ≡ k
+some-number : (w : List ℕ) (m : ℕ) → (m ≡ 0 → ⊥) → placeOf w m ≡ placeBelow w m (endOf w)
 unfolding placeOf
-some-number w m k ne e = rw (ne-eqb m 0 ne) (sym e)
+some-number w m ne = rw (ne-eqb m 0 ne) refl
 
 at-place : (k : ℕ) → (k ≡ 0 → ⊥) → At (k - 1) ≡ foundAt k
 unfolding foundAt
 at-place zero ne = absurd (ne refl)
 at-place (suc k) ne = ap At (let e : suc k - 1 ≡ k = omega arith in e)
 
-returns : tie.Need-returns Inv-loop μ-loop
+returns : tie.Need-returns
 unfolding foundAt
 returns c = let a = c .before .before .args in rw (no-number (a .w .now) (a .m) (c .if1 .taken)) refl
 
-loop-again : tie.Need-loop-again Inv-loop μ-loop
-loop-again c =
-    let h = c .before in
-    let r = h .before .before in
-    let l = r .before .before .loop in
-    let a = r .before .before .before .before .before .before .args in
-    let g = one-more (a .w .now) (a .m) (l .k) (l .past) _ (l .inv .1) (l .inv .2) (omega (arith, r .shared-slice-known3 .given (lowAt (l .k)))) (h .hit .ensures) in
-    (search needs, rw (c .greater .ensures) (g .1), c .greater .ensures ∙ g .0)
-
-returns-2 : tie.Need-returns-2 Inv-loop μ-loop
+returns-2 : tie.Need-returns-2
 unfolding foundAt
 returns-2 c =
-    let l = c .before .before .loop in
-    let e = c .before .before .before .before in
-    let a = e .before .before .args in
-    let whole : l .k ≡ endOf (a .w .now) = omega arith in
-    rw (some-number (a .w .now) (a .m) (l .past) (e .if1 .left) (rw whole at (l .inv .2)), c .if2 .taken) refl
+    let l = c .before in
+    let g = l .before in
+    let a = g .before .before .before .args in
+    let none = none-below (a .w .now) (a .m) _ (λ j. omega (arith, g .shared-slice-known2 .given (lowAt j))) (endOf (a .w .now)) _ (whole _) (l .low-before .ensures) (c .if2 .taken) in
+    rw (some-number (a .w .now) (a .m) (g .before .if1 .left), none) refl
 
-returns-3 : tie.Need-returns-3 Inv-loop μ-loop
-unfolding foundAt
+returns-3 : tie.Need-returns-3
 returns-3 c =
-    let l = c .before .before .loop in
-    let e = c .before .before .before .before in
+    let e = c .before .before .before .before .before in
     let a = e .before .before .args in
-    let whole : l .k ≡ endOf (a .w .now) = omega arith in
-    rw (some-number (a .w .now) (a .m) (l .past) (e .if1 .left) (rw whole at (l .inv .2))) (at-place (l .past) (c .if2 .left))
+    c .search-before .ensures ∙ ap foundAt (sym (some-number (a .w .now) (a .m) (e .if1 .left)))
+
+returns-4 : tie.Need-returns-4
+returns-4 c =
+    let s = c .before in
+    let l = s .before .before .before in
+    let g = l .before in
+    let a = g .before .before .before .args in
+    let here = last-below (a .w .now) (a .m) _ (λ j. omega (arith, g .shared-slice-known2 .given (lowAt j))) (endOf (a .w .now)) _ (whole _) (l .low-before .ensures) (s .before .if3 .left)
+    (s .before .before .if2 .left) (sym (s .number-at .ensures) ∙ c .if4 .taken) in
+    at-place _ (s .before .before .if2 .left) ∙ ap foundAt (sym (some-number (a .w .now) (a .m) (g .before .if1 .left) ∙ here))
+
+returns-5 : tie.Need-returns-5
+returns-5 c =
+    let e = c .before .before .before .before .before .before .before in
+    let a = e .before .before .args in
+    c .search-before2 .ensures ∙ ap foundAt (sym (some-number (a .w .now) (a .m) (e .if1 .left)))
 
 pub place-of-spec : {M : Type 1} → statement M
 place-of-spec =
     tie.close
-    (tie.spec Inv-loop μ-loop returns (λ c. search needs) (λ c. search needs) (λ c. search needs) (λ c. search needs)
-    (λ c. (search needs, search needs, nowhere _ _)) (λ c. search needs) (λ c. search needs) (λ c. search needs) (λ c. search needs) (λ c. search needs)
-    (λ c. search needs) (λ c. search needs) (λ c κs. search needs) (λ c κs. search needs) (λ c. search needs) (λ c. search needs) loop-again returns-2
-    (λ c. search needs) (λ c. search needs) returns-3)
+    (tie.spec returns (λ c. search needs) (λ c. search needs) (λ c. search needs) (λ c. search needs) (λ c. search needs) (λ c. search needs) (λ c κs. search needs)
+    (λ c. search needs) returns-2 (λ c κs. search needs) returns-3 (λ c. search needs) (λ c κs. search needs) (λ c. search needs) returns-4 (λ c κs. search needs)
+    returns-5)
