@@ -3,10 +3,10 @@
 use crate::places;
 use model::MESSAGES;
 use model::Message;
-ghost use Rattle.laws.specs.Basics.{_≡_, _+_, _-_, _≤_, _<_, eqb, ltb, length, pick};
+ghost use Rattle.laws.specs.Basics.{_≡_, _+_, _-_, _≤_, _<_, eqb, length, pick};
 ghost use Rattle.model.specs.Words.{mostUnderWay, mostProcesses};
 ghost use Rattle.words.specs.{Layout.word, Layout.endOf, Layout.messageIn, Layout.isMessage, Layout.stateSize, Puts.puts};
-ghost use Rattle.words.specs.messages.Places.{placeBelow, lowBelow, placeOf, foundAt, endBelow, messagePuts, cleared, takenOut, movedTo, closing, clearedFrom, closedUp, withRoom, putLast};
+ghost use Rattle.words.specs.messages.Places.{placeBelow, lowsBelow, placeOf, foundAt, endBelow, messagePuts, cleared, takenOut, movedTo, closing, clearedFrom, closedUp, withRoom, putLast};
 
 // The place of a message that is under way.
 pub enum Found {
@@ -52,21 +52,16 @@ fn hit(low: u16, wanted: u16, k: u16) -> u16
     if low == wanted { k + 1 } else { 0 }
 }
 
-fn greater(a: u16, b: u16) -> u16
-    ensures { λ r. ⌜ r ≡ pick (ltb a b) b a ⌝ }
-{
-    if a < b { b } else { a }
-}
-
-// One past the last of the first places that has a number with this low word; 0 where none has. Words are compared, and not numbers, since a register holds more of them.
-fn low_before(w: &[u16], low: u16, to: usize) -> u16
+// Where among the first places the numbers have this low word: one past the place if it is one alone, 0 if there is none, and never less than one past the last of them.
+// Words are compared, and not numbers, since a register holds more of them.
+fn lows_before(w: &[u16], low: u16, to: usize) -> u16
     requires { ⌜ (length (now w) ≡ stateSize) × (to ≤ mostUnderWay) ⌝ }
-    ensures { λ r. ⌜ r ≡ lowBelow (now (w .entry)) low to ⌝ }
+    ensures { λ r. ⌜ r ≡ lowsBelow (now (w .entry)) low to ⌝ }
 {
     let mut past: u16 = 0;
     for k in 0..to {
         let here = hit(w[places::LOWS + k], low, k as u16);
-        past = greater(past, here);
+        past = past | here;
     }
     past
 }
@@ -98,7 +93,7 @@ pub fn place_of(w: &[u16], m: u32) -> Found
     }
     let end = w[places::END] as usize;
     let whole = TOGETHER * ((end + TOGETHER - 1) / TOGETHER);
-    let past = low_before(w, (m % 65536) as u16, whole) as usize;
+    let past = lows_before(w, (m % 65536) as u16, whole) as usize;
     if past == 0 {
         return Found::Nothing;
     }

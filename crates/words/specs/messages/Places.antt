@@ -1,6 +1,7 @@
 -- The messages under way in their places of the words: where one is, one taken out, one put after the others, the used places closed up.
 -- Assumes nothing.
 use Rattle.laws.specs.Basics.{List, [], _∷_, _++_, ℕ, zero, suc, _+_, _-_, _/_, _%_, eqb, pick}
+use lib.Bits.{bitOr}
 use Rattle.model.specs.{declared.Message.Message, Words.mostUnderWay}
 use Rattle.words.specs.Layout.{word, endOf, lowAt, highAt, senderAt, receiverAt, carriedAt, messageIn, isMessage}
 use Rattle.words.specs.declared.{messages.Found.Found, messages.Found.the-variants.Nothing, messages.Found.the-variants.At}
@@ -15,10 +16,10 @@ placeBelow w m (suc k) = pick (eqb (messageIn w k .number) m) (suc k) (placeBelo
 unfoldable pub placeOf : List ℕ → ℕ → ℕ
 placeOf w m = pick (eqb m 0) 0 (placeBelow w m (endOf w))
 
--- One past the last of the first places that has a number with this low word; 0 where none has.
-unfoldable pub lowBelow : List ℕ → ℕ → ℕ → ℕ
-lowBelow w x zero = 0
-lowBelow w x (suc k) = pick (eqb (word w (lowAt k)) x) (suc k) (lowBelow w x k)
+-- One past each of the first places whose number has this low word, all or-ed together: no less than one past the last of them.
+unfoldable pub lowsBelow : List ℕ → ℕ → ℕ → ℕ
+lowsBelow w x zero = 0
+lowsBelow w x (suc k) = bitOr (lowsBelow w x k) (pick (eqb (word w (lowAt k)) x) (suc k) 0)
 
 -- The place of a message that was looked up.
 unfoldable pub foundAt : ℕ → Found

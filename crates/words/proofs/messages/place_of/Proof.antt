@@ -1,33 +1,40 @@
 -- `words::messages::place_of` meets its contract. Assumes nothing.
-use Rattle.laws.specs.Basics.{_≡_, refl, sym, _∙_, ap, List, ℕ, zero, suc, _+_, _-_, _*_, _/_, _%_, _≤_, _<_, arith, needs, eq-eqb, ne-eqb, by-eq}
+use Rattle.laws.specs.Basics.{_≡_, refl, sym, _∙_, ap, List, ℕ, zero, suc, _+_, _-_, _*_, _/_, _%_, _≤_, _<_, arith, eqb, needs, eq-eqb, ne-eqb, pick, by-eq}
+use lib.Bits.{bitOr, or-add-and, and-le-l, and-le-r}
 use Rattle.words.specs.Layout.{word, endOf, lowAt, highAt, messageIn}
 use Rattle.words.specs.declared.messages.Found.the-variants.{At}
-use Rattle.words.specs.messages.Places.{placeBelow, lowBelow, placeOf, foundAt}
+use Rattle.words.specs.messages.Places.{placeBelow, lowsBelow, placeOf, foundAt}
 use Rattle.words.proofs.messages.place_of.Statement.{statement}
 use Rattle.words.proofs.messages.place_of.Tie as tie
 
--- The low word stands in no place past the last that has it.
-low-missing : (w : List ℕ) (x n j : ℕ) → lowBelow w x n ≤ j → j < n → word w (lowAt j) ≡ x → ⊥
-unfolding lowBelow
+-- What is or-ed together is no less than either.
+or-bounds : (a b : ℕ) → (a ≤ bitOr a b) × (b ≤ bitOr a b)
+or-bounds a b = (omega (arith, or-add-and a b, and-le-r a b), omega (arith, or-add-and a b, and-le-l a b))
+
+-- The low word stands in no place from there on.
+low-missing : (w : List ℕ) (x n j : ℕ) → lowsBelow w x n ≤ j → j < n → word w (lowAt j) ≡ x → ⊥
+unfolding lowsBelow
 low-missing w x zero j le lt e = omega arith
-low-missing w x (suc n) j le lt e = by-eq (word w (lowAt n)) x
-    (λ q. let z : suc n ≤ j = rw (eq-eqb _ _ q) at le in omega arith)
-    (λ q. by-eq j n (λ r. q (ap (λ i. word w (lowAt i)) (sym r) ∙ e)) (λ ne. low-missing w x n j (rw (ne-eqb _ _ q) at le) (omega arith) e))
+low-missing w x (suc n) j le lt e =
+    let b = or-bounds (lowsBelow w x n) (pick (eqb (word w (lowAt n)) x) (suc n) 0) in
+    by-eq (word w (lowAt n)) x
+    (λ q. let z : pick (eqb (word w (lowAt n)) x) (suc n) 0 ≡ suc n = rw (eq-eqb (word w (lowAt n)) x q) in omega (arith, b .1))
+    (λ q. by-eq j n (λ r. q (ap (λ i. word w (lowAt i)) (sym r) ∙ e)) (λ ne. low-missing w x n j (omega (arith, b .0)) (omega arith) e))
 
 -- The low words of all n places have been looked at, and of these e are in use: the words are of 16 bits.
 module _ (w : List ℕ) (m n : ℕ) (small : (j : ℕ) → word w (lowAt j) < 65536) where
-  other-number : (j : ℕ) → lowBelow w (m % 65536) n ≤ j → j < n → messageIn w j .number ≡ m → ⊥
+  other-number : (j : ℕ) → lowsBelow w (m % 65536) n ≤ j → j < n → messageIn w j .number ≡ m → ⊥
   unfolding messageIn
   other-number j le lt e = low-missing w (m % 65536) n j le lt (omega (arith, small j))
 
-  below-low : (e : ℕ) → e ≤ n → lowBelow w (m % 65536) n ≤ e → placeBelow w m e ≡ placeBelow w m (lowBelow w (m % 65536) n)
+  below-low : (e : ℕ) → e ≤ n → lowsBelow w (m % 65536) n ≤ e → placeBelow w m e ≡ placeBelow w m (lowsBelow w (m % 65536) n)
   unfolding placeBelow
-  below-low zero le low = let z : lowBelow w (m % 65536) n ≡ 0 = omega arith in rw z refl
-  below-low (suc e) le low = by-eq (lowBelow w (m % 65536) n) (suc e)
+  below-low zero le low = let z : lowsBelow w (m % 65536) n ≡ 0 = omega arith in rw z refl
+  below-low (suc e) le low = by-eq (lowsBelow w (m % 65536) n) (suc e)
       (λ q. rw q refl)
       (λ ne. rw (ne-eqb (messageIn w e .number) m (other-number e (omega arith) (omega arith))) (below-low e (omega arith) (omega arith)))
 
-  none-below : (e past : ℕ) → e ≤ n → past ≡ lowBelow w (m % 65536) n → past ≡ 0 → placeBelow w m e ≡ 0
+  none-below : (e past : ℕ) → e ≤ n → past ≡ lowsBelow w (m % 65536) n → past ≡ 0 → placeBelow w m e ≡ 0
   unfolding placeBelow
   none-below e past le p z = below-low e le (omega arith) ∙ rw (← p, z) refl
 
@@ -36,7 +43,7 @@ module _ (w : List ℕ) (m n : ℕ) (small : (j : ℕ) → word w (lowAt j) < 65
   last-number zero ne is = absurd (ne refl)
   last-number (suc k) ne is = let q : suc k - 1 ≡ k = omega arith in rw (eq-eqb (messageIn w k .number) m (rw q at is))
 
-  last-below : (e past : ℕ) → e ≤ n → past ≡ lowBelow w (m % 65536) n → past ≤ e → (past ≡ 0 → ⊥) → messageIn w (past - 1) .number ≡ m → placeBelow w m e ≡ past
+  last-below : (e past : ℕ) → e ≤ n → past ≡ lowsBelow w (m % 65536) n → past ≤ e → (past ≡ 0 → ⊥) → messageIn w (past - 1) .number ≡ m → placeBelow w m e ≡ past
   last-below e past le p less ne is = below-low e le (omega arith) ∙ rw (← p) (last-number past ne is)
 
 -- A whole number of 16 places.
@@ -66,7 +73,7 @@ returns-2 c =
     let l = c .before in
     let g = l .before in
     let a = g .before .before .before .args in
-    let none = none-below (a .w .now) (a .m) _ (λ j. omega (arith, g .shared-slice-known2 .given (lowAt j))) (endOf (a .w .now)) _ (whole _) (l .low-before .ensures) (c .if2 .taken) in
+    let none = none-below (a .w .now) (a .m) _ (λ j. omega (arith, g .shared-slice-known2 .given (lowAt j))) (endOf (a .w .now)) _ (whole _) (l .lows-before .ensures) (c .if2 .taken) in
     rw (some-number (a .w .now) (a .m) (g .before .if1 .left), none) refl
 
 returns-3 : tie.Need-returns-3
@@ -81,7 +88,7 @@ returns-4 c =
     let l = s .before .before .before in
     let g = l .before in
     let a = g .before .before .before .args in
-    let here = last-below (a .w .now) (a .m) _ (λ j. omega (arith, g .shared-slice-known2 .given (lowAt j))) (endOf (a .w .now)) _ (whole _) (l .low-before .ensures) (s .before .if3 .left)
+    let here = last-below (a .w .now) (a .m) _ (λ j. omega (arith, g .shared-slice-known2 .given (lowAt j))) (endOf (a .w .now)) _ (whole _) (l .lows-before .ensures) (s .before .if3 .left)
     (s .before .before .if2 .left) (sym (s .number-at .ensures) ∙ c .if4 .taken) in
     at-place _ (s .before .before .if2 .left) ∙ ap foundAt (sym (some-number (a .w .now) (a .m) (g .before .if1 .left) ∙ here))
 
