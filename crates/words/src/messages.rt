@@ -1,5 +1,5 @@
-// The messages under way, in 64 places of the words. A place is in use before the end of those in use, and where its number is not 0; no function looks at another
-// place. A message that is received or lost leaves its place unused and no other moves, until a send finds the last place taken: then the messages close up.
+// The messages under way, in 64 places of the words. A place is in use before the end of those in use, and where its number is not 0; what another place holds changes
+// no answer. A message that is received or lost leaves its place unused and no other moves, until a send finds the last place taken: then the messages close up.
 use crate::places;
 use model::MESSAGES;
 use model::Message;
@@ -66,7 +66,7 @@ fn lows_before(w: &[u16], low: u16, to: usize) -> u16
     past
 }
 
-// The place of message m among the first ones, one after the other.
+// The place of message m among the first ones, which are tested one after the other, the last one first.
 fn search_before(w: &[u16], m: u32, end: usize) -> Found
     requires { ⌜ (length (now w) ≡ stateSize) × (end ≤ mostUnderWay) ⌝ }
     ensures { λ r. ⌜ r ≡ foundAt (placeBelow (now (w .entry)) m end) ⌝ }
@@ -82,8 +82,8 @@ fn search_before(w: &[u16], m: u32, end: usize) -> Found
     Found::Nothing
 }
 
-// The place of message m. A place that is not in use has the number 0, which no message has. Low words are looked at first, to a whole number of places that are looked at
-// together: two numbers under way seldom share one, and seldom does a place past the end hold it.
+// The place of message m. A place that is not in use has the number 0, which no message has. The low words are looked at first, so many together that some may stand past
+// the end, and the one place that they lead to is tested. Where two places have the same low word, or one past the end has it, each place in use is tested.
 pub fn place_of(w: &[u16], m: u32) -> Found
     requires { ⌜ (length (now w) ≡ stateSize) × (endOf (now w) ≤ mostUnderWay) ⌝ }
     ensures { λ r. ⌜ r ≡ foundAt (placeOf (now (w .entry)) m) ⌝ }
