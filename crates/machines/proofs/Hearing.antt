@@ -3,10 +3,12 @@
 use Rattle.laws.specs.Basics.{_≡_, refl, sym, _∙_, ap, Bool, true, false, _&&_, false≢true, List, ℕ, zero, suc, _+_, _-_, _≤_, _<_, arith, eqb, leb, length, take, drop, length-drop, length-take-le, eq-eqb, ne-eqb, le-ltb, le-leb, lt-leb, leb-true, pick, by-bool}
 use lib.IntN.{ℤ, pos, negsuc}
 use lib.Signed.{ltZ}
+use Rattle.io.specs.Counts.{clamped}
 use mir.Syntax.{w32}
 use mir.Val.{SFits, ofZ}
 use Rattle.machines.specs.Machines.{Answer, Number, Bytes, End, Done, Failed, heardCount, heardWord, heardRead, heardDone, isNumber}
-use Rattle.machines.specs.Forms.{answerOf, takenOf, Between, readAnswer, wordAnswer, openAnswer}
+use Rattle.machines.specs.Forms.{answerOf, takenOf, Between, readAnswer, wordAnswer, from, openAnswer}
+use Rattle.machines.specs.declared.Source.{Source}
 use Rattle.machines.specs.declared.Answer as answers
 use Rattle.machines.specs.declared.Answer.the-variants as answer
 use Rattle.machines.specs.declared.heard.Taken as takens
@@ -48,104 +50,30 @@ and-false : (b : Bool) → b && false ≡ false
 and-false true = refl
 and-false false = refl
 
-module _ (a : answers.Answer) (most : ℕ) where
-  pub read-number : (n : ℕ) → a ≡ answer.Number n → ReadAs a most taken.Failed
-  unfolding heardRead answerOf takenOf Between
-  read-number n e = (λ at input h. rw e, tt)
+-- Bytes, by the tests of the code.
+module _ (a : answers.Answer) (most size : ℕ) (e : a ≡ answer.Bytes size) where
+  pub read-few : size < 1 → ReadAs a most taken.Failed
+  unfolding takenOf Between
+  read-few few = (λ at input h. rw e (read-none most at size input (λ k. rw (k, lt-leb 1 size few))), tt)
 
-  pub read-end : a ≡ answer.End → ReadAs a most taken.Ended
-  unfolding heardRead answerOf takenOf Between
-  read-end e = (λ at input h. rw e, tt)
+  pub read-many : most < size → ReadAs a most taken.Failed
+  unfolding takenOf Between
+  read-many more = (λ at input h. rw e (read-none most at size input (λ k. rw (k, lt-leb size most more) (and-false (leb 1 size)))), tt)
 
-  pub read-done : a ≡ answer.Done → ReadAs a most taken.Failed
-  unfolding heardRead answerOf takenOf Between
-  read-done e = (λ at input h. rw e, tt)
+  pub read-some : 1 ≤ size → size ≤ most → ReadAs a most (taken.Brought size)
+  unfolding heardRead takenOf Between
+  read-some least fits = (
+    λ at input h. rw (e, inside at size input (omega (arith, h, fits)), many at size input (omega (arith, h, fits)), le-leb 1 size least, le-leb size most fits),
+    (least, fits),
+  )
 
-  pub read-failed : a ≡ answer.Failed → ReadAs a most taken.Failed
-  unfolding heardRead answerOf takenOf Between
-  read-failed e = (λ at input h. rw e, tt)
+  pub word-many : most < size → WordAs a most taken.Failed
+  unfolding takenOf Between
+  word-many more = (λ at input h. rw e (word-none most at size input more), tt)
 
-  pub word-number : (n : ℕ) → a ≡ answer.Number n → WordAs a most taken.Failed
-  unfolding heardWord answerOf takenOf Between
-  word-number n e = (λ at input h. rw e, tt)
-
-  pub word-end : a ≡ answer.End → WordAs a most taken.Failed
-  unfolding heardWord answerOf takenOf Between
-  word-end e = (λ at input h. rw e, tt)
-
-  pub word-done : a ≡ answer.Done → WordAs a most taken.Failed
-  unfolding heardWord answerOf takenOf Between
-  word-done e = (λ at input h. rw e, tt)
-
-  pub word-failed : a ≡ answer.Failed → WordAs a most taken.Failed
-  unfolding heardWord answerOf takenOf Between
-  word-failed e = (λ at input h. rw e, tt)
-
-  module _ (size : ℕ) (e : a ≡ answer.Bytes size) where
-    pub read-few : size < 1 → ReadAs a most taken.Failed
-    unfolding takenOf Between
-    read-few few = (λ at input h. rw e (read-none most at size input (λ k. rw (k, lt-leb 1 size few))), tt)
-
-    pub read-many : most < size → ReadAs a most taken.Failed
-    unfolding takenOf Between
-    read-many more = (λ at input h. rw e (read-none most at size input (λ k. rw (k, lt-leb size most more) (and-false (leb 1 size)))), tt)
-
-    pub read-some : 1 ≤ size → size ≤ most → ReadAs a most (taken.Brought size)
-    unfolding heardRead takenOf Between
-    read-some least fits = (
-      λ at input h. rw (e, inside at size input (omega (arith, h, fits)), many at size input (omega (arith, h, fits)), le-leb 1 size least, le-leb size most fits),
-      (least, fits),
-    )
-
-    pub word-many : most < size → WordAs a most taken.Failed
-    unfolding takenOf Between
-    word-many more = (λ at input h. rw e (word-none most at size input more), tt)
-
-    pub word-some : size ≤ most → WordAs a most (taken.Brought size)
-    unfolding heardWord takenOf Between
-    word-some fits = (λ at input h. rw (e, inside at size input (omega (arith, h, fits)), many at size input (omega (arith, h, fits)), le-leb size most fits), (omega arith, fits))
-
-module _ (a : answers.Answer) where
-  pub done-number : (n : ℕ) → a ≡ answer.Number n → DoneAs a false
-  unfolding heardDone answerOf
-  done-number n e = λ at input. rw e
-
-  pub done-bytes : (size : ℕ) → a ≡ answer.Bytes size → DoneAs a false
-  unfolding heardDone answerOf
-  done-bytes size e = λ at input. by-bool (leb (at + size) (length input)) (λ f. rw (e, f)) (λ f. rw (e, f))
-
-  pub done-end : a ≡ answer.End → DoneAs a false
-  unfolding heardDone answerOf
-  done-end e = λ at input. rw e
-
-  pub done-done : a ≡ answer.Done → DoneAs a true
-  unfolding heardDone answerOf
-  done-done e = λ at input. rw e
-
-  pub done-failed : a ≡ answer.Failed → DoneAs a false
-  unfolding heardDone answerOf
-  done-failed e = λ at input. rw e
-
-module _ (a : answers.Answer) (number : ℕ) where
-  pub number-number : (n : ℕ) → a ≡ answer.Number n → NumberAs a number (eqb n number)
-  unfolding heardCount answerOf isNumber
-  number-number n e = λ at input. rw e
-
-  pub number-bytes : (size : ℕ) → a ≡ answer.Bytes size → NumberAs a number false
-  unfolding heardCount answerOf isNumber
-  number-bytes size e = λ at input. by-bool (leb (at + size) (length input)) (λ f. rw (e, f)) (λ f. rw (e, f))
-
-  pub number-end : a ≡ answer.End → NumberAs a number false
-  unfolding heardCount answerOf isNumber
-  number-end e = λ at input. rw e
-
-  pub number-done : a ≡ answer.Done → NumberAs a number false
-  unfolding heardCount answerOf isNumber
-  number-done e = λ at input. rw e
-
-  pub number-failed : a ≡ answer.Failed → NumberAs a number false
-  unfolding heardCount answerOf isNumber
-  number-failed e = λ at input. rw e
+  pub word-some : size ≤ most → WordAs a most (taken.Brought size)
+  unfolding heardWord takenOf Between
+  word-some fits = (λ at input h. rw (e, inside at size input (omega (arith, h, fits)), many at size input (omega (arith, h, fits)), le-leb size most fits), (omega arith, fits))
 
 -- The system's own numbers, by the tests of the code.
 pub read-below : (z got : ℤ) (size : ℕ) → z ≡ got → ltZ z (pos 0) ≡ true → answer.Failed ≡ readAnswer got size
@@ -175,15 +103,16 @@ word-error (pos zero) size n = absurd (n refl)
 word-error (pos (suc k)) size n = refl
 word-error (negsuc k) size n = refl
 
-pub open-below : (z opened : ℤ) → z ≡ opened → ltZ z (pos 0) ≡ true → answer.Failed ≡ openAnswer opened
+pub open-below : (z opened : ℤ) (source : Source) → z ≡ opened → ltZ z (pos 0) ≡ true → from source answer.Failed ≡ openAnswer opened source
 unfolding openAnswer
-open-below z (pos k) e h = absurd (false≢true (sym (ap (λ (x : ℤ). ltZ x (pos 0)) e ∙ le-ltb k 0 (omega arith)) ∙ h))
-open-below z (negsuc k) e h = refl
+open-below z (pos k) source e h = absurd (false≢true (sym (ap (λ (x : ℤ). ltZ x (pos 0)) e ∙ le-ltb k 0 (omega arith)) ∙ h))
+open-below z (negsuc k) source e h = refl
 
-pub open-done : (z opened : ℤ) → z ≡ opened → ltZ z (pos 0) ≡ false → answer.Done ≡ openAnswer opened
+pub open-done : (z opened : ℤ) (source : Source) → z ≡ opened → ltZ z (pos 0) ≡ false → from (record { 0 = z }) answer.Done ≡ openAnswer opened source
 unfolding openAnswer
-open-done z (pos k) e h = refl
-open-done z (negsuc k) e h = absurd (false≢true (sym h ∙ ap (λ (x : ℤ). ltZ x (pos 0)) e))
+open-done z (pos k) source e h = ap (λ (x : ℤ). from (record { 0 = x }) answer.Done) e
+open-done z (negsuc k) source e h = absurd (false≢true (sym h ∙ ap (λ (x : ℤ). ltZ x (pos 0)) e))
 
-pub no-failure : {P : Type 0} (a : answers.Answer) → answer.Done ≡ a → a ≡ answer.Failed → P
-no-failure a e f = absurd (let z : _≡_ {A = ℕ} 0 1 = cc in omega arith)
+-- A read, by the number that the system returned.
+pub read-came : (a : answers.Answer) (got : ℤ) (size room most : ℕ) → a ≡ readAnswer got size → size ≡ clamped got room → room ≡ most → (z : ℤ) × (a ≡ readAnswer z (clamped z most))
+read-came a got size room most is counts whole = (got, is ∙ ap (readAnswer got) (counts ∙ ap (λ (k : ℕ). clamped got k) whole))

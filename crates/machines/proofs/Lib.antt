@@ -2,3 +2,6 @@
 pub mod Runs
 pub mod Places
 pub mod Hearing
+pub mod Answers
+pub mod Driving
+pub mod Reporting

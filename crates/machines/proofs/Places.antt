@@ -1,8 +1,11 @@
 -- What the places of a request come to, by its kind.
 -- Assumes nothing.
-use Rattle.laws.specs.Basics.{_≡_, refl, sym, _∙_, ap, subst, true, false, List, ℕ, _+_, _-_, _≤_, arith, length, take, sets}
+use Rattle.laws.specs.Basics.{_≡_, refl, sym, _∙_, ap, subst, true, false, _||_, List, ℕ, _+_, _-_, _≤_, arith, ltb, length, take, sets, ltb-false}
+use Rattle.laws.specs.Truth.{or-none}
 use borrow.Rule.Slice.PartMut.{midOf, putMid, mid-len, take-put, drop-put, same-len-mid}
-use Rattle.machines.specs.{Machines.Stop, Packed.packed, Forms.goesOn, Forms.requestOf, Forms.Placed, Forms.Around, Forms.Leaves, Forms.GoesTo}
+use Rattle.machines.specs.{Machines.Stop, Packed.packed, Forms.goesOn, Forms.requestOf, Forms.Placed, Forms.Around, Forms.Leaves, Forms.GoesTo, Forms.from, Forms.Comes, Forms.Fits, Forms.Obeys}
+use Rattle.machines.specs.declared.{Source.Source, Obeyed.Obeyed}
+use Rattle.machines.specs.declared.Answer as answers
 use Rattle.machines.specs.declared.Request as requests
 use Rattle.machines.specs.declared.Request.the-variants as request
 
@@ -15,35 +18,43 @@ around-put at most input last h e = (
   drop-put at (at + most) input last (omega arith) h (e ∙ mid-len at (at + most) input h),
 )
 
--- What the places of a request say, by its kind.
-module _ (r : requests.Request) (input out : ℕ) (inside : Placed r input out) where
-  pub argument-inside : (i at most : ℕ) → r ≡ request.Argument i at most → at + most ≤ input
-  unfolding Placed
-  argument-inside i at most e = subst (λ (x : requests.Request). Placed x input out) e inside
+pub put-most : (at most : ℕ) (input last : List ℕ) → at + most ≤ length input → length last ≡ length (midOf at (at + most - at) input)
+    → length (midOf at (at + most - at) (putMid at (at + most - at) input last)) ≡ most
+put-most at most input last h e =
+    let after = putMid at (at + most - at) input last in
+    mid-len at (at + most) after (omega (arith, h, same-len-mid at (at + most - at) input last e)) ∙ omega arith
 
-  pub read-inside : (at most : ℕ) → r ≡ request.Read at most → at + most ≤ input
-  unfolding Placed
-  read-inside at most e = subst (λ (x : requests.Request). Placed x input out) e inside
+-- Three lists are long enough, by the test.
+pub long-enough : (a x b y c z : ℕ) → ltb a x || (ltb b y || ltb c z) ≡ false → (x ≤ a) × (y ≤ b) × (z ≤ c)
+long-enough a x b y c z e =
+    let (first, rest) = or-none (ltb a x) (ltb b y || ltb c z) e in
+    let (second, third) = or-none (ltb b y) (ltb c z) rest in
+    (ltb-false a x first, ltb-false b y second, ltb-false c z third)
 
-  pub open-inside : (size : ℕ) → r ≡ request.Open size → size ≤ out
-  unfolding Placed
-  open-inside size e = subst (λ (x : requests.Request). Placed x input out) e inside
+-- Where the kind of a request is known.
+module _ (r kind : requests.Request) (e : r ≡ kind) where
+  pub placed-as : (input out : ℕ) → Placed r input out → Placed kind input out
+  placed-as input out h = subst (λ (x : requests.Request). Placed x input out) e h
 
-  pub write-inside : (size : ℕ) → r ≡ request.Write size → size ≤ out
-  unfolding Placed
-  write-inside size e = subst (λ (x : requests.Request). Placed x input out) e inside
+  pub fits-as : (a : answers.Answer) → Fits kind a → Fits r a
+  fits-as a h = subst (λ (x : requests.Request). Fits x a) (sym e) h
 
-  pub say-inside : (size : ℕ) → r ≡ request.Say size → size ≤ out
-  unfolding Placed
-  say-inside size e = subst (λ (x : requests.Request). Placed x input out) e inside
+  pub comes-as : (source : Source) (came : Obeyed) → Comes kind source came → Comes r source came
+  comes-as source came h = subst (λ (x : requests.Request). Comes x source came) (sym e) h
 
-  pub fail-inside : (size : ℕ) → r ≡ request.Fail size → size ≤ out
-  unfolding Placed
-  fail-inside size e = subst (λ (x : requests.Request). Placed x input out) e inside
+  pub leaves-as : (before after : List ℕ) → Leaves kind before after → Leaves r before after
+  leaves-as before after h = subst (λ (x : requests.Request). Leaves x before after) (sym e) h
 
--- What is left of the buffer, where the kind is known.
-pub leaves-by : (r kind : requests.Request) (before after : List ℕ) → r ≡ kind → Leaves kind before after → Leaves r before after
-leaves-by r kind before after e h = subst (λ (x : requests.Request). Leaves x before after) (sym e) h
+  -- An answer that fits, with the source as it was.
+  pub obeys-as : (source : Source) (before after : List ℕ) (a : answers.Answer) (came : Obeyed) → came ≡ from source a → Leaves kind before after → Fits kind a
+      → Obeys r source before after came
+  obeys-as source before after a came is leaves fits = record {
+    leaves = leaves-as before after leaves;
+    comes = comes-as source came (subst (λ (x : Obeyed). Comes kind source x) (sym is) (fits source));
+  }
+
+  pub packs-as : (before after : List ℕ) → after ≡ sets before 0 (packed kind) → after ≡ sets before 0 (packed r)
+  packs-as before after h = h ∙ ap (λ (x : requests.Request). sets before 0 (packed x)) (sym e)
 
 -- A form that goes on stands for no `Stop`, and one that does not for nothing else.
 pub going-is : (r : requests.Request) (out : List ℕ) → goesOn r ≡ true → requestOf r out ≡ Stop → ⊥
@@ -86,7 +97,3 @@ leaves-front (request.Write size) place before after g h = same-front place befo
 leaves-front (request.Say size) place before after g h = same-front place before after h
 leaves-front (request.Fail size) place before after g h = same-front place before after h
 leaves-front request.Stop place before after g h = same-front place before after h
-
--- The numbers of a request, where its kind is known.
-pub packs-as : (r kind : requests.Request) (before after : List ℕ) → after ≡ sets before 0 (packed kind) → r ≡ kind → after ≡ sets before 0 (packed r)
-packs-as r kind before after h e = h ∙ ap (λ (x : requests.Request). sets before 0 (packed x)) (sym e)

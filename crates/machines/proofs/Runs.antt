@@ -1,9 +1,10 @@
 -- Runs of a machine: a fact that holds at the start and that every answer keeps holds after every list of answers; what lists of exchanges come to, one exchange after
 -- the other; a machine that has a measure ends.
 -- Assumes nothing.
-use Rattle.laws.specs.Basics.{_≡_, refl, sym, _∙_, ap, subst, List, [], _∷_, _++_, append-nil, append-assoc, _⊎_, inl, inr, ℕ, _≤_, _<_, arith, length}
+use Rattle.laws.specs.Basics.{_≡_, refl, sym, _∙_, ap, subst, Bool, _||_, List, [], _∷_, _++_, append-nil, append-assoc, _⊎_, inl, inr, ℕ, _≤_, _<_, arith, length}
 use mathlib.Core.Logic.{⊎-elim}
-use Rattle.machines.specs.Machines.{Request, Count, Argument, Open, Read, Write, Say, Fail, Stop, Answer, Machine, Exchange, stepped, exchanged, stateFrom, exchangesFrom, askedFrom, stateAfter, exchanges, asked, written, errorText, writtenOf, errorTextOf, readBy, readOf, requestsOf, Reached, Ends}
+use Rattle.laws.specs.{Tests.some-of, Select.some-append, Select.some-one}
+use Rattle.machines.specs.Machines.{Request, Count, Argument, Open, Read, Write, Say, Fail, Stop, Answer, Machine, Exchange, stepped, exchanged, stateFrom, exchangesFrom, askedFrom, stateAfter, exchanges, asked, written, errorText, writtenOf, errorTextOf, readBy, readOf, gathered, isEnd, endMet, requestsOf, Reached, Ends}
 
 module _ {S : Type 0} (m : Machine S) where
   module _ (P : S → List Exchange → Type 0) (kept : (s : S) (talk : List Exchange) (a : Answer) → P s talk → P (stepped m s a) (talk ++ (exchanged m s a ∷ []))) where
@@ -50,6 +51,12 @@ unfolding readOf
 read-then [] k = refl
 read-then (e ∷ l) k = ap (λ (x : List ℕ). readBy (e .request) (e .answer) ++ x) (read-then l k) ∙ sym (append-assoc (readBy (e .request) (e .answer)) (readOf l) (readOf k))
 
+pub gathered-then : (by : Request → Answer → List ℕ) (l k : List Exchange) → gathered by (l ++ k) ≡ gathered by l ++ gathered by k
+unfolding gathered
+gathered-then by [] k = refl
+gathered-then by (e ∷ l) k =
+    ap (λ (x : List ℕ). by (e .request) (e .answer) ++ x) (gathered-then by l k) ∙ sym (append-assoc (by (e .request) (e .answer)) (gathered by l) (gathered by k))
+
 -- One more of each.
 pub written-one : (r : Request) → writtenOf (r ∷ []) ≡ written r
 unfolding writtenOf
@@ -77,6 +84,17 @@ module _ (talk : List Exchange) (e : Exchange) where
   pub read-next : readOf (talk ++ (e ∷ [])) ≡ readOf talk ++ readBy (e .request) (e .answer)
   unfolding readOf
   read-next = read-then talk (e ∷ []) ∙ ap (λ (x : List ℕ). readOf talk ++ x) (append-nil (readBy (e .request) (e .answer)))
+
+  pub gathered-next : (by : Request → Answer → List ℕ) → gathered by (talk ++ (e ∷ [])) ≡ gathered by talk ++ by (e .request) (e .answer)
+  unfolding gathered
+  gathered-next by = gathered-then by talk (e ∷ []) ∙ ap (λ (x : List ℕ). gathered by talk ++ x) (append-nil (by (e .request) (e .answer)))
+
+  pub some-next : (test : Exchange → Bool) → some-of test (talk ++ (e ∷ [])) ≡ some-of test talk || test e
+  some-next test = some-append test talk (e ∷ []) ∙ ap (λ (b : Bool). some-of test talk || b) (some-one test e)
+
+  pub end-next : endMet (talk ++ (e ∷ [])) ≡ endMet talk || isEnd (e .answer)
+  unfolding endMet
+  end-next = some-next (λ (x : Exchange). isEnd (x .answer))
 
   pub written-next : writtenOf (requestsOf (talk ++ (e ∷ []))) ≡ writtenOf (requestsOf talk) ++ written (e .request)
   unfolding requestsOf

@@ -3,7 +3,9 @@
 -- Assumes nothing.
 use Rattle.laws.specs.Basics.{_≡_, Bool, true, false, List, ℕ, zero, suc, _+_, _≤_, eqb, leb, length, take, drop, pick}
 use lib.IntN.{ℤ, pos, negsuc}
-use Rattle.machines.specs.Machines.{Request, Count, Argument, Open, Read, Write, Say, Fail, Stop, Answer, Number, Bytes, End, Done, Failed}
+use Rattle.io.specs.Counts.{clamped}
+use Rattle.machines.specs.Machines.{Request, Count, Argument, Open, Read, Write, Say, Fail, Stop, Answer, Number, Bytes, End, Done, Failed, Machine}
+use Rattle.machines.specs.declared.{Source.Source, Obeyed.Obeyed}
 use Rattle.machines.specs.declared.Request as requests
 use Rattle.machines.specs.declared.Request.the-variants as request
 use Rattle.machines.specs.declared.Answer as answers
@@ -85,6 +87,11 @@ pub record Asks (r : requests.Request) (place : ℕ) (input out : List ℕ) (wan
   pub inside : Placed r (length input) (length out)
   pub there : GoesTo r place
 
+-- What is lent stands for a state of a machine, and a form, with these buffers, is what the machine asks for there.
+pub record Stands {S : Type 0} (m : Machine S) (lent : S) (place : ℕ) (input out : List ℕ) (r : requests.Request) (s : S) : Type 0 where
+  pub state : lent ≡ s
+  pub asks : Asks r place input out (m .ask s)
+
 -- An answer as it is taken, where bytes were asked for: that many of them, the end, or that it failed.
 unfoldable pub takenOf : takens.Taken → ℕ → List ℕ → Answer
 takenOf (taken.Brought size) at input = Bytes (take size (drop at input))
@@ -108,7 +115,39 @@ wordAnswer (pos zero) size = answer.Bytes size
 wordAnswer (pos (suc k)) size = answer.Failed
 wordAnswer (negsuc k) size = answer.Failed
 
--- A file that is opened: below 0 it is not.
-unfoldable pub openAnswer : ℤ → answers.Answer
-openAnswer (pos k) = answer.Done
-openAnswer (negsuc k) = answer.Failed
+-- A text: it is written or not.
+abbrev pub doneAnswer : Bool → answers.Answer
+doneAnswer done = pick done answer.Done answer.Failed
+
+-- Until a file is opened, bytes are read from descriptor 0.
+abbrev pub standardInput : Source
+standardInput = record { 0 = pos 0 }
+
+-- An answer, with the source that bytes are read from then on.
+abbrev pub from : Source → answers.Answer → Obeyed
+from source a = record { answer = a; source = source }
+
+-- A file: below 0 it is not open, and the source is as it was.
+unfoldable pub openAnswer : ℤ → Source → Obeyed
+openAnswer (pos k) source = from (record { 0 = pos k }) answer.Done
+openAnswer (negsuc k) source = from source answer.Failed
+
+-- What may come of a request: what some numbers of the system's come to, and nothing else. Only a file that is opened changes the source.
+unfoldable pub Comes : requests.Request → Source → Obeyed → Type 0
+Comes request.Count source r = (words : ℕ) × (r ≡ from source (answer.Number words))
+Comes (request.Argument i at most) source r = (error : ℤ) × (size : ℕ) × (size ≤ most) × (r ≡ from source (wordAnswer error size))
+Comes (request.Open size) source r = (opened : ℤ) × (r ≡ openAnswer opened source)
+Comes (request.Read at most) source r = (got : ℤ) × (r ≡ from source (readAnswer got (clamped got most)))
+Comes (request.Write size) source r = (done : Bool) × (r ≡ from source (doneAnswer done))
+Comes (request.Say size) source r = r ≡ from source answer.Done
+Comes (request.Fail size) source r = r ≡ from source answer.Done
+Comes request.Stop source r = r ≡ from source answer.Done
+
+-- An answer that may come of a request that opens no file.
+abbrev pub Fits : requests.Request → answers.Answer → Type 0
+Fits r a = (source : Source) → Comes r source (from source a)
+
+-- A request was obeyed.
+pub record Obeys (r : requests.Request) (source : Source) (before after : List ℕ) (came : Obeyed) : Type 0 where
+  pub leaves : Leaves r before after
+  pub comes : Comes r source came

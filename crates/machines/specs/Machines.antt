@@ -1,7 +1,8 @@
 -- A program as a machine: it asks the system for one thing at a time, and goes on by what the system answers. What it asked for and what it was answered are lists, so
 -- that a theorem about a program is one over every list of answers.
 -- Assumes nothing.
-use Rattle.laws.specs.Basics.{_≡_, Bool, false, _&&_, List, [], _∷_, _++_, ℕ, _<_, eqb, leb, length, pick}
+use Rattle.laws.specs.Basics.{_≡_, Bool, true, false, _&&_, List, [], _∷_, _++_, ℕ, _<_, eqb, leb, length, pick}
+use Rattle.laws.specs.Tests.{some-of}
 
 -- What a program asks of the system.
 pub data Request : Type 0 where
@@ -178,6 +179,40 @@ readBy Stop a = []
 unfoldable pub readOf : List Exchange → List ℕ
 readOf [] = []
 readOf (e ∷ exchanges) = readBy (e .request) (e .answer) ++ readOf exchanges
+
+-- What each exchange comes to, one after the other.
+unfoldable pub gathered : (Request → Answer → List ℕ) → List Exchange → List ℕ
+gathered by [] = []
+gathered by (e ∷ exchanges) = by (e .request) (e .answer) ++ gathered by exchanges
+
+-- Whether the input has ended.
+unfoldable pub isEnd : Answer → Bool
+isEnd (Number n) = false
+isEnd (Bytes l) = false
+isEnd End = true
+isEnd Done = false
+isEnd Failed = false
+
+unfoldable pub endMet : List Exchange → Bool
+endMet exchanges = some-of (λ (e : Exchange). isEnd (e .answer)) exchanges
+
+unfoldable pub failed : List ℕ → Answer → List ℕ
+failed name (Number n) = []
+failed name (Bytes l) = []
+failed name End = []
+failed name Done = []
+failed name Failed = name
+
+-- What failed, by its name: the input, of a read that failed, and the output, of a write.
+unfoldable pub failure : List ℕ → List ℕ → Request → Answer → List ℕ
+failure input output Count a = []
+failure input output (Argument i most) a = []
+failure input output (Open path) a = []
+failure input output (Read most) a = failed input a
+failure input output (Write text) a = failed output a
+failure input output (Say text) a = []
+failure input output (Fail text) a = []
+failure input output Stop a = []
 
 -- The requests that were answered.
 unfoldable pub requestsOf : List Exchange → List Request

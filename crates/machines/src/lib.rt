@@ -14,11 +14,11 @@ pub mod packed;
 // replay_input.rt: what a replay is given: the words that its program is started with, and the buffer that the blocks of a trace are read into
 pub mod replay_input;
 
-// programs.rt: what several programs share: the number that a word is, bytes read into a lent buffer, and texts printed into one.
+// programs.rt: what several programs share: the number that a word is, and texts printed into a lent buffer.
 pub mod programs;
 
 ghost use Rattle.laws.specs.Basics.{_≡_, length};
-ghost use Rattle.machines.specs.Forms.{goesOn, Placed, Leaves};
+ghost use Rattle.machines.specs.Forms.{goesOn, Placed, standardInput, from, Obeys};
 
 pub enum Request {
     Count,
@@ -51,7 +51,9 @@ pub struct Obeyed {
     pub source: Source,
 }
 
-pub fn standard_input() -> Source {
+pub fn standard_input() -> Source
+    ensures { λ r. ⌜ r ≡ standardInput ⌝ }
+{
     let descriptor = libc::STDIN_FILENO;
     Source(descriptor)
 }
@@ -74,7 +76,7 @@ pub fn goes_on(request: Request) -> bool
 
 // An answer, with the source as it is.
 fn with_source(source: Source, answer: Answer) -> Obeyed
-    ensures { λ r. ⌜ r .answer ≡ answer ⌝ }
+    ensures { λ r. ⌜ r ≡ from source answer ⌝ }
 {
     Obeyed { answer, source }
 }
@@ -82,7 +84,7 @@ fn with_source(source: Source, answer: Answer) -> Obeyed
 // Does what a request asks for, and hands back what came of it.
 pub fn obey(request: Request, source: Source, input: &mut [u8], out: &[u8]) -> Obeyed
     requires { ⌜ Placed request (length (now input)) (length (now out)) ⌝ }
-    ensures { λ r. ⌜ Leaves request (now (input .entry)) (now (input .exit)) ⌝ }
+    ensures { λ r. ⌜ Obeys request source (now (input .entry)) (now (input .exit)) r ⌝ }
 {
     match request {
         Request::Count => with_source(source, system::count(request)),

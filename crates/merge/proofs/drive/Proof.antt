@@ -19,10 +19,10 @@ obey-requires : tie.Need-obey-requires Inv-loop μ-loop
 obey-requires c κs = c .before .before .before .before .loop .inv .0 .asks .inside
 
 loop-less : tie.Need-loop-less Inv-loop μ-loop
-loop-less c = let loop = c .before .before .before .before .before .before .before .before .before .before .before .before .before .before .before .before .loop in let obeyed = c .before .before .before .before .before .before .before .before .before .before .before .obey in let stepped = c .before .before .before .before .step in driven-less _ _ _ _ (loop .inv .0) _ (obeyed .ensures) _ _ _ _ (stepped .ensures) (sym (c .before .before .before .before .before .before .before .before .before .before .before .before .before .before .before .goes-on .ensures) ∙ c .before .before .before .before .before .before .before .before .before .before .before .before .before .before .if1 .taken)
+loop-less c = let loop = c .before .before .before .before .before .before .before .before .before .before .before .before .before .before .before .before .loop in let obeyed = c .before .before .before .before .before .before .before .before .before .before .before .obey in let stepped = c .before .before .before .before .step in driven-less _ _ _ _ (loop .inv .0) _ (obeyed .ensures .leaves) _ _ _ _ (stepped .ensures) (sym (c .before .before .before .before .before .before .before .before .before .before .before .before .before .before .before .goes-on .ensures) ∙ c .before .before .before .before .before .before .before .before .before .before .before .before .before .before .if1 .taken)
 
 loop-again : tie.Need-loop-again Inv-loop μ-loop
-loop-again c = let loop = c .before .before .before .before .before .before .before .before .before .before .before .before .before .before .before .before .loop in let obeyed = c .before .before .before .before .before .before .before .before .before .before .before .obey in let stepped = c .before .before .before .before .step in (driven-next _ _ _ _ (loop .inv .0) _ (obeyed .ensures) _ _ _ _ (stepped .ensures) (omega (arith, stepped .kept .0, loop .inv .0 .room .0), omega (arith, obeyed .kept .1 .1 .0, loop .inv .0 .room .1), omega (arith, stepped .kept .1 .1 .0, loop .inv .0 .room .2)), stepped .kept .0 ∙ loop .inv .1, obeyed .kept .1 .1 .0 ∙ loop .inv .2, stepped .kept .1 .1 .0 ∙ loop .inv .3)
+loop-again c = let loop = c .before .before .before .before .before .before .before .before .before .before .before .before .before .before .before .before .loop in let obeyed = c .before .before .before .before .before .before .before .before .before .before .before .obey in let stepped = c .before .before .before .before .step in (driven-next _ _ _ _ (loop .inv .0) _ (obeyed .ensures .leaves) _ _ _ _ (stepped .ensures) (omega (arith, stepped .kept .0, loop .inv .0 .room .0), omega (arith, obeyed .kept .1 .1 .0, loop .inv .0 .room .1), omega (arith, stepped .kept .1 .1 .0, loop .inv .0 .room .2)), stepped .kept .0 ∙ loop .inv .1, obeyed .kept .1 .1 .0 ∙ loop .inv .2, stepped .kept .1 .1 .0 ∙ loop .inv .3)
 
 returns : tie.Need-returns Inv-loop μ-loop
 returns c = driven-ends _ _ _ _ (c .before .before .loop .inv .0) (sym (c .before .goes-on .ensures) ∙ c .if1 .left)

@@ -23,11 +23,11 @@ obey-requires : tie.Need-obey-requires Inv-loop μ-loop
 obey-requires c κs = c .before .before .before .before .loop .inv .0 .asks .inside
 
 loop-less : tie.Need-loop-less Inv-loop μ-loop
-loop-less c = driven-less _ _ _ _ _ _ (c .before .before .before .before .before .before .before .before .before .before .before .before .before .before .before .before .before .before .before .before .before .before .before .before .loop .inv .0) _ (c .before .before .before .before .before .before .before .before .before .before .before .before .before .before .before .before .before .before .before .obey .ensures) _ _ _ _ _ _ _ (c .before .before .before .before .before .before .before .before .before .before .step .ensures) (sym (c .before .before .before .before .before .before .before .before .before .before .before .before .before .before .before .before .before .before .before .before .before .before .before .goes-on .ensures) ∙ c .before .before .before .before .before .before .before .before .before .before .before .before .before .before .before .before .before .before .before .before .before .before .if1 .taken)
+loop-less c = driven-less _ _ _ _ _ _ (c .before .before .before .before .before .before .before .before .before .before .before .before .before .before .before .before .before .before .before .before .before .before .before .before .loop .inv .0) _ (c .before .before .before .before .before .before .before .before .before .before .before .before .before .before .before .before .before .before .before .obey .ensures .leaves) _ _ _ _ _ _ _ (c .before .before .before .before .before .before .before .before .before .before .step .ensures) (sym (c .before .before .before .before .before .before .before .before .before .before .before .before .before .before .before .before .before .before .before .before .before .before .before .goes-on .ensures) ∙ c .before .before .before .before .before .before .before .before .before .before .before .before .before .before .before .before .before .before .before .before .before .before .if1 .taken)
 
 loop-again : tie.Need-loop-again Inv-loop μ-loop
 loop-again c = let i = c .before .before .before .before .before .before .before .before .before .before .before .before .before .before .before .before .before .before .before .before .before .before .before .before .loop .inv in let l = i .0 in let k = c .before .before .before .before .before .before .before .before .before .before .step .kept in (
-  driven-next _ _ _ _ _ _ l _ (c .before .before .before .before .before .before .before .before .before .before .before .before .before .before .before .before .before .before .before .obey .ensures) _ _ _ _ _ _ _ (c .before .before .before .before .before .before .before .before .before .before .step .ensures) (room-kept _ _ _ _ _ _ _ _ _ _ (k .0) (k .1 .0) (k .1 .1 .0 ∙ c .before .before .before .before .before .before .before .before .before .before .before .before .before .before .before .before .before .before .before .obey .kept .1 .1 .0) (k .1 .1 .1 .0) (k .1 .1 .1 .1 .0) (l .room)),
+  driven-next _ _ _ _ _ _ l _ (c .before .before .before .before .before .before .before .before .before .before .before .before .before .before .before .before .before .before .before .obey .ensures .leaves) _ _ _ _ _ _ _ (c .before .before .before .before .before .before .before .before .before .before .step .ensures) (room-kept _ _ _ _ _ _ _ _ _ _ (k .0) (k .1 .0) (k .1 .1 .0 ∙ c .before .before .before .before .before .before .before .before .before .before .before .before .before .before .before .before .before .before .before .obey .kept .1 .1 .0) (k .1 .1 .1 .0) (k .1 .1 .1 .1 .0) (l .room)),
   k .0 ∙ i .1,
   k .1 .0 ∙ i .2,
   k .1 .1 .0 ∙ c .before .before .before .before .before .before .before .before .before .before .before .before .before .before .before .before .before .before .before .obey .kept .1 .1 .0 ∙ i .3,

@@ -26,7 +26,7 @@ obey-requires : tie.Need-obey-requires Inv-loop μ-loop
 obey-requires c κs = c .before .before .before .before .loop .inv .0 .asked .inside
 
 step-reached-requires : tie.Need-step-reached-requires Inv-loop μ-loop
-step-reached-requires c κs = still-from-start _ _ _ _ _ _ _ (c .before .before .before .before .before .before .before .before .before .before .before .before .loop .inv .0) _ (c .before .before .before .before .before .before .before .obey .ensures)
+step-reached-requires c κs = still-from-start _ _ _ _ _ _ _ (c .before .before .before .before .before .before .before .before .before .before .before .before .loop .inv .0) _ (c .before .before .before .before .before .before .before .obey .ensures .leaves)
 
 loop-less : tie.Need-loop-less Inv-loop μ-loop
 loop-less c =
@@ -34,7 +34,7 @@ loop-less c =
     let obeyed = c .before .before .before .before .before .before .before .before .before .before .before .before .before .before .before .before .obey in
     let step = c .before .before .before .before .before .before .before .before .step-reached in
     let is = stepped-alike _ _ _ _ (obeyed .kept .1 .1 .0 ∙ loop .inv .3) (loop .inv .4) _ _ _ (step .ensures .0) in
-    driven-less _ _ _ _ _ _ _ (loop .inv .0) _ (obeyed .ensures) _ _ _ _ (step .result) _ is (sym (c .before .before .before .before .before .before .before .before .before .before .before .before .before .before .before .before .before .before .before .before .goes-on .ensures) ∙ c .before .before .before .before .before .before .before .before .before .before .before .before .before .before .before .before .before .before .before .if1 .taken)
+    driven-less _ _ _ _ _ _ _ (loop .inv .0) _ (obeyed .ensures .leaves) _ _ _ _ (step .result) _ is (sym (c .before .before .before .before .before .before .before .before .before .before .before .before .before .before .before .before .before .before .before .before .goes-on .ensures) ∙ c .before .before .before .before .before .before .before .before .before .before .before .before .before .before .before .before .before .before .before .if1 .taken)
 
 loop-again : tie.Need-loop-again Inv-loop μ-loop
 loop-again c =
@@ -43,7 +43,7 @@ loop-again c =
     let step = c .before .before .before .before .before .before .before .before .step-reached in
     let same-input = step .kept .1 .1 .0 ∙ obeyed .kept .1 .1 .0 ∙ loop .inv .3 in
     let is = stepped-alike _ _ _ _ (obeyed .kept .1 .1 .0 ∙ loop .inv .3) (loop .inv .4) _ _ _ (step .ensures .0) in (
-      driven-next _ _ _ _ _ _ _ (loop .inv .0) _ (obeyed .ensures) _ _ _ _ (step .result) _ is (asks-alike _ _ same-input _ _ _ _ _ (step .ensures .1 .0)) (step .ensures .1 .1),
+      driven-next _ _ _ _ _ _ _ (loop .inv .0) _ (obeyed .ensures .leaves) _ _ _ _ (step .result) _ is (asks-alike _ _ same-input _ _ _ _ _ (step .ensures .1 .0)) (step .ensures .1 .1),
       step .kept .0 ∙ loop .inv .1,
       step .kept .1 .0 ∙ loop .inv .2,
       same-input,

@@ -1,13 +1,20 @@
 -- `machines::heard::is_number` meets its contract, by the kind of the answer.
 -- Assumes nothing.
-use Rattle.laws.specs.Basics.{needs}
-use Rattle.machines.proofs.Hearing.{number-number, number-bytes, number-end, number-done, number-failed}
+use Rattle.laws.specs.Basics.{_+_, leb, length, needs, by-bool}
+use Rattle.machines.specs.{Machines.heardCount, Machines.isNumber, Forms.answerOf}
 use Rattle.machines.proofs.heard.is_number.Statement.{statement}
 use Rattle.machines.proofs.heard.is_number.Tie as tie
 
+-- Bytes, whether they lie inside the buffer or not.
+returns-2 : tie.Need-returns-2
+unfolding heardCount answerOf isNumber
+returns-2 c = λ at input.
+    let e = c .enum-told .given .1 in
+    by-bool (leb (at + c .enum-told .given .0 .0) (length input)) (λ f. rw (e, f)) (λ f. rw (e, f))
+
 pub is-number-spec : {M : Type 1} → statement M
+unfolding heardCount answerOf isNumber
 is-number-spec =
     tie.close
-    (tie.spec (λ c. search needs) (λ c. search needs) (λ c. search needs) (λ c. search needs) (λ c. search needs)
-    (λ c. number-number _ _ _ (c .before .answer .given .1)) (λ c. number-bytes _ _ _ (c .enum-told .given .1)) (λ c. number-end _ _ (c .enum-told2 .given .1))
-    (λ c. number-done _ _ (c .enum-told3 .given .1)) (λ c. number-failed _ _ (c .enum-told4 .given .1)))
+    (tie.spec (λ c. search needs) (λ c. search needs) (λ c. search needs) (λ c. search needs) (λ c. search needs) (λ c. λ at input. rw (c .before .answer .given .1))
+    returns-2 (λ c. λ at input. rw (c .enum-told2 .given .1)) (λ c. λ at input. rw (c .enum-told3 .given .1)) (λ c. λ at input. rw (c .enum-told4 .given .1)))

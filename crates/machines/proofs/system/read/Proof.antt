@@ -1,12 +1,22 @@
 -- `machines::system::read` meets its contract: the read changes nothing around the place that it is given.
 -- Assumes nothing.
-use Rattle.laws.specs.Basics.{needs}
+use Rattle.laws.specs.Basics.{ap, needs}
 use denote.Ref.{now}
-use Rattle.machines.proofs.{Places.around-put, system.read.Statement.statement}
+use Rattle.machines.specs.Forms.{from, Comes}
+use Rattle.machines.proofs.{Hearing.read-came, Places.around-put, Places.put-most, Places.fits-as, system.read.Statement.statement}
 use Rattle.machines.proofs.system.read.Tie as tie
 
 returns : tie.Need-returns
-returns c = let start = c .before .before .before .before .before .before .before .before .before .before in let got = c .before .before .before .before .before .before .read in around-put (start .args .at) (start .args .most) (now (start .args .input)) (got .last .1 .0) (start .pre .1) (got .kept .1 .0)
+unfolding Comes
+returns c =
+    let start = c .before .before .before .before .before .before .before .before .before .before in
+    let got = c .before .before .before .before .before .before .read in
+    let input = now (start .args .input) in
+    let whole = put-most (start .args .at) (start .args .most) input (got .last .1 .0) (start .pre .1) (got .kept .1 .0) in
+    let (z, is) = read-came _ _ _ _ (start .args .most) (c .read-answer .ensures) (c .before .count .ensures .1) whole in (
+      around-put (start .args .at) (start .args .most) input (got .last .1 .0) (start .pre .1) (got .kept .1 .0),
+      fits-as _ _ (start .pre .0) _ (λ source. (z, ap (from source) is)),
+    )
 
 pub read-spec : {M : Type 1} → statement M
 read-spec =

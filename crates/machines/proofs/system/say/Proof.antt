@@ -1,12 +1,17 @@
--- `machines::system::say` is safe.
+-- `machines::system::say` meets its contract.
 -- Assumes nothing.
-use Rattle.laws.specs.Basics.{sym, length-take-le, needs}
+use Rattle.laws.specs.Basics.{refl, sym, length-take-le, needs}
 use denote.Ref.{now}
-use Rattle.machines.proofs.system.say.Statement.{statement}
+use Rattle.machines.specs.Forms.{Comes}
+use Rattle.machines.proofs.{Places.fits-as, system.say.Statement.statement}
 use Rattle.machines.proofs.system.say.Tie as tie
 
 slice-aggregate-write-all : tie.Need-slice-aggregate-write-all
 slice-aggregate-write-all c = sym (length-take-le (c .before .before .args .size) (now (c .before .before .args .out)) (c .before .before .pre .1))
 
+returns : tie.Need-returns
+unfolding Comes
+returns c = fits-as _ _ (c .before .before .before .pre .0) _ (λ source. refl)
+
 pub say-spec : {M : Type 1} → statement M
-say-spec = tie.close (tie.spec slice-aggregate-write-all (λ c κs. search needs) (λ c. search needs))
+say-spec = tie.close (tie.spec slice-aggregate-write-all (λ c κs. search needs) returns)
