@@ -12,6 +12,10 @@ module _ {S : Type 0} (m : Machine S) where
   pub stands-as : {lent s t : S} {place : ℕ} {input out : List ℕ} {r : requests.Request} → t ≡ s → Stands m lent place input out r s → Stands m lent place input out r t
   stands-as {lent} {s} {t} {place} {input} {out} {r} e h = subst (Stands m lent place input out r) (sym e) h
 
+  pub steps-as : {lent : S} {place : ℕ} {input out : List ℕ} {r : requests.Request} (a : Answer) (s t : S) → t ≡ s → Stands m lent place input out r (stepped m s a)
+      → Stands m lent place input out r (stepped m t a)
+  steps-as a s t e h = stands-as (ap (λ (x : S). stepped m x a) e) h
+
   -- A machine that has stopped asks for nothing more, whatever is answered.
   pub stopped-stands : (lent s : S) (place : ℕ) (input out : List ℕ) → lent ≡ s → m .ask s ≡ Stop → Stands m lent place input out request.Stop s
   unfolding requestOf Placed GoesTo

@@ -130,3 +130,10 @@ module _ (account : Account) where
     why = reports talk Stop Failed ∙ append-nil (reportedIn talk) ∙ h .why ∙ sym (fails talk Stop Failed ∙ append-nil (failures talk));
     right = writes talk Stop Failed ∙ append-nil (printedIn talk) ∙ h .right ∙ sym (same-shown talk Stop Failed refl refl);
   }
+
+  -- What is reported, with the request that is not answered yet.
+  pub fine-says : (talk : List Exchange) → Fine talk → reportedIn talk ++ [] ≡ failures talk
+  fine-says talk quiet = append-nil (reportedIn talk) ∙ quiet .mute ∙ sym (quiet .fine)
+
+  pub failing-says : (name : List ℕ) (talk : List Exchange) → InFailing name talk → reportedIn talk ++ name ≡ failures talk
+  failing-says name talk h = ap (λ (x : List ℕ). x ++ name) (h .mute) ∙ sym (h .why)
