@@ -1,9 +1,10 @@
 -- The machine ends: a number falls with each answer.
 -- Assumes nothing.
-use Rattle.laws.specs.Basics.{_≡_, refl, _∙_, Bool, true, false, _&&_, _||_, List, [], _∷_, _++_, ℕ, _+_, _-_, _≤_, _<_, arith, ltb, leb, length, length-append, leb-true, leb-false, by-bool}
-use Rattle.machines.specs.Machines.{Stop, Answer, Number, Bytes, End, Done, Failed, heard, heardRead, heardDone, stepped, Ends}
+use Rattle.laws.specs.Basics.{_≡_, refl, false, _||_, List, [], _∷_, _++_, ℕ, _+_, _-_, _≤_, _<_, arith, ltb, leb, length, length-append, leb-false, by-bool}
+use Rattle.laws.specs.Truth.{or-none}
+use Rattle.machines.specs.Machines.{Stop, Answer, heard, heardRead, heardDone, stepped, Ends}
+use Rattle.machines.proofs.Answers.{by-read, by-done}
 use Rattle.machine_judge.specs.Judging.{mostRead, settled, wanted, State, Reading, Printing, Failing, Stopped, ask, next, onward, afterRead, afterWrite, judging}
-use Rattle.machine_judge.proofs.Stepping.{or-false}
 
 abbrev pub left : State → ℕ
 left (Reading trace) = mostRead - length trace + 3
@@ -16,11 +17,8 @@ pub unsettled-short : (trace : List ℕ) → settled trace ≡ false → length 
 unfolding settled
 unsettled-short [] e = omega arith
 unsettled-short (n ∷ l) e =
-    leb-false mostRead (length (n ∷ l)) (or-false (ltb 16 n) (leb mostRead (length (n ∷ l))) (or-false (ltb n 1) (ltb 16 n || leb mostRead (length (n ∷ l))) e .1) .1)
-
-and-true : (a b : Bool) → a && b ≡ true → a ≡ true
-and-true true b e = refl
-and-true false b e = absurd (let z : _≡_ {A = ℕ} 0 1 = cc in omega arith)
+    let long = leb mostRead (length (n ∷ l)) in
+    leb-false mostRead (length (n ∷ l)) (or-none (ltb 16 n) long (or-none (ltb n 1) (ltb 16 n || long) e .1) .1)
 
 onward-falls : (trace more : List ℕ) → 1 ≤ length more → left (onward (trace ++ more)) < left (Reading trace)
 unfolding onward
@@ -30,23 +28,13 @@ onward-falls trace more h =
     (λ e. rw e (omega (arith, unsettled-short (trace ++ more) e, length-append trace more)))
 
 read-falls : (trace : List ℕ) (most : ℕ) (a : Answer) → left (afterRead trace (heardRead most a)) < left (Reading trace)
-unfolding heardRead afterRead
-read-falls trace most (Number n) = omega arith
-read-falls trace most (Bytes more) =
-    by-bool (leb 1 (length more) && leb (length more) most)
-    (λ e. rw e (onward-falls trace more (leb-true 1 (length more) (and-true _ _ e))))
-    (λ e. rw e (omega arith))
-read-falls trace most End = omega arith
-read-falls trace most Done = omega arith
-read-falls trace most Failed = omega arith
+unfolding afterRead
+read-falls trace most a =
+    by-read (λ (x : Answer). left (afterRead trace x) < left (Reading trace)) (omega arith) most (λ more some few. onward-falls trace more some) (omega arith) a
 
 write-falls : (a : Answer) → left (afterWrite (heardDone a)) < 2
-unfolding heardDone afterWrite
-write-falls (Number n) = omega arith
-write-falls (Bytes l) = omega arith
-write-falls End = omega arith
-write-falls Done = omega arith
-write-falls Failed = omega arith
+unfolding afterWrite
+write-falls a = by-done (λ (x : Answer). left (afterWrite x) < 2) (omega arith) (omega arith) a
 
 pub falls : (s : State) (a : Answer) → (ask s ≡ Stop → ⊥) → left (stepped judging s a) < left s
 unfolding stepped ask next heard

@@ -1,13 +1,13 @@
 -- Which state an answer leads to, by its form.
 -- Assumes nothing.
-use Rattle.laws.specs.Basics.{_≡_, refl, sym, _∙_, ap, subst, Bool, true, false, _&&_, _||_, List, _++_, ℕ, _+_, _≤_, _<_, arith, eqb, ltb, leb, length, getD, take, length-take-le, ne-eqb, ltb-false, lt-leb, pick, by-bool}
+use Rattle.laws.specs.Basics.{_≡_, refl, sym, _∙_, ap, Bool, true, false, _&&_, List, ℕ, _+_, _≤_, _<_, arith, eqb, leb, length, getD, take, length-take-le, ne-eqb, lt-leb, pick, by-bool}
 use lib.Seq.{take-add}
-use Rattle.machines.specs.Machines.{Answer, Done, Failed, heard, heardRead, heardDone, stepped}
-use Rattle.machines.specs.Forms.{answerOf, takenOf, Between, requestOf, Placed, GoesTo}
-use Rattle.machine_judge.specs.{Text.longestVerdict, Words.EnoughRoom, Words.lacksRoom, Words.inPhase, Words.stateOf, Words.StandsFor}
+use Rattle.machines.specs.Machines.{Answer, Done, Failed, heard, heardDone, stepped}
+use Rattle.machines.specs.Forms.{answerOf, takenOf, Between}
+use Rattle.machines.proofs.{Hearing.ReadAs, Driving.still-stands, Places.long-enough}
+use Rattle.machine_judge.specs.{Text.longestVerdict, Words.EnoughRoom, Words.lacksRoom, Words.inPhase, Words.stateOf, Words.placeOf, Words.StandsFor}
 use Rattle.machine_judge.specs.Judging.{mostRead, wanted, State, Reading, Printing, Failing, Stopped, inputName, outputName, ask, next, printing, onward, afterRead, afterWrite, judging}
 use Rattle.machine_judge.proofs.Standing.{wanted-fits, state-in, phase-read, phase-printed}
-use Rattle.machines.specs.declared.Request as requests
 use Rattle.machines.specs.declared.Request.the-variants as request
 use Rattle.machines.specs.declared.Answer as answers
 use Rattle.machines.specs.declared.heard.Taken as takens
@@ -15,33 +15,31 @@ use Rattle.machines.specs.declared.heard.Taken.the-variants as taken
 
 -- What an answer to a read comes to.
 module _ (input : List ℕ) (buffered : ℕ) (fits : buffered ≤ mostRead) (long : mostRead ≤ length input) (a : answers.Answer) (most : ℕ) (asks : most ≡ wanted buffered) where
-  abbrev HeardAs : takens.Taken → Type 0
-  HeardAs t = ((at : ℕ) (l : List ℕ) → at + most ≤ length l → heardRead most (answerOf a at l) ≡ takenOf t at l) × Between t 1 most
-
   abbrev Led : State
   Led = stepped judging (Reading (take buffered input)) (answerOf a buffered input)
 
-  led : (t : takens.Taken) → HeardAs t → Led ≡ afterRead (take buffered input) (takenOf t buffered input)
+  led : (t s : takens.Taken) → ReadAs a most t → t ≡ s → Led ≡ afterRead (take buffered input) (takenOf s buffered input)
   unfolding stepped ask next heard
-  led t h =
+  led t s h e =
       rw (length-take-le buffered input (omega (arith, fits, long)), sym asks)
       (ap (afterRead (take buffered input)) (h .0 buffered input (omega (arith, wanted-fits buffered fits, asks, long))))
+      ∙ ap (λ (x : takens.Taken). afterRead (take buffered input) (takenOf x buffered input)) e
 
-  pub brought-fits : (t : takens.Taken) (size : ℕ) → HeardAs t → t ≡ taken.Brought size → buffered + size ≤ mostRead
+  pub brought-fits : (t : takens.Taken) (size : ℕ) → ReadAs a most t → t ≡ taken.Brought size → buffered + size ≤ mostRead
   unfolding Between
   brought-fits t size h e = let b : Between (taken.Brought size) 1 most = rw e at (h .1) in omega (arith, b .1, wanted-fits buffered fits, asks)
 
-  pub led-onward : (t : takens.Taken) (size : ℕ) → HeardAs t → t ≡ taken.Brought size → Led ≡ onward (take (buffered + size) input)
+  pub led-onward : (t : takens.Taken) (size : ℕ) → ReadAs a most t → t ≡ taken.Brought size → Led ≡ onward (take (buffered + size) input)
   unfolding takenOf afterRead
-  led-onward t size h e = led t h ∙ ap (λ (x : takens.Taken). afterRead (take buffered input) (takenOf x buffered input)) e ∙ ap onward (sym (take-add buffered size input))
+  led-onward t size h e = led t (taken.Brought size) h e ∙ ap onward (sym (take-add buffered size input))
 
-  pub led-end : (t : takens.Taken) → HeardAs t → t ≡ taken.Ended → Led ≡ printing (take buffered input)
+  pub led-end : (t : takens.Taken) → ReadAs a most t → t ≡ taken.Ended → Led ≡ printing (take buffered input)
   unfolding takenOf afterRead
-  led-end t h e = led t h ∙ ap (λ (x : takens.Taken). afterRead (take buffered input) (takenOf x buffered input)) e
+  led-end t h e = led t taken.Ended h e
 
-  pub led-failed : (t : takens.Taken) → HeardAs t → t ≡ taken.Failed → Led ≡ Failing inputName
+  pub led-failed : (t : takens.Taken) → ReadAs a most t → t ≡ taken.Failed → Led ≡ Failing inputName
   unfolding takenOf afterRead
-  led-failed t h e = led t h ∙ ap (λ (x : takens.Taken). afterRead (take buffered input) (takenOf x buffered input)) e
+  led-failed t h e = led t taken.Failed h e
 
 -- What an answer to a write comes to.
 module _ (line : List ℕ) (a : Answer) (b : Bool) (h : heardDone a ≡ pick b Done Failed) where
@@ -53,20 +51,9 @@ module _ (line : List ℕ) (a : Answer) (b : Bool) (h : heardDone a ≡ pick b D
   unfolding stepped ask next heard afterWrite
   led-unwritten e = ap afterWrite (h ∙ ap (λ (x : Bool). pick x Done Failed) e)
 
--- The state that is known.
-pub stands-as : (memory input out : List ℕ) (r : requests.Request) (s t : State) → t ≡ s → StandsFor memory input out r s → StandsFor memory input out r t
-stands-as memory input out r s t e h = subst (StandsFor memory input out r) (sym e) h
-
-pub steps-as : (memory input out : List ℕ) (r : requests.Request) (a : Answer) (s t : State) → t ≡ s → StandsFor memory input out r (stepped judging s a) → StandsFor memory input out r (stepped judging t a)
-steps-as memory input out r a s t e h = subst (λ (x : State). StandsFor memory input out r (stepped judging x a)) (sym e) h
-
 stays : (s : State) (a : Answer) → s ≡ Stopped → stepped judging s a ≡ Stopped
 unfolding stepped next
 stays s a e = ap (λ (x : State). stepped judging x a) e
-
-over : (s : State) (a : Answer) → ((name : List ℕ) → s ≡ Failing name → stepped judging s a ≡ Stopped)
-unfolding stepped next
-over s a name e = ap (λ (x : State). stepped judging x a) e
 
 module _ (memory input out : List ℕ) where
   abbrev phase : ℕ
@@ -77,13 +64,8 @@ module _ (memory input out : List ℕ) where
 
   -- Without room nothing happens.
   pub no-room : (a : Answer) → lacksRoom (length memory) (length input) (length out) ≡ true → StandsFor memory input out request.Stop (stepped judging (stateOf memory input out) a)
-  unfolding requestOf Placed GoesTo ask stateOf
-  no-room a e =
-      let none : stateOf memory input out ≡ Stopped = rw e in
-      stands-as memory input out request.Stop Stopped (stepped judging (stateOf memory input out) a) (stays (stateOf memory input out) a none) (record {
-        state = none;
-        asks = record { stands = refl; inside = tt; there = tt };
-      })
+  unfolding stepped next ask stateOf
+  no-room a e = still-stands judging (stateOf memory input out) Stopped (placeOf memory) input out a (rw e) refl refl
 
   module _ (room : EnoughRoom (length memory) (length input) (length out)) where
     pub is-reading : phase ≡ 0 → count ≤ mostRead → stateOf memory input out ≡ Reading (take count input)
@@ -115,13 +97,6 @@ module _ (memory input out : List ℕ) where
         (λ e. rw (ne-eqb phase 0 p, ne-eqb phase 1 q, e))
 
 -- Room, by the test.
-pub or-false : (a b : Bool) → a || b ≡ false → (a ≡ false) × (b ≡ false)
-or-false true b e = absurd (let z : _≡_ {A = ℕ} 0 1 = cc in omega arith)
-or-false false b e = (refl, e)
-
 pub room-by : (memory input out : ℕ) → lacksRoom memory input out ≡ false → EnoughRoom memory input out
 unfolding lacksRoom
-room-by memory input out e =
-    let a = or-false (ltb memory 2) (ltb input mostRead || ltb out longestVerdict) e in
-    let b = or-false (ltb input mostRead) (ltb out longestVerdict) (a .1) in
-    (ltb-false memory 2 (a .0), ltb-false input mostRead (b .0), ltb-false out longestVerdict (b .1))
+room-by memory input out e = long-enough memory 2 input mostRead out longestVerdict e

@@ -2,7 +2,7 @@
 -- Assumes nothing.
 use Rattle.laws.specs.Basics.{_≡_, Bool, true, false, _||_, List, [], _∷_, _++_, ℕ, _+_, _-_, _≤_, _<_, eqb, ltb, leb, length, pick}
 use Rattle.model.specs.Words.{mostProcesses}
-use Rattle.machines.specs.Machines.{Request, Count, Argument, Open, Read, Write, Say, Fail, Stop, Answer, Number, Bytes, End, Done, Failed, Machine, Exchange, asked, exchanges, stateAfter, writtenOf, errorTextOf, readOf}
+use Rattle.machines.specs.Machines.{Request, Read, Write, Fail, Stop, Answer, Number, Bytes, End, Done, Failed, Machine, Exchange, asked, exchanges, stateAfter, writtenOf, errorTextOf, readOf, gathered, endMet, failure}
 use Rattle.theory_patterns.specs.Verdicts.{verdict}
 use Rattle.machine_judge.specs.Text.{verdictText}
 
@@ -71,44 +71,13 @@ next Stopped a = Stopped
 abbrev pub judging : Machine State
 judging = record { first = Reading []; ask = ask; next = next }
 
--- The input has ended.
-unfoldable pub isEnd : Answer → Bool
-isEnd (Number n) = false
-isEnd (Bytes l) = false
-isEnd End = true
-isEnd Done = false
-isEnd Failed = false
-
-unfoldable pub endMet : List Exchange → Bool
-endMet [] = false
-endMet (e ∷ talk) = isEnd (e .answer) || endMet talk
-
 -- All that counts was read.
 abbrev pub isWhole : List Exchange → Bool
 isWhole talk = endMet talk || settled (readOf talk)
 
--- What failed, of each exchange: a read or a write.
-unfoldable pub failure : Request → Answer → List ℕ
-failure (Read most) Failed = inputName
-failure (Read most) (Number n) = []
-failure (Read most) (Bytes l) = []
-failure (Read most) End = []
-failure (Read most) Done = []
-failure (Write text) Failed = outputName
-failure (Write text) (Number n) = []
-failure (Write text) (Bytes l) = []
-failure (Write text) End = []
-failure (Write text) Done = []
-failure Count a = []
-failure (Argument i most) a = []
-failure (Open path) a = []
-failure (Say text) a = []
-failure (Fail text) a = []
-failure Stop a = []
-
-unfoldable pub failures : List Exchange → List ℕ
-failures [] = []
-failures (e ∷ talk) = failure (e .request) (e .answer) ++ failures talk
+-- What failed: a read or a write.
+abbrev pub failures : List Exchange → List ℕ
+failures talk = gathered (failure inputName outputName) talk
 
 -- Of every list of answers of the system:
 pub record Judges (answers : List Answer) : Type 0 where

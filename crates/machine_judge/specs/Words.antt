@@ -1,9 +1,9 @@
 -- The machine's state in what a caller lends: two numbers, the phase and a count; the buffer that the trace is read into; the buffer for what is written and reported.
 -- Assumes nothing.
 use Rattle.laws.specs.Basics.{_≡_, Bool, _&&_, _||_, List, ℕ, _≤_, eqb, ltb, leb, length, getD, take, pick}
-use Rattle.machines.specs.Forms.{Asks}
+use Rattle.machines.specs.Forms.{Stands}
 use Rattle.machine_judge.specs.Text.{longestVerdict}
-use Rattle.machine_judge.specs.Judging.{mostRead, State, Reading, Printing, Failing, Stopped, ask}
+use Rattle.machine_judge.specs.Judging.{mostRead, State, Reading, Printing, Failing, Stopped, judging}
 use Rattle.machines.specs.declared.Request as requests
 
 -- There is room for the two numbers, for all bytes that count, and for the longest line.
@@ -29,6 +29,5 @@ abbrev pub placeOf : List ℕ → ℕ
 placeOf memory = getD memory 1 0
 
 -- What is lent stands for a state, and the request is what the machine asks for there.
-pub record StandsFor (memory input out : List ℕ) (r : requests.Request) (s : State) : Type 0 where
-  pub state : stateOf memory input out ≡ s
-  pub asks : Asks r (placeOf memory) input out (ask s)
+abbrev pub StandsFor : (memory input out : List ℕ) → requests.Request → State → Type 0
+StandsFor memory input out r s = Stands judging (stateOf memory input out) (placeOf memory) input out r s

@@ -1,49 +1,87 @@
 -- `machine_judge::step` meets its contract, by the phase.
 -- Assumes nothing.
-use Rattle.laws.specs.Basics.{sym, _∙_, arith, needs}
+use Rattle.laws.specs.Basics.{sym, _∙_, List, ℕ, arith, length, needs}
 use denote.Ref.{now}
-use Rattle.machine_judge.proofs.Stepping.{no-room, room-by, is-reading, is-printing, read-too-far, printed-too-far, then-stops, stands-as, steps-as}
+use Rattle.machines.proofs.Driving.{stands-as, steps-as}
+use Rattle.machine_judge.specs.{Judging.judging, Words.EnoughRoom}
+use Rattle.machine_judge.proofs.Stepping.{no-room, room-by, is-reading, is-printing, read-too-far, printed-too-far, then-stops}
 use Rattle.machine_judge.proofs.step.Statement.{statement}
 use Rattle.machine_judge.proofs.step.Tie as tie
 
+-- Where there is room.
+module _ (c : tie.Else1) where
+  abbrev memory : List ℕ
+  memory = now (c .before .before .before .before .before .args .memory)
+
+  abbrev input : List ℕ
+  input = now (c .before .before .before .before .before .args .input)
+
+  abbrev out : List ℕ
+  out = now (c .before .before .before .before .before .args .out)
+
+  room : EnoughRoom (length memory) (length input) (length out)
+  room = room-by _ _ _ (sym (c .before .lacks-room .ensures) ∙ c .if1 .left)
+
 returns : tie.Need-returns
-returns c = let start = c .before .before .before .before .before in no-room (now (start .args .memory)) (now (start .args .input)) (now (start .args .out)) _ (sym (c .before .lacks-room .ensures) ∙ c .if1 .taken)
+returns c =
+    let start = c .before .before .before .before .before in
+    no-room (now (start .args .memory)) (now (start .args .input)) (now (start .args .out)) _ (sym (c .before .lacks-room .ensures) ∙ c .if1 .taken)
 
 slice-read-phase : tie.Need-slice-read-phase
-slice-read-phase c = let start = c .before .before .before .before .before .before in let room = room-by _ _ _ (sym (c .before .before .lacks-room .ensures) ∙ c .before .if1 .left) in omega (arith, room .0)
+slice-read-phase c = omega (arith, room (c .before) .0)
 
 slice-read-count : tie.Need-slice-read-count
-slice-read-count c = let start = c .before .before .before .before .before .before .before in let room = room-by _ _ _ (sym (c .before .before .before .lacks-room .ensures) ∙ c .before .before .if1 .left) in omega (arith, room .0)
+slice-read-count c = omega (arith, room (c .before .before) .0)
 
 stop-requires : tie.Need-stop-requires
-stop-requires c κs = let start = c .before .before .before .before .before .before .before .before .before .before in let room = room-by _ _ _ (sym (c .before .before .before .before .before .before .lacks-room .ensures) ∙ c .before .before .before .before .before .if1 .left) in room .0
+stop-requires c κs = room (c .before .before .before .before .before) .0
 
 returns-2 : tie.Need-returns-2
-returns-2 c = let start = c .before .before .before .before .before .before .before .before .before .before .before .before .before in let room = room-by _ _ _ (sym (c .before .before .before .before .before .before .before .before .before .lacks-room .ensures) ∙ c .before .before .before .before .before .before .before .before .if1 .left) in stands-as _ _ _ _ _ _ (read-too-far (now (start .args .memory)) (now (start .args .input)) (now (start .args .out)) room _ (c .before .before .before .before .before .if2 .taken) (c .before .before .before .before .if3 .taken)) (c .before .before .stop .ensures _ _)
+returns-2 c =
+    let e = c .before .before .before .before .before .before .before .before in
+    stands-as judging
+    (read-too-far (memory e) (input e) (out e) (room e) _ (c .before .before .before .before .before .if2 .taken) (c .before .before .before .before .if3 .taken))
+    (c .before .before .stop .ensures _ _)
 
 after-read-requires : tie.Need-after-read-requires
-after-read-requires c κs = let start = c .before .before .before .before .before .before .before .before .before .before .before in let room = room-by _ _ _ (sym (c .before .before .before .before .before .before .before .lacks-room .ensures) ∙ c .before .before .before .before .before .before .if1 .left) in (room, c .before .before .if3 .left)
+after-read-requires c κs = (room (c .before .before .before .before .before .before), c .before .before .if3 .left)
 
 returns-3 : tie.Need-returns-3
-returns-3 c = let start = c .before .before .before .before .before .before .before .before .before .before .before .before .before .before .before .before in let room = room-by _ _ _ (sym (c .before .before .before .before .before .before .before .before .before .before .before .before .lacks-room .ensures) ∙ c .before .before .before .before .before .before .before .before .before .before .before .if1 .left) in steps-as _ _ _ _ _ _ _ (is-reading (now (start .args .memory)) (now (start .args .input)) (now (start .args .out)) room (c .before .before .before .before .before .before .before .before .if2 .taken) (c .before .before .before .before .before .before .before .if3 .left)) (c .before .before .before .before .after-read .ensures)
+returns-3 c =
+    let e = c .before .before .before .before .before .before .before .before .before .before .before in
+    steps-as judging _ _ _
+    (is-reading (memory e) (input e) (out e) (room e) (c .before .before .before .before .before .before .before .before .if2 .taken) (c .before .before .before .before .before .before .before .if3 .left))
+    (c .before .before .before .before .after-read .ensures)
 
 stop-requires-2 : tie.Need-stop-requires-2
-stop-requires-2 c κs = let start = c .before .before .before .before .before .before .before .before .before .before .before in let room = room-by _ _ _ (sym (c .before .before .before .before .before .before .before .lacks-room .ensures) ∙ c .before .before .before .before .before .before .if1 .left) in room .0
+stop-requires-2 c κs = room (c .before .before .before .before .before .before) .0
 
 returns-4 : tie.Need-returns-4
-returns-4 c = let start = c .before .before .before .before .before .before .before .before .before .before .before .before .before .before in let room = room-by _ _ _ (sym (c .before .before .before .before .before .before .before .before .before .before .lacks-room .ensures) ∙ c .before .before .before .before .before .before .before .before .before .if1 .left) in stands-as _ _ _ _ _ _ (printed-too-far (now (start .args .memory)) (now (start .args .input)) (now (start .args .out)) room _ (c .before .before .before .before .before .if4 .taken) (c .before .before .before .before .if5 .taken)) (c .before .before .stop2 .ensures _ _)
+returns-4 c =
+    let e = c .before .before .before .before .before .before .before .before .before in
+    stands-as judging
+    (printed-too-far (memory e) (input e) (out e) (room e) _ (c .before .before .before .before .before .if4 .taken) (c .before .before .before .before .if5 .taken))
+    (c .before .before .stop2 .ensures _ _)
 
 after-write-requires : tie.Need-after-write-requires
-after-write-requires c κs = let start = c .before .before .before .before .before .before .before .before .before .before .before .before in let room = room-by _ _ _ (sym (c .before .before .before .before .before .before .before .before .lacks-room .ensures) ∙ c .before .before .before .before .before .before .before .if1 .left) in room
+after-write-requires c κs = room (c .before .before .before .before .before .before .before)
 
 returns-5 : tie.Need-returns-5
-returns-5 c = let start = c .before .before .before .before .before .before .before .before .before .before .before .before .before .before .before .before .before in let room = room-by _ _ _ (sym (c .before .before .before .before .before .before .before .before .before .before .before .before .before .lacks-room .ensures) ∙ c .before .before .before .before .before .before .before .before .before .before .before .before .if1 .left) in steps-as _ _ _ _ _ _ _ (is-printing (now (start .args .memory)) (now (start .args .input)) (now (start .args .out)) room (c .before .before .before .before .before .before .before .before .if4 .taken) (c .before .before .before .before .before .before .before .if5 .left)) (c .before .before .before .before .after-write .ensures)
+returns-5 c =
+    let e = c .before .before .before .before .before .before .before .before .before .before .before .before in
+    steps-as judging _ _ _
+    (is-printing (memory e) (input e) (out e) (room e) (c .before .before .before .before .before .before .before .before .if4 .taken) (c .before .before .before .before .before .before .before .if5 .left))
+    (c .before .before .before .before .after-write .ensures)
 
 stop-requires-3 : tie.Need-stop-requires-3
-stop-requires-3 c κs = let start = c .before .before .before .before .before .before .before .before .before .before in let room = room-by _ _ _ (sym (c .before .before .before .before .before .before .lacks-room .ensures) ∙ c .before .before .before .before .before .if1 .left) in room .0
+stop-requires-3 c κs = room (c .before .before .before .before .before) .0
 
 returns-6 : tie.Need-returns-6
-returns-6 c = let start = c .before .before .before .before .before .before .before .before .before .before .before .before .before in let room = room-by _ _ _ (sym (c .before .before .before .before .before .before .before .before .before .lacks-room .ensures) ∙ c .before .before .before .before .before .before .before .before .if1 .left) in stands-as _ _ _ _ _ _ (then-stops (now (start .args .memory)) (now (start .args .input)) (now (start .args .out)) room _ (c .before .before .before .before .before .if2 .left) (c .before .before .before .before .if4 .left)) (c .before .before .stop3 .ensures _ _)
+returns-6 c =
+    let e = c .before .before .before .before .before .before .before .before in
+    stands-as judging
+    (then-stops (memory e) (input e) (out e) (room e) _ (c .before .before .before .before .before .if2 .left) (c .before .before .before .before .if4 .left))
+    (c .before .before .stop3 .ensures _ _)
 
 pub step-spec : {M : Type 1} → statement M
 step-spec =
