@@ -1,10 +1,11 @@
 -- Which state the lent numbers and buffers stand for once a phase and a count are put.
 -- Assumes nothing.
-use Rattle.laws.specs.Basics.{_≡_, refl, sym, _∙_, ap, Bool, true, false, _&&_, List, [], _∷_, ℕ, zero, suc, _+_, _-_, _≤_, _<_, arith, leb, length, getD, take, drop, set, length-set, getD-set-same, getD-set-other, length-take-le, eq-eqb, ne-eqb, lt-ltb, le-ltb, le-leb, pick, by-eq}
+use Rattle.laws.specs.Basics.{_≡_, refl, sym, _∙_, ap, Bool, true, false, List, [], _∷_, ℕ, zero, suc, _+_, _-_, _≤_, _<_, arith, leb, length, getD, take, drop, set, length-set, getD-set-same, getD-set-other, length-take-le, eq-eqb, ne-eqb, lt-ltb, le-ltb, le-leb, pick, by-eq}
 use Rattle.laws.specs.Choice.{pick-same}
 use Rattle.machines.specs.Forms.{requestOf, Placed, GoesTo}
-use Rattle.machine_judge.specs.{Text.longestVerdict, Words.EnoughRoom, Words.lacksRoom, Words.inPhase, Words.stateOf, Words.StandsFor}
-use Rattle.machine_judge.specs.Judging.{mostRead, wanted, settled, State, Reading, Printing, Failing, Stopped, ask, printing, onward}
+use Rattle.machines.proofs.Driving.{stopped-stands}
+use Rattle.machine_judge.specs.{Text.longestVerdict, Words.EnoughRoom, Words.lacksRoom, Words.inPhase, Words.stateOf, Words.placeOf, Words.StandsFor}
+use Rattle.machine_judge.specs.Judging.{mostRead, wanted, settled, State, Reading, Printing, Failing, Stopped, ask, printing, onward, judging}
 use Rattle.machines.specs.declared.Request as requests
 use Rattle.machines.specs.declared.Request.the-variants as request
 
@@ -26,13 +27,9 @@ pub phase-printed : (count : ℕ) (input out : List ℕ) → count ≤ length ou
 unfolding inPhase
 phase-printed count input out h = rw (le-leb count (length out) h)
 
-pub phase-failed : (count : ℕ) (input out : List ℕ) → count ≤ length out → inPhase 2 count input out ≡ Failing (take count out)
+phase-failed : (count : ℕ) (input out : List ℕ) → count ≤ length out → inPhase 2 count input out ≡ Failing (take count out)
 unfolding inPhase
 phase-failed count input out h = rw (le-leb count (length out) h)
-
-pub phase-over : (count : ℕ) (input out : List ℕ) → inPhase 3 count input out ≡ Stopped
-unfolding inPhase
-phase-over count input out = refl
 
 module _ (memory input out : List ℕ) where
   pub state-in : EnoughRoom (length memory) (length input) (length out) → stateOf memory input out ≡ inPhase (getD memory 0 0) (getD memory 1 0) input out
@@ -40,85 +37,63 @@ module _ (memory input out : List ℕ) where
   state-in room = rw (room-is (length memory) (length input) (length out) room)
 
 -- What a phase and a count leave, once they are put.
-module _ (memory : List ℕ) (phase count : ℕ) (two : 2 ≤ length memory) where
-  abbrev putIn : List ℕ
-  putIn = set (set memory 0 phase) 1 count
+module _ (memory after : List ℕ) (phase count : ℕ) (is : after ≡ set (set memory 0 phase) 1 count) (two : 2 ≤ length memory) where
+  put-phase : getD after 0 0 ≡ phase
+  put-phase =
+      ap (λ (l : List ℕ). getD l 0 0) is
+      ∙ getD-set-other (set memory 0 phase) 1 0 count 0 (omega arith)
+      ∙ getD-set-same memory 0 phase 0 (omega arith)
 
-  pub put-phase : getD putIn 0 0 ≡ phase
-  put-phase = getD-set-other (set memory 0 phase) 1 0 count 0 (omega arith) ∙ getD-set-same memory 0 phase 0 (omega arith)
+  put-count : getD after 1 0 ≡ count
+  put-count = ap (λ (l : List ℕ). getD l 1 0) is ∙ getD-set-same (set memory 0 phase) 1 count 0 (omega (arith, length-set memory 0 phase))
 
-  pub put-count : getD putIn 1 0 ≡ count
-  put-count = getD-set-same (set memory 0 phase) 1 count 0 (omega (arith, length-set memory 0 phase))
+  put-length : length after ≡ length memory
+  put-length = ap length is ∙ length-set (set memory 0 phase) 1 count ∙ length-set memory 0 phase
 
-  pub put-length : length putIn ≡ length memory
-  put-length = length-set (set memory 0 phase) 1 count ∙ length-set memory 0 phase
+-- What these numbers stand for, and the request with them.
+module _ (memory after input out : List ℕ) (room : EnoughRoom (length memory) (length input) (length out)) where
+  state-put : (phase count : ℕ) → after ≡ set (set memory 0 phase) 1 count → stateOf after input out ≡ inPhase phase count input out
+  state-put phase count is =
+      state-in after input out (omega (arith, put-length memory after phase count is (room .0)), room .1, room .2)
+      ∙ ap (λ (p : ℕ). inPhase p (getD after 1 0) input out) (put-phase memory after phase count is (room .0))
+      ∙ ap (λ (k : ℕ). inPhase phase k input out) (put-count memory after phase count is (room .0))
 
-  module _ (input out : List ℕ) (room : EnoughRoom (length memory) (length input) (length out)) where
-    pub state-put : stateOf putIn input out ≡ inPhase phase count input out
-    state-put =
-        state-in putIn input out (omega (arith, put-length), room .1, room .2)
-        ∙ ap (λ (p : ℕ). inPhase p (getD putIn 1 0) input out) put-phase
-        ∙ ap (λ (k : ℕ). inPhase phase k input out) put-count
-
-module _ (memory input out : List ℕ) (room : EnoughRoom (length memory) (length input) (length out)) where
-  pub reading-stands : (buffered : ℕ) → buffered ≤ mostRead → StandsFor (set (set memory 0 0) 1 buffered) input out (request.Read buffered (wanted buffered)) (Reading (take buffered input))
+  pub reading-after : (buffered most : ℕ) → after ≡ set (set memory 0 0) 1 buffered → most ≡ wanted buffered → buffered ≤ mostRead
+      → StandsFor after input out (request.Read buffered most) (Reading (take buffered input))
   unfolding requestOf Placed GoesTo ask
-  reading-stands buffered h = record {
-    state = state-put memory 0 buffered (room .0) input out room ∙ phase-read buffered input out h;
+  reading-after buffered most is asks h = record {
+    state = state-put 0 buffered is ∙ phase-read buffered input out h;
     asks = record {
-      stands = rw (length-take-le buffered input (omega (arith, h, room .1)));
-      inside = omega (arith, wanted-fits buffered h, room .1);
-      there = sym (put-count memory 0 buffered (room .0));
+      stands = rw (length-take-le buffered input (omega (arith, h, room .1)), asks);
+      inside = omega (arith, asks, wanted-fits buffered h, room .1);
+      there = sym (put-count memory after 0 buffered is (room .0));
     };
   }
 
-  pub printing-stands : (size : ℕ) (line : List ℕ) → size ≤ length out → take size out ≡ line → StandsFor (set (set memory 0 1) 1 size) input out (request.Write size) (Printing line)
+  pub printing-after : (size : ℕ) (line : List ℕ) → after ≡ set (set memory 0 1) 1 size → size ≤ length out → take size out ≡ line
+      → StandsFor after input out (request.Write size) (Printing line)
   unfolding requestOf Placed GoesTo ask
-  printing-stands size line h e = record {
-    state = state-put memory 1 size (room .0) input out room ∙ phase-printed size input out h ∙ ap Printing e;
+  printing-after size line is h e = record {
+    state = state-put 1 size is ∙ phase-printed size input out h ∙ ap Printing e;
     asks = record { stands = rw e; inside = h; there = tt };
   }
 
-  pub failing-stands : (size : ℕ) (name : List ℕ) → size ≤ length out → take size out ≡ name → StandsFor (set (set memory 0 2) 1 size) input out (request.Fail size) (Failing name)
+  pub failing-after : (size : ℕ) (name : List ℕ) → after ≡ set (set memory 0 2) 1 size → size ≤ length out → take size out ≡ name
+      → StandsFor after input out (request.Fail size) (Failing name)
   unfolding requestOf Placed GoesTo ask
-  failing-stands size name h e = record {
-    state = state-put memory 2 size (room .0) input out room ∙ phase-failed size input out h ∙ ap Failing e;
+  failing-after size name is h e = record {
+    state = state-put 2 size is ∙ phase-failed size input out h ∙ ap Failing e;
     asks = record { stands = rw e; inside = h; there = tt };
   }
 
 -- A machine that has stopped, whatever the buffers.
-over-put : (memory : List ℕ) → 2 ≤ length memory → (input out : List ℕ) → stateOf (set (set memory 0 3) 1 0) input out ≡ Stopped
-unfolding stateOf
-over-put memory two input out =
-    let after = set (set memory 0 3) 1 0 in
-    let room = lacksRoom (length after) (length input) (length out) in
-    ap (λ (p : ℕ). pick room Stopped (inPhase p (getD after 1 0) input out)) (put-phase memory 3 0 two)
-    ∙ ap (λ (s : State). pick room Stopped s) (phase-over (getD after 1 0) input out)
-    ∙ pick-same room Stopped
-
-pub stopped-stands : (memory : List ℕ) → 2 ≤ length memory → (input out : List ℕ) → StandsFor (set (set memory 0 3) 1 0) input out request.Stop Stopped
-unfolding requestOf Placed GoesTo ask
-stopped-stands memory two input out = record {
-  state = over-put memory two input out;
-  asks = record { stands = refl; inside = tt; there = tt };
-}
-
--- The same of numbers that are known to be these.
-module _ (memory after input out : List ℕ) (room : EnoughRoom (length memory) (length input) (length out)) where
-  pub reading-after : (buffered most : ℕ) → after ≡ set (set memory 0 0) 1 buffered → most ≡ wanted buffered → buffered ≤ mostRead
-      → StandsFor after input out (request.Read buffered most) (Reading (take buffered input))
-  reading-after buffered most e f h = rw (e, f) (reading-stands memory input out room buffered h)
-
-  pub printing-after : (size : ℕ) (line : List ℕ) → after ≡ set (set memory 0 1) 1 size → size ≤ length out → take size out ≡ line
-      → StandsFor after input out (request.Write size) (Printing line)
-  printing-after size line e h f = rw e (printing-stands memory input out room size line h f)
-
-  pub failing-after : (size : ℕ) (name : List ℕ) → after ≡ set (set memory 0 2) 1 size → size ≤ length out → take size out ≡ name
-      → StandsFor after input out (request.Fail size) (Failing name)
-  failing-after size name e h f = rw e (failing-stands memory input out room size name h f)
-
 pub stopped-after : (memory after : List ℕ) → after ≡ set (set memory 0 3) 1 0 → 2 ≤ length memory → (input out : List ℕ) → StandsFor after input out request.Stop Stopped
-stopped-after memory after e two input out = rw e (stopped-stands memory two input out)
+unfolding stateOf inPhase ask
+stopped-after memory after is two input out =
+    let short = lacksRoom (length after) (length input) (length out) in
+    stopped-stands judging (stateOf after input out) Stopped (placeOf after) input out
+    (ap (λ (p : ℕ). pick short Stopped (inPhase p (getD after 1 0) input out)) (put-phase memory after 3 0 is two) ∙ pick-same short Stopped)
+    refl
 
 -- The verdict is settled, by the tests of the code.
 module _ (input : List ℕ) (buffered : ℕ) (fits : buffered ≤ length input) where

@@ -31,8 +31,7 @@ loop-again : tie.Need-loop-again Inv-loop μ-loop
 loop-again c =
     let inv = c .before .before .before .before .before .before .before .before .before .before .before .before .before .before .before .before .loop .inv in
     let obeyed = c .before .before .before .before .before .before .before .before .before .before .before .obey in
-    let stepped = c .before .before .before .before .step in
-    (
+    let stepped = c .before .before .before .before .step in (
       driven-next judging (inv .0) (kept _ _ _ _ _ (inv .0 .asks .there) (obeyed .ensures .leaves)) _ (stepped .ensures),
       stepped .kept .0 ∙ inv .1,
       obeyed .kept .1 .1 .0 ∙ inv .2,
