@@ -1,23 +1,28 @@
 -- What the machine does with every list of answers.
 -- Assumes nothing.
-use Rattle.laws.specs.Basics.{_≡_, refl, sym, _∙_, ap, Bool, true, false, _&&_, _||_, List, [], _∷_, _++_, append-nil, append-assoc, ℕ, _+_, _-_, _*_, _/_, _%_, _≤_, _<_, arith, eqb, ltb, leb, length, getD, length-append, ltb-true, ltb-false, leb-true, by-bool}
+use Rattle.laws.specs.Basics.{_≡_, refl, sym, _∙_, ap, Bool, true, false, List, [], _∷_, _++_, append-nil, append-assoc, ℕ, _+_, _-_, _*_, _/_, _%_, _≤_, _<_, arith, eqb, ltb, length, getD, length-append, ltb-true, ltb-false, pick, by-bool}
+use Rattle.laws.specs.Tests.{some-of}
 use native.Mathlib.Numerals.{add-one}
 use Rattle.model.specs.declared.{Run.Run, Refusal.the-variants.NoFirstByte, Refusal.the-variants.LeftOverBytes}
-use Rattle.machines.specs.Machines.{Request, Read, Write, Fail, Stop, Answer, Number, Bytes, End, Done, Failed, Exchange, heard, heardRead, heardDone, stepped, exchanged, stateAfter, exchanges, written, errorText, writtenOf, errorTextOf, brought, readBy, readOf, requestsOf}
-use Rattle.machines.proofs.Runs.{throughout, read-next, written-next, error-text-next, written-is, error-text-is, stops}
+use Rattle.machines.specs.Machines.{Request, Read, Write, Answer, Number, Bytes, End, Done, Failed, Exchange, heard, heardRead, heardDone, stepped, exchanged, stateAfter, exchanges, written, errorText, writtenOf, errorTextOf, brought, readBy, readOf, gathered, isEnd, endMet, failed, failure, requestsOf}
+use Rattle.machines.proofs.{Runs.throughout, Runs.written-is, Runs.error-text-is, Runs.stops, Answers.by-read, Answers.by-done}
+use Rattle.machines.proofs.Reporting.{Account, printedIn, more, reads, ends, writes, same-read, same-end, Fine, InWriting, InFailing, InStopped, fine-on, failed-read, failed-write, done-write, after-fail, after-stop, fine-says, failing-says}
 use Rattle.machine_console.specs.Made.{madeOn, opened}
 use Rattle.machine_console.specs.Text.{firstCall, callText, lineText, refusedText, refusedAt, callLines, runAfter, leftOver, linesOf, factsOf}
-use Rattle.machine_console.specs.Consoling.{mostCalls, inputName, outputName, Between, State, Opening, Reading, Printing, Ending, Failing, Stopped, ask, next, begun, afterFirst, called, onward, atEnd, afterRead, furtherOn, afterWrite, consoling, isEnd, endMet, failure, failures, factsSoFar, isOpen, ConsolesAlways}
+use Rattle.machine_console.specs.Consoling.{mostCalls, inputName, outputName, Between, State, Opening, Reading, Printing, Ending, Failing, Stopped, ask, next, begun, afterFirst, called, onward, atEnd, afterRead, furtherOn, afterWrite, consoling, failures, factsSoFar, isOpen, ConsolesAlways}
 use Rattle.machine_console.proofs.{Lines.lines-front, Lines.one-line, Lines.one-run, Lines.whole-calls, Lines.left-over, Ending.consoling-ends}
 
-abbrev printedIn : List Exchange → List ℕ
-printedIn talk = writtenOf (requestsOf talk)
+-- The facts of what was read: of a whole script once the input has ended, of its whole calls before.
+abbrev account : Account
+account = record { input = inputName; output = outputName; shown = λ (ended : Bool) (script : List ℕ). pick ended (factsOf script) (linesOf script) }
 
 -- Nothing is reported so far, nothing failed, and the input has not ended.
-record Fine (talk : List Exchange) : Type 0 where
-  mute : errorTextOf (requestsOf talk) ≡ []
-  fine : failures talk ≡ []
+record Quiet (talk : List Exchange) : Type 0 where
+  fine : Fine account talk
   unended : endMet talk ≡ false
+
+quiet-on : (talk : List Exchange) (r : Request) (a : Answer) → Quiet talk → errorText r ≡ [] → failure inputName outputName r a ≡ [] → isEnd a ≡ false → Quiet (more talk r a)
+quiet-on talk r a quiet s f on = record { fine = fine-on account talk r a (quiet .fine) s f; unended = same-end talk r a on ∙ quiet .unended }
 
 -- What was read: a first byte that starts a run, whole calls, and bytes of the next.
 record Reads (talk : List Exchange) (b : Between) : Type 0 where
@@ -32,40 +37,26 @@ record Reads (talk : List Exchange) (b : Between) : Type 0 where
 record InOpening (talk : List Exchange) : Type 0 where
   none : readOf talk ≡ []
   silent : printedIn talk ≡ []
-  quiet : Fine talk
+  quiet : Quiet talk
 
 record InReading (b : Between) (talk : List Exchange) : Type 0 where
   reads : Reads talk b
   more : b .done < mostCalls
   right : printedIn talk ≡ callLines (b .done) 0 (opened (reads .n) .run) (reads .front)
-  quiet : Fine talk
+  quiet : Quiet talk
 
 record InPrinting (line : List ℕ) (b : Between) (talk : List Exchange) : Type 0 where
   reads : Reads talk b
   right : printedIn talk ++ line ≡ callLines (b .done) 0 (opened (reads .n) .run) (reads .front)
-  quiet : Fine talk
-
-record InEnding (line : List ℕ) (talk : List Exchange) : Type 0 where
-  right : printedIn talk ++ line ≡ factsSoFar talk
-  mute : errorTextOf (requestsOf talk) ≡ []
-  fine : failures talk ≡ []
-
-record InFailing (name : List ℕ) (talk : List Exchange) : Type 0 where
-  why : failures talk ≡ name
-  mute : errorTextOf (requestsOf talk) ≡ []
-  right : printedIn talk ≡ factsSoFar talk
-
-record InStopped (talk : List Exchange) : Type 0 where
-  why : errorTextOf (requestsOf talk) ≡ failures talk
-  right : printedIn talk ≡ factsSoFar talk
+  quiet : Quiet talk
 
 abbrev Holds : State → List Exchange → Type 0
 Holds Opening talk = InOpening talk
 Holds (Reading b) talk = InReading b talk
 Holds (Printing line b) talk = InPrinting line b talk
-Holds (Ending line) talk = InEnding line talk
-Holds (Failing name) talk = InFailing name talk
-Holds Stopped talk = InStopped talk
+Holds (Ending line) talk = InWriting account line talk
+Holds (Failing name) talk = InFailing account name talk
+Holds Stopped talk = InStopped account talk
 
 -- The lines of what was read, so far.
 lines-are : (talk : List Exchange) (b : Between) (r : Reads talk b) → linesOf (readOf talk) ≡ callLines (b .done) 0 (opened (r .n) .run) (r .front)
@@ -75,13 +66,12 @@ lines-are talk b r =
     rw (r .read, r .starts, size) (lines-front (b .done) 0 (opened (r .n) .run) (r .front) (b .buffered) (omega (arith, r .whole)))
 
 so-far : (talk : List Exchange) (b : Between) (r : Reads talk b) → endMet talk ≡ false → factsSoFar talk ≡ callLines (b .done) 0 (opened (r .n) .run) (r .front)
-unfolding factsSoFar
 so-far talk b r e = rw e (lines-are talk b r)
 
 -- At the end what is left over is added.
 at-end : (talk : List Exchange) (b : Between) (r : Reads talk b) → endMet talk ≡ true
     → factsSoFar talk ≡ callLines (b .done) 0 (opened (r .n) .run) (r .front) ++ leftOver (b .done) (length (b .buffered))
-unfolding factsSoFar factsOf
+unfolding factsOf
 at-end talk b r e =
     let size : length (r .front ++ b .buffered) ≡ 8 * b .done + length (b .buffered) = length-append (r .front) (b .buffered) ∙ omega (arith, r .whole) in
     let calls : length (r .front ++ b .buffered) / 8 ≡ b .done = whole-calls (b .done) (length (b .buffered)) (length (r .front ++ b .buffered)) size (r .short) in
@@ -89,91 +79,23 @@ at-end talk b r e =
     let lines : linesOf (r .n ∷ (r .front ++ b .buffered)) ≡ callLines (b .done) 0 (opened (r .n) .run) (r .front) = ap linesOf (sym (r .read)) ∙ lines-are talk b r in
     rw (e, r .read, r .starts, calls, over, lines)
 
--- One exchange more.
-end-then : (l k : List Exchange) → endMet (l ++ k) ≡ endMet l || endMet k
-unfolding endMet
-end-then [] k = refl
-end-then (e ∷ l) k = ap (λ (b : Bool). isEnd (e .answer) || b) (end-then l k) ∙ or-assoc (isEnd (e .answer)) (endMet l) (endMet k)
-  where
-    or-assoc : (a b c : Bool) → a || (b || c) ≡ (a || b) || c
-    or-assoc true b c = refl
-    or-assoc false b c = refl
-
-failures-then : (l k : List Exchange) → failures (l ++ k) ≡ failures l ++ failures k
-unfolding failures
-failures-then [] k = refl
-failures-then (e ∷ l) k =
-    ap (λ (x : List ℕ). failure (e .request) (e .answer) ++ x) (failures-then l k) ∙ sym (append-assoc (failure (e .request) (e .answer)) (failures l) (failures k))
-
-or-no : (a : Bool) → a || false ≡ a
-or-no true = refl
-or-no false = refl
-
-module _ (talk : List Exchange) (r : Request) (a : Answer) where
-  abbrev more : List Exchange
-  more = talk ++ (record { request = r; answer = a } ∷ [])
-
-  end-next : endMet more ≡ endMet talk || isEnd a
-  unfolding endMet
-  end-next = end-then talk (record { request = r; answer = a } ∷ []) ∙ ap (λ (b : Bool). endMet talk || b) (or-no (isEnd a))
-
-  failures-next : failures more ≡ failures talk ++ failure r a
-  unfolding failures
-  failures-next = failures-then talk (record { request = r; answer = a } ∷ []) ∙ ap (λ (x : List ℕ). failures talk ++ x) (append-nil (failure r a))
-
-  reads-next : readOf more ≡ readOf talk ++ readBy r a
-  reads-next = read-next talk (record { request = r; answer = a })
-
-  writes : printedIn more ≡ printedIn talk ++ written r
-  writes = written-next talk (record { request = r; answer = a })
-
-  tells : errorTextOf (requestsOf more) ≡ errorTextOf (requestsOf talk) ++ errorText r
-  tells = error-text-next talk (record { request = r; answer = a })
-
-  -- An exchange that reads nothing leaves what was read, and so the facts.
-  module _ (none : readBy r a ≡ []) (on : isEnd a ≡ false) where
-    same-read : readOf more ≡ readOf talk
-    same-read = reads-next ∙ ap (λ (x : List ℕ). readOf talk ++ x) none ∙ append-nil (readOf talk)
-
-    same-end : endMet more ≡ endMet talk
-    same-end = end-next ∙ ap (λ (b : Bool). endMet talk || b) on ∙ or-no (endMet talk)
-
-    same-facts : factsSoFar more ≡ factsSoFar talk
-    unfolding factsSoFar
-    same-facts = rw (same-end, same-read)
-
-  -- What does not fail, and says nothing.
-  still : Fine talk → failure r a ≡ [] → errorText r ≡ [] → (errorTextOf (requestsOf more) ≡ []) × (failures more ≡ [])
-  still q f s = (
-    tells ∙ ap (λ (x : List ℕ). x ++ errorText r) (q .mute) ∙ s,
-    failures-next ∙ ap (λ (x : List ℕ). x ++ failure r a) (q .fine) ∙ f,
-  )
-
-  fine-on : Fine talk → failure r a ≡ [] → errorText r ≡ [] → isEnd a ≡ false → Fine more
-  fine-on q f s on = record { mute = still q f s .0; fine = still q f s .1; unended = end-next ∙ rw (q .unended, on) }
-
 -- The first byte.
 module _ (talk : List Exchange) (h : InOpening talk) where
   unread : (a : Answer) → printedIn (more talk (Read 1) a) ≡ []
   unfolding written
   unread a = writes talk (Read 1) a ∙ append-nil (printedIn talk) ∙ h .silent
 
-  open-failed : InFailing inputName (more talk (Read 1) Failed)
-  unfolding written errorText failure readBy brought isEnd factsSoFar linesOf
-  open-failed = record {
-    why = failures-next talk (Read 1) Failed ∙ ap (λ (x : List ℕ). x ++ inputName) (h .quiet .fine);
-    mute = tells talk (Read 1) Failed ∙ append-nil (errorTextOf (requestsOf talk)) ∙ h .quiet .mute;
-    right = unread Failed ∙ sym (same-facts talk (Read 1) Failed refl refl ∙ rw (h .quiet .unended, h .none));
-  }
+  open-failed : InFailing account inputName (more talk (Read 1) Failed)
+  unfolding linesOf
+  open-failed = failed-read account talk 1 (h .quiet .fine) (h .silent ∙ sym (rw (h .quiet .unended, h .none)))
 
-  open-ended : InEnding (refusedText 0 NoFirstByte) (more talk (Read 1) End)
-  unfolding errorText failure readBy brought isEnd factsSoFar factsOf
+  open-ended : InWriting account (refusedText 0 NoFirstByte) (more talk (Read 1) End)
+  unfolding errorText failure failed readBy brought isEnd factsOf
   open-ended = record {
     right =
         ap (λ (x : List ℕ). x ++ refusedText 0 NoFirstByte) (unread End)
-        ∙ sym (rw (end-next talk (Read 1) End, h .quiet .unended, reads-next talk (Read 1) End, h .none));
-    mute = still talk (Read 1) End (h .quiet) refl refl .0;
-    fine = still talk (Read 1) End (h .quiet) refl refl .1;
+        ∙ sym (rw (ends talk (Read 1) End, h .quiet .unended, reads talk (Read 1) End, h .none));
+    quiet = fine-on account talk (Read 1) End (h .quiet .fine) refl refl;
   }
 
   module _ (l : List ℕ) (one : length l ≡ 1) where
@@ -184,14 +106,14 @@ module _ (talk : List Exchange) (h : InOpening talk) where
 
     first-read : readOf (more talk (Read 1) (Bytes l)) ≡ getD l 0 0 ∷ []
     unfolding readBy brought
-    first-read = reads-next talk (Read 1) (Bytes l) ∙ ap (λ (x : List ℕ). x ++ l) (h .none) ∙ only l one
+    first-read = reads talk (Read 1) (Bytes l) ∙ ap (λ (x : List ℕ). x ++ l) (h .none) ∙ only l one
 
-    open-quiet : Fine (more talk (Read 1) (Bytes l))
-    unfolding failure errorText isEnd
-    open-quiet = fine-on talk (Read 1) (Bytes l) (h .quiet) refl refl refl
+    open-quiet : Quiet (more talk (Read 1) (Bytes l))
+    unfolding failure failed errorText isEnd
+    open-quiet = quiet-on talk (Read 1) (Bytes l) (h .quiet) refl refl refl
 
     open-begun : Holds (begun (getD l 0 0)) (more talk (Read 1) (Bytes l))
-    unfolding begun callLines runAfter linesOf factsSoFar
+    unfolding begun callLines runAfter linesOf
     open-begun =
         by-bool (eqb (refusedAt (getD l 0 0)) 0)
         (λ e. rw e (record {
@@ -204,20 +126,13 @@ module _ (talk : List Exchange) (h : InOpening talk) where
           right =
               ap (λ (x : List ℕ). x ++ lineText 0 (refusedAt (getD l 0 0)) []) (unread (Bytes l))
               ∙ sym (rw (open-quiet .unended, first-read, e));
-          mute = open-quiet .mute;
-          fine = open-quiet .fine;
+          quiet = open-quiet .fine;
         }))
 
-  and-one : (k : ℕ) → leb 1 k && leb k 1 ≡ true → k ≡ 1
-  and-one k e = by-bool (leb 1 k) (λ f. omega (arith, leb-true 1 k f, leb-true k 1 (sym (rw f) ∙ e))) (λ f. absurd (let z : _≡_ {A = ℕ} 0 1 = cc in omega arith))
-
   after-first : (a : Answer) → Holds (afterFirst (heardRead 1 a)) (more talk (Read 1) (heardRead 1 a))
-  unfolding afterFirst heardRead
-  after-first (Number n) = open-failed
-  after-first (Bytes l) = by-bool (leb 1 (length l) && leb (length l) 1) (λ e. rw e (open-begun l (and-one (length l) e))) (λ e. rw e open-failed)
-  after-first End = open-ended
-  after-first Done = open-failed
-  after-first Failed = open-failed
+  unfolding afterFirst
+  after-first a =
+      by-read (λ (x : Answer). Holds (afterFirst x) (more talk (Read 1) x)) open-failed 1 (λ l some few. open-begun l (omega (arith, some, few))) open-ended a
 
 -- Bytes of a call.
 module _ (b : Between) (talk : List Exchange) (most : ℕ) (fits : most ≡ 8 - length (b .buffered)) (h : InReading b talk) where
@@ -225,20 +140,12 @@ module _ (b : Between) (talk : List Exchange) (most : ℕ) (fits : most ≡ 8 - 
   unfolding written
   printed-same a = writes talk (Read most) a ∙ append-nil (printedIn talk)
 
-  failed-read : InFailing inputName (more talk (Read most) Failed)
-  unfolding errorText failure readBy brought isEnd
-  failed-read = record {
-    why = failures-next talk (Read most) Failed ∙ ap (λ (x : List ℕ). x ++ inputName) (h .quiet .fine);
-    mute = tells talk (Read most) Failed ∙ append-nil (errorTextOf (requestsOf talk)) ∙ h .quiet .mute;
-    right = printed-same Failed ∙ h .right ∙ sym (same-facts talk (Read most) Failed refl refl ∙ so-far talk b (h .reads) (h .quiet .unended));
-  }
-
   end-reads : Reads (more talk (Read most) End) b
   unfolding readBy brought
   end-reads = let r = h .reads in record {
     n = r .n;
     front = r .front;
-    read = reads-next talk (Read most) End ∙ append-nil (readOf talk) ∙ r .read;
+    read = reads talk (Read most) End ∙ append-nil (readOf talk) ∙ r .read;
     whole = r .whole;
     short = r .short;
     starts = r .starts;
@@ -247,28 +154,27 @@ module _ (b : Between) (talk : List Exchange) (most : ℕ) (fits : most ≡ 8 - 
 
   ended : endMet (more talk (Read most) End) ≡ true
   unfolding isEnd
-  ended = end-next talk (Read most) End ∙ rw (h .quiet .unended)
+  ended = ends talk (Read most) End ∙ rw (h .quiet .unended)
 
   facts-end : factsSoFar (more talk (Read most) End) ≡ printedIn talk ++ leftOver (b .done) (length (b .buffered))
   unfolding end-reads
   facts-end = at-end (more talk (Read most) End) b end-reads ended ∙ ap (λ (x : List ℕ). x ++ leftOver (b .done) (length (b .buffered))) (sym (h .right))
 
-  still-end : (errorTextOf (requestsOf (more talk (Read most) End)) ≡ []) × (failures (more talk (Read most) End) ≡ [])
-  unfolding failure errorText
-  still-end = still talk (Read most) End (h .quiet) refl refl
+  still-fine : Fine account (more talk (Read most) End)
+  unfolding failure failed errorText
+  still-fine = fine-on account talk (Read most) End (h .quiet .fine) refl refl
 
   ended-read : Holds (atEnd b) (more talk (Read most) End)
   unfolding atEnd leftOver
   ended-read =
       by-bool (eqb (length (b .buffered)) 0)
       (λ e. rw e (record {
-        why = still-end .0 ∙ sym (still-end .1);
+        why = still-fine .mute ∙ sym (still-fine .fine);
         right = printed-same End ∙ sym (append-nil (printedIn talk)) ∙ sym (facts-end ∙ rw e);
       }))
       (λ e. rw e (record {
         right = ap (λ (x : List ℕ). x ++ refusedText (b .done + 1) LeftOverBytes) (printed-same End) ∙ sym (facts-end ∙ rw e);
-        mute = still-end .0;
-        fine = still-end .1;
+        quiet = still-fine;
       }))
 
   module _ (l : List ℕ) (few : length l ≤ most) where
@@ -278,13 +184,13 @@ module _ (b : Between) (talk : List Exchange) (most : ℕ) (fits : most ≡ 8 - 
     now-read : readOf (more talk (Read most) (Bytes l)) ≡ h .reads .n ∷ (h .reads .front ++ (b .buffered ++ l))
     unfolding readBy brought
     now-read =
-        reads-next talk (Read most) (Bytes l)
+        reads talk (Read most) (Bytes l)
         ∙ ap (λ (x : List ℕ). x ++ l) (h .reads .read)
         ∙ ap (λ (x : List ℕ). h .reads .n ∷ x) (append-assoc (h .reads .front) (b .buffered) l)
 
-    read-quiet : Fine (more talk (Read most) (Bytes l))
-    unfolding failure errorText isEnd
-    read-quiet = fine-on talk (Read most) (Bytes l) (h .quiet) refl refl refl
+    read-quiet : Quiet (more talk (Read most) (Bytes l))
+    unfolding failure failed errorText isEnd
+    read-quiet = quiet-on talk (Read most) (Bytes l) (h .quiet) refl refl refl
 
     going : length (b .buffered ++ l) < 8 → InReading after (more talk (Read most) (Bytes l))
     going few = let r = h .reads in record {
@@ -328,61 +234,30 @@ module _ (b : Between) (talk : List Exchange) (most : ℕ) (fits : most ≡ 8 - 
         (λ e. rw e (going (ltb-true (length (b .buffered ++ l)) 8 e)))
         (λ e. rw e (call-made (ltb-false (length (b .buffered ++ l)) 8 e)))
 
-  and-few : (k : ℕ) → leb 1 k && leb k most ≡ true → k ≤ most
-  and-few k e = by-bool (leb 1 k) (λ f. leb-true k most (sym (rw f) ∙ e)) (λ f. absurd (let z : _≡_ {A = ℕ} 0 1 = cc in omega arith))
-
   after-read : (a : Answer) → Holds (afterRead b (heardRead most a)) (more talk (Read most) (heardRead most a))
-  unfolding afterRead heardRead
-  after-read (Number n) = failed-read
-  after-read (Bytes l) = by-bool (leb 1 (length l) && leb (length l) most) (λ e. rw e (onward-holds l (and-few (length l) e))) (λ e. rw e failed-read)
-  after-read End = ended-read
-  after-read Done = failed-read
-  after-read Failed = failed-read
+  unfolding afterRead
+  after-read a =
+      by-read (λ (x : Answer). Holds (afterRead b x) (more talk (Read most) x))
+      (failed-read account talk most (h .quiet .fine) (h .right ∙ sym (so-far talk b (h .reads) (h .quiet .unended))))
+      most (λ l some few. onward-holds l few) ended-read a
 
 -- A line is written.
-module _ (line : List ℕ) (talk : List Exchange) (right : printedIn talk ++ line ≡ factsSoFar talk) (mute : errorTextOf (requestsOf talk) ≡ []) (fine : failures talk ≡ []) where
-  line-right : (a : Answer) → isEnd a ≡ false → printedIn (more talk (Write line) a) ≡ factsSoFar (more talk (Write line) a)
-  unfolding written readBy
-  line-right a on = writes talk (Write line) a ∙ right ∙ sym (same-facts talk (Write line) a refl on)
-
-  line-mute : (a : Answer) → errorTextOf (requestsOf (more talk (Write line) a)) ≡ []
-  unfolding errorText
-  line-mute a = tells talk (Write line) a ∙ append-nil (errorTextOf (requestsOf talk)) ∙ mute
-
-  failed-write : InFailing outputName (more talk (Write line) Failed)
-  unfolding failure isEnd
-  failed-write = record {
-    why = failures-next talk (Write line) Failed ∙ ap (λ (x : List ℕ). x ++ outputName) fine;
-    mute = line-mute Failed;
-    right = line-right Failed refl;
-  }
-
-  done-write : InStopped (more talk (Write line) Done)
-  unfolding failure isEnd
-  done-write = record {
-    why = line-mute Done ∙ sym (failures-next talk (Write line) Done ∙ append-nil (failures talk) ∙ fine);
-    right = line-right Done refl;
-  }
-
-  after-write : (then : State) → Holds then (more talk (Write line) Done) → (a : Answer) → Holds (afterWrite then (heardDone a)) (more talk (Write line) (heardDone a))
-  unfolding afterWrite heardDone
-  after-write then h (Number n) = failed-write
-  after-write then h (Bytes l) = failed-write
-  after-write then h End = failed-write
-  after-write then h Done = h
-  after-write then h Failed = failed-write
+after-write : (line : List ℕ) (talk : List Exchange) → InWriting account line talk → (then : State) → Holds then (more talk (Write line) Done)
+    → (a : Answer) → Holds (afterWrite then (heardDone a)) (more talk (Write line) (heardDone a))
+unfolding afterWrite
+after-write line talk h then k a = by-done (λ (x : Answer). Holds (afterWrite then x) (more talk (Write line) x)) (failed-write account line talk h) k a
 
 -- After the line of a call there may be more.
 module _ (line : List ℕ) (b : Between) (talk : List Exchange) (h : InPrinting line b talk) where
-  facts-printed : printedIn talk ++ line ≡ factsSoFar talk
-  facts-printed = h .right ∙ sym (so-far talk b (h .reads) (h .quiet .unended))
+  facts-printed : InWriting account line talk
+  facts-printed = record { right = h .right ∙ sym (so-far talk b (h .reads) (h .quiet .unended)); quiet = h .quiet .fine }
 
   on-reads : Reads (more talk (Write line) Done) b
-  unfolding readBy isEnd
+  unfolding readBy
   on-reads = let r = h .reads in record {
     n = r .n;
     front = r .front;
-    read = same-read talk (Write line) Done refl refl ∙ r .read;
+    read = same-read talk (Write line) Done refl ∙ r .read;
     whole = r .whole;
     short = r .short;
     starts = r .starts;
@@ -390,70 +265,52 @@ module _ (line : List ℕ) (b : Between) (talk : List Exchange) (h : InPrinting 
   }
 
   further : Holds (furtherOn b) (more talk (Write line) Done)
-  unfolding furtherOn written failure errorText isEnd on-reads
+  unfolding furtherOn written failure failed errorText isEnd on-reads
   further =
       by-bool (ltb (b .done) mostCalls)
       (λ e. rw e (record {
         reads = on-reads;
         more = ltb-true (b .done) mostCalls e;
         right = writes talk (Write line) Done ∙ h .right;
-        quiet = fine-on talk (Write line) Done (h .quiet) refl refl refl;
+        quiet = quiet-on talk (Write line) Done (h .quiet) refl refl refl;
       }))
-      (λ e. rw e (done-write line talk facts-printed (h .quiet .mute) (h .quiet .fine)))
-
--- What failed is reported; then nothing more.
-after-fail : (name : List ℕ) (talk : List Exchange) → InFailing name talk → InStopped (more talk (Fail name) Done)
-unfolding written errorText failure readBy isEnd
-after-fail name talk h = record {
-  why =
-      tells talk (Fail name) Done
-      ∙ ap (λ (x : List ℕ). x ++ name) (h .mute)
-      ∙ sym (failures-next talk (Fail name) Done ∙ append-nil (failures talk) ∙ h .why);
-  right = writes talk (Fail name) Done ∙ append-nil (printedIn talk) ∙ h .right ∙ sym (same-facts talk (Fail name) Done refl refl);
-}
-
-after-stop : (talk : List Exchange) → InStopped talk → InStopped (more talk Stop Failed)
-unfolding written errorText failure readBy isEnd
-after-stop talk h = record {
-  why = tells talk Stop Failed ∙ append-nil (errorTextOf (requestsOf talk)) ∙ h .why ∙ sym (failures-next talk Stop Failed ∙ append-nil (failures talk));
-  right = writes talk Stop Failed ∙ append-nil (printedIn talk) ∙ h .right ∙ sym (same-facts talk Stop Failed refl refl);
-}
+      (λ e. rw e (done-write account line talk facts-printed))
 
 -- So every answer keeps what holds,
 holds-on : (s : State) (talk : List Exchange) (a : Answer) → Holds s talk → Holds (stepped consoling s a) (talk ++ (exchanged consoling s a ∷ []))
 unfolding stepped ask next heard
 holds-on Opening talk a h = after-first talk h a
 holds-on (Reading b) talk a h = after-read b talk (8 - length (b .buffered)) refl h a
-holds-on (Printing line b) talk a h = after-write line talk (facts-printed line b talk h) (h .quiet .mute) (h .quiet .fine) (furtherOn b) (further line b talk h) a
-holds-on (Ending line) talk a h = after-write line talk (h .right) (h .mute) (h .fine) Stopped (done-write line talk (h .right) (h .mute) (h .fine)) a
-holds-on (Failing name) talk a h = after-fail name talk h
-holds-on Stopped talk a h = after-stop talk h
+holds-on (Printing line b) talk a h = after-write line talk (facts-printed line b talk h) (furtherOn b) (further line b talk h) a
+holds-on (Ending line) talk a h = after-write line talk h Stopped (done-write account line talk h) a
+holds-on (Failing name) talk a h = after-fail account name talk h
+holds-on Stopped talk a h = after-stop account talk h
 
 -- and it holds before the first.
 at-first : Holds Opening []
-unfolding endMet failures readOf requestsOf writtenOf errorTextOf
-at-first = record { none = refl; silent = refl; quiet = record { mute = refl; fine = refl; unended = refl } }
+unfolding endMet some-of gathered readOf requestsOf writtenOf errorTextOf
+at-first = record { none = refl; silent = refl; quiet = record { fine = record { mute = refl; fine = refl }; unended = refl } }
 
 always : (answers : List Answer) → Holds (stateAfter consoling answers) (exchanges consoling answers)
 always answers = throughout consoling Holds holds-on at-first answers
 
 -- What follows in each state.
 tells-in : (s : State) (talk : List Exchange) → Holds s talk → printedIn talk ++ written (ask s) ≡ factsSoFar talk
-unfolding written ask factsSoFar linesOf
+unfolding written ask linesOf
 tells-in Opening talk h = append-nil (printedIn talk) ∙ h .silent ∙ sym (rw (h .quiet .unended, h .none))
 tells-in (Reading b) talk h = append-nil (printedIn talk) ∙ h .right ∙ sym (so-far talk b (h .reads) (h .quiet .unended))
-tells-in (Printing line b) talk h = facts-printed line b talk h
+tells-in (Printing line b) talk h = facts-printed line b talk h .right
 tells-in (Ending line) talk h = h .right
 tells-in (Failing name) talk h = append-nil (printedIn talk) ∙ h .right
 tells-in Stopped talk h = append-nil (printedIn talk) ∙ h .right
 
 says-in : (s : State) (talk : List Exchange) → Holds s talk → errorTextOf (requestsOf talk) ++ errorText (ask s) ≡ failures talk
 unfolding errorText ask
-says-in Opening talk h = append-nil (errorTextOf (requestsOf talk)) ∙ h .quiet .mute ∙ sym (h .quiet .fine)
-says-in (Reading b) talk h = append-nil (errorTextOf (requestsOf talk)) ∙ h .quiet .mute ∙ sym (h .quiet .fine)
-says-in (Printing line b) talk h = append-nil (errorTextOf (requestsOf talk)) ∙ h .quiet .mute ∙ sym (h .quiet .fine)
-says-in (Ending line) talk h = append-nil (errorTextOf (requestsOf talk)) ∙ h .mute ∙ sym (h .fine)
-says-in (Failing name) talk h = ap (λ (x : List ℕ). x ++ name) (h .mute) ∙ sym (h .why)
+says-in Opening talk h = fine-says account talk (h .quiet .fine)
+says-in (Reading b) talk h = fine-says account talk (h .quiet .fine)
+says-in (Printing line b) talk h = fine-says account talk (h .quiet .fine)
+says-in (Ending line) talk h = fine-says account talk (h .quiet)
+says-in (Failing name) talk h = failing-says account name talk h
 says-in Stopped talk h = append-nil (errorTextOf (requestsOf talk)) ∙ h .why
 
 same-most : (n most : ℕ) → Read n ≡ Read most → n ≡ most
@@ -467,11 +324,11 @@ within front buffered done most all a b c d e = omega arith
 
 reads-in : (s : State) (talk : List Exchange) (most : ℕ) → Holds s talk → ask s ≡ Read most → ReadsRight talk most
 unfolding ask isOpen
-reads-in Opening talk most h e = (h .quiet .unended, rw (h .none), h .quiet .fine, rw (h .none) (omega (arith, same-most _ _ e)))
+reads-in Opening talk most h e = (h .quiet .unended, rw (h .none), h .quiet .fine .fine, rw (h .none) (omega (arith, same-most _ _ e)))
 reads-in (Reading b) talk most h e =
     let r = h .reads in
     let all : length (readOf talk) ≡ 1 + (length (r .front) + length (b .buffered)) = ap length (r .read) ∙ omega (arith, length-append (r .front) (b .buffered)) in
-    (h .quiet .unended, rw (r .read) (r .starts), h .quiet .fine, within (length (r .front)) (length (b .buffered)) (b .done) most (length (readOf talk)) (r .whole) (r .short) (same-most _ _ e) (h .more) all)
+    (h .quiet .unended, rw (r .read) (r .starts), h .quiet .fine .fine, within (length (r .front)) (length (b .buffered)) (b .done) most (length (readOf talk)) (r .whole) (r .short) (same-most _ _ e) (h .more) all)
 reads-in (Printing line b) talk most h e = absurd (let z : _≡_ {A = ℕ} 0 1 = cc in omega arith)
 reads-in (Ending line) talk most h e = absurd (let z : _≡_ {A = ℕ} 0 1 = cc in omega arith)
 reads-in (Failing name) talk most h e = absurd (let z : _≡_ {A = ℕ} 0 1 = cc in omega arith)

@@ -1,8 +1,8 @@
 -- The program `console` as a machine: it reads a script, makes its calls, eight bytes each, writes the line of each before it reads on, and stops.
 -- Assumes nothing.
-use Rattle.laws.specs.Basics.{_≡_, Bool, true, false, _||_, List, [], _∷_, _++_, ℕ, _+_, _-_, _*_, _≤_, _<_, eqb, ltb, length, getD, pick}
+use Rattle.laws.specs.Basics.{_≡_, Bool, true, false, List, [], _∷_, _++_, ℕ, _+_, _-_, _*_, _≤_, _<_, eqb, ltb, length, getD, pick}
 use Rattle.model.specs.declared.{Run.Run, Refusal.the-variants.NoFirstByte, Refusal.the-variants.LeftOverBytes}
-use Rattle.machines.specs.Machines.{Request, Count, Argument, Open, Read, Write, Say, Fail, Stop, Answer, Number, Bytes, End, Done, Failed, Machine, Exchange, asked, exchanges, stateAfter, writtenOf, errorTextOf, readOf}
+use Rattle.machines.specs.Machines.{Request, Read, Write, Fail, Stop, Answer, Number, Bytes, End, Done, Failed, Machine, Exchange, asked, exchanges, stateAfter, writtenOf, errorTextOf, readOf, gathered, endMet, failure}
 use Rattle.machine_console.specs.Made.{madeOn, opened}
 use Rattle.machine_console.specs.Text.{callSize, firstCall, callText, lineText, refusedText, refusedAt, linesOf, factsOf}
 
@@ -94,43 +94,12 @@ next Stopped a = Stopped
 abbrev pub consoling : Machine State
 consoling = record { first = Opening; ask = ask; next = next }
 
--- The input has ended.
-unfoldable pub isEnd : Answer → Bool
-isEnd (Number n) = false
-isEnd (Bytes l) = false
-isEnd End = true
-isEnd Done = false
-isEnd Failed = false
-
-unfoldable pub endMet : List Exchange → Bool
-endMet [] = false
-endMet (e ∷ talk) = isEnd (e .answer) || endMet talk
-
--- What failed, of each exchange: a read or a write.
-unfoldable pub failure : Request → Answer → List ℕ
-failure (Read most) Failed = inputName
-failure (Read most) (Number n) = []
-failure (Read most) (Bytes l) = []
-failure (Read most) End = []
-failure (Read most) Done = []
-failure (Write text) Failed = outputName
-failure (Write text) (Number n) = []
-failure (Write text) (Bytes l) = []
-failure (Write text) End = []
-failure (Write text) Done = []
-failure Count a = []
-failure (Argument i most) a = []
-failure (Open path) a = []
-failure (Say text) a = []
-failure (Fail text) a = []
-failure Stop a = []
-
-unfoldable pub failures : List Exchange → List ℕ
-failures [] = []
-failures (e ∷ talk) = failure (e .request) (e .answer) ++ failures talk
+-- What failed: a read or a write.
+abbrev pub failures : List Exchange → List ℕ
+failures talk = gathered (failure inputName outputName) talk
 
 -- The facts of what was read: of a whole script once the input has ended, of its whole calls before.
-unfoldable pub factsSoFar : List Exchange → List ℕ
+abbrev pub factsSoFar : List Exchange → List ℕ
 factsSoFar talk = pick (endMet talk) (factsOf (readOf talk)) (linesOf (readOf talk))
 
 -- No first byte that is refused was read.
