@@ -1,7 +1,7 @@
 -- Texts in a buffer: a word byte by byte, a text at the front; and how long the line of a refusal can be.
 -- Assumes nothing.
 use Rattle.laws.specs.Basics.{_≡_, sym, _∙_, ap, List, [], _∷_, _++_, ℕ, _+_, _≤_, _<_, arith, length, getD, take, drop, set, length-append, sets, length-take-le}
-use lib.Seq.{take-at, take-length}
+use lib.Seq.{take-at, take-length, length-sets}
 use Rattle.laws.specs.{Front.written-front, Prefixes.take-more, Written.sets-after}
 use Rattle.model.specs.declared.Refusal.{Refusal}
 use Rattle.model.specs.Refusals.{number}
@@ -27,6 +27,14 @@ pub front-text : (out text after : List ℕ) (written : ℕ) → Printed out 0 t
 front-text out text after written printed fits =
     ap (take written) (printed .holds ∙ written-front out text (omega (arith, printed .next-place)))
     ∙ take-at text (drop (length text) out) written (omega (arith, printed .next-place))
+
+-- The same of a text that fits.
+module _ (out text after : List ℕ) (size : ℕ) (fits : length text ≤ length out) (p : Printed out 0 text after size) where
+  pub printed-inside : size ≤ length after
+  printed-inside = omega (arith, p .next-place, ap length (p .holds), length-sets out 0 text, fits)
+
+  pub printed-front : take size after ≡ text
+  printed-front = front-text out text after size p (omega (arith, p .next-place, fits))
 
 -- Room for any refusal.
 pub refused-length : (why : Refusal) → length (refusedText why) ≤ longestRefusal
