@@ -1,7 +1,8 @@
 -- The machine ends: a number falls with each answer.
 -- Assumes nothing.
 use Rattle.laws.specs.Basics.{_≡_, refl, ap, Bool, true, false, List, ℕ, _+_, _-_, _≤_, _<_, arith, ltb, ltb-true, ltb-false, pick, by-bool}
-use Rattle.machines.specs.Machines.{Stop, Answer, Number, Bytes, End, Done, Failed, heard, heardCount, heardDone, isNumber, stepped, Ends}
+use Rattle.machines.specs.Machines.{Stop, Answer, heard, heardCount, heardDone, isNumber, stepped, Ends}
+use Rattle.machines.proofs.Answers.{by-done}
 use Rattle.machine_simulate.specs.declared.words.Numbers.{Numbers}
 use Rattle.machine_simulate.specs.{Arguments.isWrong, Arguments.isRefused, Arguments.withWord, Text.resultText, Text.trialOf}
 use Rattle.machine_simulate.specs.Simulating.{State, Counting, Asking, Printing, Tabling, Reporting, Failing, Stopped, ask, next, tabled, answered, decided, afterCount, afterWord, nextRow, withoutFirst, afterWrite, simulating}
@@ -58,12 +59,8 @@ row-falls k =
     (λ e. rw e (let some = ltb-false (k .spacings .to) (k .spacings .from) e in omega (arith, some)))
 
 write-falls : (s : State) (most : ℕ) → left s < most → 1 < most → (a : Answer) → left (afterWrite s (heardDone a)) < most
-unfolding heardDone afterWrite
-write-falls s most h one (Number n) = one
-write-falls s most h one (Bytes l) = one
-write-falls s most h one End = one
-write-falls s most h one Done = h
-write-falls s most h one Failed = one
+unfolding afterWrite
+write-falls s most h one a = by-done (λ (x : Answer). left (afterWrite s x) < most) one h a
 
 pub falls : (s : State) (a : Answer) → (ask s ≡ Stop → ⊥) → left (stepped simulating s a) < left s
 unfolding stepped ask next heard

@@ -1,16 +1,16 @@
 -- Which state an answer leads to, by its form.
 -- Assumes nothing.
-use Rattle.laws.specs.Basics.{_≡_, refl, sym, _∙_, ap, subst, Bool, true, false, List, ℕ, _+_, _≤_, _<_, arith, eqb, ltb, length, getD, take, ne-eqb, lt-ltb, le-ltb, le-leb, lt-leb, pick, by-bool}
+use Rattle.laws.specs.Basics.{_≡_, refl, sym, _∙_, ap, Bool, true, false, List, ℕ, _+_, _≤_, _<_, arith, eqb, ltb, length, getD, take, ne-eqb, lt-ltb, le-ltb, le-leb, lt-leb, pick, by-bool}
 use Rattle.model.specs.declared.Refusal.the-variants.{TrialOutsideRange}
-use Rattle.machines.specs.{programs.Texts.refusedText, Forms.answerOf, Forms.takenOf, Forms.Between, Forms.requestOf, Forms.Placed, Forms.GoesTo}
+use Rattle.machines.specs.{programs.Texts.refusedText, Forms.answerOf, Forms.takenOf, Forms.Between}
 use Rattle.machines.specs.Machines.{Answer, Done, Failed, heard, heardCount, heardWord, heardDone, isNumber, brought, stepped}
+use Rattle.machines.proofs.Driving.{still-stands}
 use Rattle.machine_simulate.specs.declared.words.Numbers.{Numbers}
 use Rattle.machine_simulate.specs.Arguments.{isWrong, isRefused, noNumbers, withWord}
 use Rattle.machine_simulate.specs.Text.{headLine, rowText, trialOf}
 use Rattle.machine_simulate.specs.Simulating.{longestWord, usage, outputName, State, Counting, Asking, Printing, Tabling, Reporting, Failing, Stopped, ask, next, tabled, answered, decided, withoutFirst, nextRow, afterCount, afterWord, afterWrite, simulating}
 use Rattle.machine_simulate.specs.Words.{EnoughRoom, lacksRoom, keptIn, inPhase, stateOf, StandsFor}
-use Rattle.machine_simulate.proofs.Standing.{state-in, stands-as, phase-tabling, phase-far}
-use Rattle.machines.specs.declared.Request as requests
+use Rattle.machine_simulate.proofs.Standing.{state-in, phase-tabling, phase-far}
 use Rattle.machines.specs.declared.Request.the-variants as request
 use Rattle.machines.specs.declared.Answer as answers
 use Rattle.machines.specs.declared.heard.Taken as takens
@@ -61,23 +61,14 @@ module _ (input : List ℕ) (long : longestWord ≤ length input) (a : answers.A
   led-decided all = led ∙ rw (le-ltb i 4 all)
 
 -- What an answer to a write comes to.
-module _ (text : List ℕ) (a : Answer) (b : Bool) (h : heardDone a ≡ pick b Done Failed) where
-  pub printed-done : b ≡ true → stepped simulating (Printing text) a ≡ Stopped
-  unfolding stepped ask next heard afterWrite
-  printed-done e = ap (afterWrite Stopped) (h ∙ ap (λ (x : Bool). pick x Done Failed) e)
+module _ (a : Answer) (b : Bool) (h : heardDone a ≡ pick b Done Failed) (s : State) where
+  pub write-done : b ≡ true → afterWrite s (heardDone a) ≡ s
+  unfolding afterWrite
+  write-done e = ap (afterWrite s) (h ∙ ap (λ (x : Bool). pick x Done Failed) e)
 
-  pub printed-failed : b ≡ false → stepped simulating (Printing text) a ≡ Failing outputName
-  unfolding stepped ask next heard afterWrite
-  printed-failed e = ap (afterWrite Stopped) (h ∙ ap (λ (x : Bool). pick x Done Failed) e)
-
-  module _ (k : Numbers) where
-    pub row-done : b ≡ true → stepped simulating (Tabling text k) a ≡ nextRow k
-    unfolding stepped ask next heard afterWrite
-    row-done e = ap (afterWrite (nextRow k)) (h ∙ ap (λ (x : Bool). pick x Done Failed) e)
-
-    pub row-failed : b ≡ false → stepped simulating (Tabling text k) a ≡ Failing outputName
-    unfolding stepped ask next heard afterWrite
-    row-failed e = ap (afterWrite (nextRow k)) (h ∙ ap (λ (x : Bool). pick x Done Failed) e)
+  pub write-failed : b ≡ false → afterWrite s (heardDone a) ≡ Failing outputName
+  unfolding afterWrite
+  write-failed e = ap (afterWrite s) (h ∙ ap (λ (x : Bool). pick x Done Failed) e)
 
 -- What four numbers ask for, by the tests.
 module _ (k : Numbers) where
@@ -108,9 +99,6 @@ module _ (k : Numbers) where
 pub one-most : (x : ℕ) → (x ≡ 0 → ⊥) → 1 ≤ x
 one-most x h = omega (arith, h)
 
-pub steps-as : (memory input out : List ℕ) (r : requests.Request) (a : Answer) (s t : State) → t ≡ s → StandsFor memory input out r (stepped simulating s a) → StandsFor memory input out r (stepped simulating t a)
-steps-as memory input out r a s t e h = subst (λ (x : State). StandsFor memory input out r (stepped simulating x a)) (sym e) h
-
 stays : (s : State) (a : Answer) → s ≡ Stopped → stepped simulating s a ≡ Stopped
 unfolding stepped next
 stays s a e = ap (λ (x : State). stepped simulating x a) e
@@ -124,13 +112,8 @@ module _ (memory input out : List ℕ) where
   count = getD memory 1 0
 
   pub no-room : (a : Answer) → lacksRoom (length memory) (length input) (length out) ≡ true → StandsFor memory input out request.Stop (stepped simulating (stateOf memory input out) a)
-  unfolding requestOf Placed GoesTo ask stateOf
-  no-room a e =
-      let none : stateOf memory input out ≡ Stopped = rw e in
-      stands-as memory input out request.Stop Stopped (stepped simulating (stateOf memory input out) a) (stays (stateOf memory input out) a none) (record {
-        state = none;
-        asks = record { stands = refl; inside = tt; there = tt };
-      })
+  unfolding stepped next ask stateOf
+  no-room a e = still-stands simulating (stateOf memory input out) Stopped 0 input out a (rw e) refl refl
 
   module _ (room : EnoughRoom (length memory) (length input) (length out)) where
     pub is-counting : phase ≡ 0 → stateOf memory input out ≡ Counting

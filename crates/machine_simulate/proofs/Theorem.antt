@@ -1,11 +1,12 @@
 -- What the machine does with every list of answers.
 -- Assumes nothing.
 use Rattle.laws.specs.Basics.{_≡_, refl, sym, _∙_, ap, subst, Bool, true, false, _||_, List, [], _∷_, _++_, append-nil, append-assoc, ℕ, suc, _+_, _-_, _≤_, _<_, arith, eqb, ltb, eq-eqb, ne-eqb, ltb-true, ltb-false, pick, by-bool, by-eq}
-use Rattle.laws.specs.Rows.{or-false}
+use Rattle.laws.specs.{Rows.or-false, Tests.some-of}
 use Rattle.model.specs.declared.Refusal.the-variants.{TrialOutsideRange}
 use Rattle.machines.specs.{programs.Numbers.numberIn, programs.Texts.refusedText}
-use Rattle.machines.specs.Machines.{Request, Count, Argument, Write, Say, Fail, Stop, Answer, Number, Bytes, End, Done, Failed, Exchange, heard, heardCount, heardWord, heardDone, isNumber, brought, stepped, exchanged, stateAfter, exchanges, written, errorText, writtenOf, errorTextOf, requestsOf}
-use Rattle.machines.proofs.Runs.{throughout, written-next, error-text-next, written-is, error-text-is, stops}
+use Rattle.machines.specs.Machines.{Request, Count, Argument, Write, Say, Fail, Stop, Answer, Number, Bytes, End, Done, Failed, Exchange, heard, heardCount, heardWord, heardDone, isNumber, brought, stepped, exchanged, stateAfter, exchanges, written, errorText, writtenOf, errorTextOf, gathered, failed, requestsOf}
+use Rattle.machines.proofs.{Runs.throughout, Runs.gathered-next, Runs.some-next, Runs.written-is, Runs.error-text-is, Runs.stops, Answers.by-done}
+use Rattle.machines.proofs.Reporting.{printedIn, reportedIn, more, writes, reports}
 use Rattle.machine_simulate.specs.declared.words.Numbers.{Numbers}
 use Rattle.machine_simulate.specs.Arguments.{spacingsIn, isWrong, isRefused, noNumbers, withWord, numbersIn}
 use Rattle.machine_simulate.specs.Text.{headLine, resultText, rowText, trialOf, rowsText, rowsOf, tableText, rightText, textOf}
@@ -16,16 +17,13 @@ use Rattle.machine_simulate.proofs.Ending.{simulating-ends, answered-ta
 abbrev due : List Exchange → List ℕ
 due talk = wrongWords (lastAsked talk) (numbersOf talk) ++ failures talk
 
-abbrev printedIn : List Exchange → List ℕ
-printedIn talk = writtenOf (requestsOf talk)
-
 abbrev Front : List Exchange → Type 0
 Front talk = (rest : List ℕ) × (printedIn talk ++ rest ≡ textOf (numbersOf talk))
 
 -- Nothing is written or reported so far, and nothing failed.
 record Quiet (talk : List Exchange) : Type 0 where
   silent : printedIn talk ≡ []
-  mute : errorTextOf (requestsOf talk) ≡ []
+  mute : reportedIn talk ≡ []
   fine : failures talk ≡ []
 
 record InCounting (talk : List Exchange) : Type 0 where
@@ -46,17 +44,17 @@ record InAsking (i : ℕ) (k : Numbers) (talk : List Exchange) : Type 0 where
 -- A text is written next, and then the rest.
 record InPrinting (rest text : List ℕ) (talk : List Exchange) : Type 0 where
   right : printedIn talk ++ (text ++ rest) ≡ textOf (numbersOf talk)
-  mute : errorTextOf (requestsOf talk) ≡ []
+  mute : reportedIn talk ≡ []
   clean : due talk ≡ []
 
 record InLast (text : List ℕ) (talk : List Exchange) : Type 0 where
   why : due talk ≡ text
-  mute : errorTextOf (requestsOf talk) ≡ []
+  mute : reportedIn talk ≡ []
   front : Front talk
   whole : failures talk ≡ [] → printedIn talk ≡ textOf (numbersOf talk)
 
 record InStopped (talk : List Exchange) : Type 0 where
-  why : errorTextOf (requestsOf talk) ≡ due talk
+  why : reportedIn talk ≡ due talk
   front : Front talk
   whole : failures talk ≡ [] → printedIn talk ≡ textOf (numbersOf talk)
 
@@ -69,82 +67,49 @@ Holds (Reporting text) talk = InLast text talk
 Holds (Failing name) talk = InLast name talk
 Holds Stopped talk = InStopped talk
 
--- One exchange more.
-or-assoc : (a b c : Bool) → a || (b || c) ≡ (a || b) || c
-or-assoc true b c = refl
-or-assoc false b c = refl
-
-word-then : (i : ℕ) (l m : List Exchange) → wordOf i (l ++ m) ≡ wordOf i l ++ wordOf i m
-unfolding wordOf
-word-then i [] m = refl
-word-then i (e ∷ l) m =
-    ap (λ (x : List ℕ). wordBy i (e .request) (e .answer) ++ x) (word-then i l m) ∙ sym (append-assoc (wordBy i (e .request) (e .answer)) (wordOf i l) (wordOf i m))
-
-last-then : (l m : List Exchange) → lastAsked (l ++ m) ≡ lastAsked l || lastAsked m
-unfolding lastAsked
-last-then [] m = refl
-last-then (e ∷ l) m = ap (λ (b : Bool). isLast (e .request) || b) (last-then l m) ∙ or-assoc (isLast (e .request)) (lastAsked l) (lastAsked m)
-
-failures-then : (l m : List Exchange) → failures (l ++ m) ≡ failures l ++ failures m
-unfolding failures
-failures-then [] m = refl
-failures-then (e ∷ l) m =
-    ap (λ (x : List ℕ). failure (e .request) (e .answer) ++ x) (failures-then l m) ∙ sym (append-assoc (failure (e .request) (e .answer)) (failures l) (failures m))
-
 not-empty : (l : List ℕ) (x : ℕ) (m : List ℕ) → l ++ (x ∷ m) ≡ [] → ⊥
 not-empty [] x m e = let z : _≡_ {A = ℕ} 0 1 = cc in omega arith
 not-empty (y ∷ l) x m e = let z : _≡_ {A = ℕ} 0 1 = cc in omega arith
 
+-- One exchange more.
 module _ (talk : List Exchange) (r : Request) (a : Answer) where
-  abbrev more : List Exchange
-  more = talk ++ (record { request = r; answer = a } ∷ [])
+  word-next : (i : ℕ) → wordOf i (more talk r a) ≡ wordOf i talk ++ wordBy i r a
+  word-next i = gathered-next talk (record { request = r; answer = a }) (wordBy i)
 
-  word-next : (i : ℕ) → wordOf i more ≡ wordOf i talk ++ wordBy i r a
-  unfolding wordOf
-  word-next i = word-then i talk (record { request = r; answer = a } ∷ []) ∙ ap (λ (x : List ℕ). wordOf i talk ++ x) (append-nil (wordBy i r a))
+  last-next : lastAsked (more talk r a) ≡ lastAsked talk || isLast r
+  last-next = some-next talk (record { request = r; answer = a }) (λ (e : Exchange). isLast (e .request))
 
-  last-next : lastAsked more ≡ lastAsked talk || isLast r
-  unfolding lastAsked
-  last-next = last-then talk (record { request = r; answer = a } ∷ []) ∙ ap (λ (b : Bool). lastAsked talk || b) (or-false (isLast r))
-
-  failures-next : failures more ≡ failures talk ++ failure r a
-  unfolding failures
-  failures-next = failures-then talk (record { request = r; answer = a } ∷ []) ∙ ap (λ (x : List ℕ). failures talk ++ x) (append-nil (failure r a))
-
-  writes : printedIn more ≡ printedIn talk ++ written r
-  writes = written-next talk (record { request = r; answer = a })
-
-  tells : errorTextOf (requestsOf more) ≡ errorTextOf (requestsOf talk) ++ errorText r
-  tells = error-text-next talk (record { request = r; answer = a })
+  failures-next : failures (more talk r a) ≡ failures talk ++ failure r a
+  failures-next = gathered-next talk (record { request = r; answer = a }) failure
 
   -- An exchange that writes, says and fails nothing.
-  still : Quiet talk → written r ≡ [] → errorText r ≡ [] → failure r a ≡ [] → Quiet more
+  still : Quiet talk → written r ≡ [] → errorText r ≡ [] → failure r a ≡ [] → Quiet (more talk r a)
   still q w s f = record {
-    silent = writes ∙ ap (λ (x : List ℕ). printedIn talk ++ x) w ∙ append-nil (printedIn talk) ∙ q .silent;
-    mute = tells ∙ ap (λ (x : List ℕ). errorTextOf (requestsOf talk) ++ x) s ∙ append-nil (errorTextOf (requestsOf talk)) ∙ q .mute;
+    silent = writes talk r a ∙ ap (λ (x : List ℕ). printedIn talk ++ x) w ∙ append-nil (printedIn talk) ∙ q .silent;
+    mute = reports talk r a ∙ ap (λ (x : List ℕ). reportedIn talk ++ x) s ∙ append-nil (reportedIn talk) ∙ q .mute;
     fine = failures-next ∙ ap (λ (x : List ℕ). failures talk ++ x) f ∙ append-nil (failures talk) ∙ q .fine;
   }
 
   -- An exchange that brings no word leaves the numbers.
   module _ (none : (i : ℕ) → wordBy i r a ≡ []) (on : isLast r ≡ false) where
-    same-word : (i : ℕ) → wordOf i more ≡ wordOf i talk
+    same-word : (i : ℕ) → wordOf i (more talk r a) ≡ wordOf i talk
     same-word i = word-next i ∙ ap (λ (x : List ℕ). wordOf i talk ++ x) (none i) ∙ append-nil (wordOf i talk)
 
-    same-numbers : numbersOf more ≡ numbersOf talk
+    same-numbers : numbersOf (more talk r a) ≡ numbersOf talk
     unfolding numbersOf
     same-numbers = λ j. numbersIn (same-word 1 j) (same-word 2 j) (same-word 3 j) (same-word 4 j)
 
-    same-last : lastAsked more ≡ lastAsked talk
+    same-last : lastAsked (more talk r a) ≡ lastAsked talk
     same-last = last-next ∙ ap (λ (b : Bool). lastAsked talk || b) on ∙ or-false (lastAsked talk)
 
-    due-next : due more ≡ due talk ++ failure r a
+    due-next : due (more talk r a) ≡ due talk ++ failure r a
     due-next =
-        ap (λ (b : Bool). wrongWords b (numbersOf more) ++ failures more) same-last
-        ∙ ap (λ (k : Numbers). wrongWords (lastAsked talk) k ++ failures more) same-numbers
+        ap (λ (b : Bool). wrongWords b (numbersOf (more talk r a)) ++ failures (more talk r a)) same-last
+        ∙ ap (λ (k : Numbers). wrongWords (lastAsked talk) k ++ failures (more talk r a)) same-numbers
         ∙ ap (λ (x : List ℕ). wrongWords (lastAsked talk) (numbersOf talk) ++ x) failures-next
         ∙ sym (append-assoc (wrongWords (lastAsked talk) (numbersOf talk)) (failures talk) (failure r a))
 
-    same-text : textOf (numbersOf more) ≡ textOf (numbersOf talk)
+    same-text : textOf (numbersOf (more talk r a)) ≡ textOf (numbersOf talk)
     same-text = ap textOf same-numbers
 
 due-none : (talk : List Exchange) → lastAsked talk ≡ false → failures talk ≡ [] → due talk ≡ []
@@ -220,7 +185,7 @@ module _ (talk : List Exchange) (h : InCounting talk) (a : Answer) where
       let nothing : printedIn (more talk Count a) ≡ [] = writes talk Count a ∙ append-nil (printedIn talk) ∙ h .quiet .silent in
       record {
         why = due-next talk Count a (λ i. refl) refl ∙ ap (λ (x : List ℕ). x ++ failure Count a) (due-none talk (h .unasked) (h .quiet .fine)) ∙ fails;
-        mute = tells talk Count a ∙ append-nil (errorTextOf (requestsOf talk)) ∙ h .quiet .mute;
+        mute = reports talk Count a ∙ append-nil (reportedIn talk) ∙ h .quiet .mute;
         front = (textOf (numbersOf (more talk Count a)), ap (λ (x : List ℕ). x ++ textOf (numbersOf (more talk Count a))) nothing);
         whole = λ f. absurd (not-empty (failures talk) _ _ (ap (λ (x : List ℕ). failures talk ++ x) (sym fails) ∙ sym (failures-next talk Count a) ∙ f));
       }
@@ -334,16 +299,16 @@ module _ (rest text : List ℕ) (talk : List Exchange) (h : InPrinting rest text
       ∙ h .right
       ∙ sym (same-text talk (Write text) a (λ i. refl) refl)
 
-  mute-on : (a : Answer) → errorTextOf (requestsOf (more talk (Write text) a)) ≡ []
+  mute-on : (a : Answer) → reportedIn (more talk (Write text) a) ≡ []
   unfolding errorText
-  mute-on a = tells talk (Write text) a ∙ append-nil (errorTextOf (requestsOf talk)) ∙ h .mute
+  mute-on a = reports talk (Write text) a ∙ append-nil (reportedIn talk) ∙ h .mute
 
   due-on : (a : Answer) → due (more talk (Write text) a) ≡ failure (Write text) a
   unfolding wordBy isLast
   due-on a = due-next talk (Write text) a (λ i. refl) refl ∙ ap (λ (x : List ℕ). x ++ failure (Write text) a) (h .clean)
 
   failed-write : InLast outputName (more talk (Write text) Failed)
-  unfolding failure
+  unfolding failure failed
   failed-write = record {
     why = due-on Failed;
     mute = mute-on Failed;
@@ -352,7 +317,7 @@ module _ (rest text : List ℕ) (talk : List Exchange) (h : InPrinting rest text
   }
 
   done-last : rest ≡ [] → InStopped (more talk (Write text) Done)
-  unfolding failure
+  unfolding failure failed
   done-last e =
       let all = sym (append-nil (printedIn (more talk (Write text) Done))) ∙ ap (λ (x : List ℕ). printedIn (more talk (Write text) Done) ++ x) (sym e) ∙ written-on Done in
       record {
@@ -362,7 +327,7 @@ module _ (rest text : List ℕ) (talk : List Exchange) (h : InPrinting rest text
       }
 
   done-more : (line others : List ℕ) → rest ≡ line ++ others → InPrinting others line (more talk (Write text) Done)
-  unfolding failure
+  unfolding failure failed
   done-more line others e = record {
     right = ap (λ (x : List ℕ). printedIn (more talk (Write text) Done) ++ x) (sym e) ∙ written-on Done;
     mute = mute-on Done;
@@ -370,12 +335,8 @@ module _ (rest text : List ℕ) (talk : List Exchange) (h : InPrinting rest text
   }
 
   after-write : (s : State) → Holds s (more talk (Write text) Done) → (a : Answer) → Holds (afterWrite s (heardDone a)) (more talk (Write text) (heardDone a))
-  unfolding afterWrite heardDone
-  after-write s on (Number n) = failed-write
-  after-write s on (Bytes l) = failed-write
-  after-write s on End = failed-write
-  after-write s on Done = on
-  after-write s on Failed = failed-write
+  unfolding afterWrite
+  after-write s on a = by-done (λ (x : Answer). Holds (afterWrite s x) (more talk (Write text) x)) failed-write on a
 
 -- The rows of a table, one by one.
 rows-none : (k : Numbers) → k .spacings .to < k .spacings .from → rowsOf k ≡ []
@@ -397,32 +358,31 @@ row-holds text k talk h =
     (λ e. rw e (done-last (rowsOf k) text talk h (rows-none k (ltb-true (k .spacings .to) (k .spacings .from) e))))
     (λ e. rw e (done-more (rowsOf k) text talk h _ _ (rows-more k (ltb-false (k .spacings .to) (k .spacings .from) e))))
 
--- What is said last; then nothing more.
-module _ (text : List ℕ) (talk : List Exchange) (h : InLast text talk) (r : Request) (a : Answer) (says : errorText r ≡ text) (writes-none : written r ≡ []) (fails : failure r a ≡ [])
-    (none : (i : ℕ) → wordBy i r a ≡ []) (on : isLast r ≡ false) where
+-- What is reported, with the request that is not answered yet.
+says-in : (s : State) (talk : List Exchange) → Holds s talk → reportedIn talk ++ errorText (ask s) ≡ due talk
+unfolding errorText ask
+says-in Counting talk h = append-nil (reportedIn talk) ∙ h .quiet .mute ∙ sym (due-none talk (h .unasked) (h .quiet .fine))
+says-in (Asking i k) talk h = append-nil (reportedIn talk) ∙ h .quiet .mute ∙ sym (due-none talk (h .unasked) (h .quiet .fine))
+says-in (Printing text) talk h = append-nil (reportedIn talk) ∙ h .mute ∙ sym (h .clean)
+says-in (Tabling text k) talk h = append-nil (reportedIn talk) ∙ h .mute ∙ sym (h .clean)
+says-in (Reporting text) talk h = ap (λ (x : List ℕ). x ++ text) (h .mute) ∙ sym (h .why)
+says-in (Failing name) talk h = ap (λ (x : List ℕ). x ++ name) (h .mute) ∙ sym (h .why)
+says-in Stopped talk h = append-nil (reportedIn talk) ∙ h .why
+
+-- An exchange that writes, asks for and fails nothing, after which all is said.
+module _ (talk : List Exchange) (r : Request) (a : Answer) (writes-none : written r ≡ []) (fails : failure r a ≡ []) (none : (i : ℕ) → wordBy i r a ≡ []) (on : isLast r ≡ false) where
   same-printed : printedIn (more talk r a) ≡ printedIn talk
   same-printed = writes talk r a ∙ ap (λ (x : List ℕ). printedIn talk ++ x) writes-none ∙ append-nil (printedIn talk)
 
-  after-last : InStopped (more talk r a)
-  after-last = record {
-    why =
-        tells talk r a
-        ∙ ap (λ (x : List ℕ). x ++ errorText r) (h .mute)
-        ∙ says
-        ∙ sym (due-next talk r a none on ∙ ap (λ (x : List ℕ). due talk ++ x) fails ∙ append-nil (due talk) ∙ h .why);
-    front = (h .front .0, ap (λ (x : List ℕ). x ++ h .front .0) same-printed ∙ h .front .1 ∙ sym (same-text talk r a none on));
-    whole = λ f. same-printed ∙ h .whole (sym (failures-next talk r a ∙ ap (λ (x : List ℕ). failures talk ++ x) fails ∙ append-nil (failures talk)) ∙ f) ∙ sym (same-text talk r a none on);
-  }
+  same-failures : failures (more talk r a) ≡ failures talk
+  same-failures = failures-next talk r a ∙ ap (λ (x : List ℕ). failures talk ++ x) fails ∙ append-nil (failures talk)
 
-after-stop : (talk : List Exchange) → InStopped talk → InStopped (more talk Stop Failed)
-unfolding written errorText failure wordBy isLast
-after-stop talk h =
-    let same : printedIn (more talk Stop Failed) ≡ printedIn talk = writes talk Stop Failed ∙ append-nil (printedIn talk) in
-    record {
-      why = tells talk Stop Failed ∙ append-nil (errorTextOf (requestsOf talk)) ∙ h .why ∙ sym (due-next talk Stop Failed (λ i. refl) refl ∙ append-nil (due talk));
-      front = (h .front .0, ap (λ (x : List ℕ). x ++ h .front .0) same ∙ h .front .1 ∙ sym (same-text talk Stop Failed (λ i. refl) refl));
-      whole = λ f. same ∙ h .whole (sym (failures-next talk Stop Failed ∙ append-nil (failures talk)) ∙ f) ∙ sym (same-text talk Stop Failed (λ i. refl) refl);
-    }
+  now-stopped : reportedIn talk ++ errorText r ≡ due talk → Front talk → (failures talk ≡ [] → printedIn talk ≡ textOf (numbersOf talk)) → InStopped (more talk r a)
+  now-stopped says (rest, front) whole = record {
+    why = reports talk r a ∙ says ∙ sym (due-next talk r a none on ∙ ap (λ (x : List ℕ). due talk ++ x) fails ∙ append-nil (due talk));
+    front = (rest, ap (λ (x : List ℕ). x ++ rest) same-printed ∙ front ∙ sym (same-text talk r a none on));
+    whole = λ f. same-printed ∙ whole (sym same-failures ∙ f) ∙ sym (same-text talk r a none on);
+  }
 
 -- So every answer keeps what holds,
 holds-on : (s : State) (talk : List Exchange) (a : Answer) → Holds s talk → Holds (stepped simulating s a) (talk ++ (exchanged simulating s a ∷ []))
@@ -431,13 +391,13 @@ holds-on Counting talk a h = after-count talk h (heardCount a)
 holds-on (Asking i k) talk a h = after-word i k talk h (heardWord longestWord a)
 holds-on (Printing text) talk a h = after-write [] text talk h Stopped (done-last [] text talk h refl) a
 holds-on (Tabling text k) talk a h = after-write (rowsOf k) text talk h (nextRow k) (row-holds text k talk h) a
-holds-on (Reporting text) talk a h = after-last text talk h (Say text) Done refl refl refl (λ i. refl) refl
-holds-on (Failing name) talk a h = after-last name talk h (Fail name) Done refl refl refl (λ i. refl) refl
-holds-on Stopped talk a h = after-stop talk h
+holds-on (Reporting text) talk a h = now-stopped talk (Say text) Done refl refl (λ i. refl) refl (says-in (Reporting text) talk h) (h .front) (h .whole)
+holds-on (Failing name) talk a h = now-stopped talk (Fail name) Done refl refl (λ i. refl) refl (says-in (Failing name) talk h) (h .front) (h .whole)
+holds-on Stopped talk a h = now-stopped talk Stop Failed refl refl (λ i. refl) refl (says-in Stopped talk h) (h .front) (h .whole)
 
 -- and it holds before the first.
 at-first : Holds Counting []
-unfolding failures lastAsked wordOf requestsOf writtenOf errorTextOf
+unfolding gathered some-of requestsOf writtenOf errorTextOf
 at-first = record { quiet = record { silent = refl; mute = refl; fine = refl }; unasked = refl; later = λ j. refl }
 
 always : (answers : List Answer) → Holds (stateAfter simulating answers) (exchanges simulating answers)
@@ -462,23 +422,13 @@ front-in Stopped talk h = (h .front .0, ap (λ (x : List ℕ). x ++ h .front .0)
 
 whole-in : (s : State) (talk : List Exchange) → Holds s talk → ask s ≡ Stop → failures talk ≡ [] → printedIn talk ++ written (ask s) ≡ textOf (numbersOf talk)
 unfolding written ask
-whole-in Counting talk h e f = absurd (let z : _≡_ {A = ℕ} 0 1 = cc in omega arith)
-whole-in (Asking i k) talk h e f = absurd (let z : _≡_ {A = ℕ} 0 1 = cc in omega arith)
-whole-in (Printing text) talk h e f = absurd (let z : _≡_ {A = ℕ} 0 1 = cc in omega arith)
-whole-in (Tabling text k) talk h e f = absurd (let z : _≡_ {A = ℕ} 0 1 = cc in omega arith)
-whole-in (Reporting text) talk h e f = absurd (let z : _≡_ {A = ℕ} 0 1 = cc in omega arith)
-whole-in (Failing name) talk h e f = absurd (let z : _≡_ {A = ℕ} 0 1 = cc in omega arith)
+whole-in Counting talk h e f = cc
+whole-in (Asking i k) talk h e f = cc
+whole-in (Printing text) talk h e f = cc
+whole-in (Tabling text k) talk h e f = cc
+whole-in (Reporting text) talk h e f = cc
+whole-in (Failing name) talk h e f = cc
 whole-in Stopped talk h e f = append-nil (printedIn talk) ∙ h .whole f
-
-says-in : (s : State) (talk : List Exchange) → Holds s talk → errorTextOf (requestsOf talk) ++ errorText (ask s) ≡ due talk
-unfolding errorText ask
-says-in Counting talk h = append-nil (errorTextOf (requestsOf talk)) ∙ h .quiet .mute ∙ sym (due-none talk (h .unasked) (h .quiet .fine))
-says-in (Asking i k) talk h = append-nil (errorTextOf (requestsOf talk)) ∙ h .quiet .mute ∙ sym (due-none talk (h .unasked) (h .quiet .fine))
-says-in (Printing text) talk h = append-nil (errorTextOf (requestsOf talk)) ∙ h .mute ∙ sym (h .clean)
-says-in (Tabling text k) talk h = append-nil (errorTextOf (requestsOf talk)) ∙ h .mute ∙ sym (h .clean)
-says-in (Reporting text) talk h = ap (λ (x : List ℕ). x ++ text) (h .mute) ∙ sym (h .why)
-says-in (Failing name) talk h = ap (λ (x : List ℕ). x ++ name) (h .mute) ∙ sym (h .why)
-says-in Stopped talk h = append-nil (errorTextOf (requestsOf talk)) ∙ h .why
 
 pub simulates-always : SimulatesAlways
 simulates-always answers =
@@ -499,23 +449,23 @@ fails-so s t a e = ap (λ (x : Answer). ask (afterWrite t x)) e
 
 output-fails : (s : State) (text : List ℕ) (a : Answer) → ask s ≡ Write text → heard (Write text) a ≡ Failed → ask (stepped simulating s a) ≡ Fail outputName
 unfolding stepped ask next heard
-output-fails Counting text a e f = absurd (let z : _≡_ {A = ℕ} 0 1 = cc in omega arith)
-output-fails (Asking i k) text a e f = absurd (let z : _≡_ {A = ℕ} 0 1 = cc in omega arith)
+output-fails Counting text a e f = cc
+output-fails (Asking i k) text a e f = cc
 output-fails (Printing line) text a e f = fails-so (Printing line) Stopped a f
 output-fails (Tabling line k) text a e f = fails-so (Tabling line k) (nextRow k) a f
-output-fails (Reporting line) text a e f = absurd (let z : _≡_ {A = ℕ} 0 1 = cc in omega arith)
-output-fails (Failing name) text a e f = absurd (let z : _≡_ {A = ℕ} 0 1 = cc in omega arith)
-output-fails Stopped text a e f = absurd (let z : _≡_ {A = ℕ} 0 1 = cc in omega arith)
+output-fails (Reporting line) text a e f = cc
+output-fails (Failing name) text a e f = cc
+output-fails Stopped text a e f = cc
 
 stops-after : (s : State) (text : List ℕ) (a : Answer) → ask s ≡ Fail text → ask (stepped simulating s a) ≡ Stop
 unfolding stepped ask next
-stops-after Counting text a e = absurd (let z : _≡_ {A = ℕ} 0 1 = cc in omega arith)
-stops-after (Asking i k) text a e = absurd (let z : _≡_ {A = ℕ} 0 1 = cc in omega arith)
-stops-after (Printing line) text a e = absurd (let z : _≡_ {A = ℕ} 0 1 = cc in omega arith)
-stops-after (Tabling line k) text a e = absurd (let z : _≡_ {A = ℕ} 0 1 = cc in omega arith)
-stops-after (Reporting line) text a e = absurd (let z : _≡_ {A = ℕ} 0 1 = cc in omega arith)
+stops-after Counting text a e = cc
+stops-after (Asking i k) text a e = cc
+stops-after (Printing line) text a e = cc
+stops-after (Tabling line k) text a e = cc
+stops-after (Reporting line) text a e = cc
 stops-after (Failing name) text a e = refl
-stops-after Stopped text a e = absurd (let z : _≡_ {A = ℕ} 0 1 = cc in omega arith)
+stops-after Stopped text a e = cc
 
 pub stops-after-failure : StopsAfterFailure
 stops-after-failure = record { output-fails = output-fails; stops-after = stops-after }

@@ -1,9 +1,10 @@
 -- The program `simulate` as a machine: it asks for its four words, writes what they ask for, a table row by row, and stops.
 -- Assumes nothing.
-use Rattle.laws.specs.Basics.{_≡_, Bool, false, _&&_, _||_, List, [], _∷_, _++_, ℕ, _+_, _<_, eqb, ltb, length, pick}
+use Rattle.laws.specs.Basics.{_≡_, Bool, false, _&&_, List, [], _∷_, _++_, ℕ, _+_, _<_, eqb, ltb, length, pick}
+use Rattle.laws.specs.Tests.{some-of}
 use Rattle.model.specs.declared.Refusal.the-variants.{TrialOutsideRange}
 use Rattle.machines.specs.programs.Texts.{refusedText}
-use Rattle.machines.specs.Machines.{Request, Count, Argument, Open, Read, Write, Say, Fail, Stop, Answer, Number, Bytes, End, Done, Failed, Machine, Exchange, heard, isNumber, brought, stepped, asked, exchanges, stateAfter, writtenOf, errorTextOf}
+use Rattle.machines.specs.Machines.{Request, Count, Argument, Open, Read, Write, Say, Fail, Stop, Answer, Number, Bytes, End, Done, Failed, Machine, Exchange, heard, isNumber, brought, stepped, asked, exchanges, stateAfter, writtenOf, errorTextOf, gathered, failed}
 use Rattle.machine_simulate.specs.declared.words.Numbers.{Numbers}
 use Rattle.machine_simulate.specs.Arguments.{isWrong, isRefused, noNumbers, withWord, numbersIn}
 use Rattle.machine_simulate.specs.Text.{headLine, resultText, rowText, trialOf, textOf}
@@ -100,9 +101,8 @@ wordBy i (Say text) a = []
 wordBy i (Fail text) a = []
 wordBy i Stop a = []
 
-unfoldable pub wordOf : ℕ → List Exchange → List ℕ
-wordOf i [] = []
-wordOf i (e ∷ talk) = wordBy i (e .request) (e .answer) ++ wordOf i talk
+abbrev pub wordOf : ℕ → List Exchange → List ℕ
+wordOf i talk = gathered (wordBy i) talk
 
 -- The numbers of the four words.
 unfoldable pub numbersOf : List Exchange → Numbers
@@ -119,9 +119,8 @@ isLast (Say text) = false
 isLast (Fail text) = false
 isLast Stop = false
 
-unfoldable pub lastAsked : List Exchange → Bool
-lastAsked [] = false
-lastAsked (e ∷ talk) = isLast (e .request) || lastAsked talk
+abbrev pub lastAsked : List Exchange → Bool
+lastAsked talk = some-of (λ (e : Exchange). isLast (e .request)) talk
 
 -- What is to be reported of each exchange: a count that is not five, and a write that failed.
 unfoldable pub failure : Request → Answer → List ℕ
@@ -129,18 +128,13 @@ failure Count a = pick (isNumber a 5) [] usage
 failure (Argument i most) a = []
 failure (Open path) a = []
 failure (Read most) a = []
-failure (Write text) (Number n) = []
-failure (Write text) (Bytes l) = []
-failure (Write text) End = []
-failure (Write text) Done = []
-failure (Write text) Failed = outputName
+failure (Write text) a = failed outputName a
 failure (Say text) a = []
 failure (Fail text) a = []
 failure Stop a = []
 
-unfoldable pub failures : List Exchange → List ℕ
-failures [] = []
-failures (e ∷ talk) = failure (e .request) (e .answer) ++ failures talk
+abbrev pub failures : List Exchange → List ℕ
+failures talk = gathered failure talk
 
 -- What is to be reported of the words, once all were asked for.
 unfoldable pub wrongWords : Bool → Numbers → List ℕ

@@ -2,10 +2,10 @@
 -- is written and reported.
 -- Assumes nothing.
 use Rattle.laws.specs.Basics.{_≡_, Bool, _&&_, _||_, List, ℕ, _≤_, eqb, ltb, leb, length, getD, take, pick}
-use Rattle.machines.specs.Forms.{Asks}
+use Rattle.machines.specs.Forms.{Stands}
 use Rattle.machine_simulate.specs.declared.words.Numbers.{Numbers}
 use Rattle.machine_simulate.specs.Text.{longestText}
-use Rattle.machine_simulate.specs.Simulating.{longestWord, State, Counting, Asking, Printing, Tabling, Reporting, Failing, Stopped, ask}
+use Rattle.machine_simulate.specs.Simulating.{longestWord, State, Counting, Asking, Printing, Tabling, Reporting, Failing, Stopped, simulating}
 use Rattle.machines.specs.declared.Request as requests
 
 -- There is room for the eight numbers, for the longest word, and for the longest text.
@@ -44,6 +44,5 @@ abbrev pub Puts : List ℕ → ℕ → ℕ → Numbers → Type 0
 Puts memory phase count k = (getD memory 0 0 ≡ phase) × (getD memory 1 0 ≡ count) × (keptIn memory ≡ k)
 
 -- What is lent stands for a state, and the request is what the machine asks for there. Words go to the front of `input`.
-pub record StandsFor (memory input out : List ℕ) (r : requests.Request) (s : State) : Type 0 where
-  pub state : stateOf memory input out ≡ s
-  pub asks : Asks r 0 input out (ask s)
+abbrev pub StandsFor : (memory input out : List ℕ) → requests.Request → State → Type 0
+StandsFor memory input out r s = Stands simulating (stateOf memory input out) 0 input out r s

@@ -2,22 +2,29 @@
 -- Assumes nothing.
 use Rattle.laws.specs.Basics.{needs}
 use denote.Ref.{now}
-use Rattle.machine_simulate.proofs.{Standing.stands-as, Stepping.printed-done, Stepping.printed-failed, after_last.Statement.statement}
+use Rattle.machines.specs.Machines.{heard, stepped}
+use Rattle.machines.proofs.Driving.{stands-as}
+use Rattle.machine_simulate.specs.Simulating.{Stopped, ask, next, simulating}
+use Rattle.machine_simulate.proofs.{Stepping.write-done, Stepping.write-failed, after_last.Statement.statement}
 use Rattle.machine_simulate.proofs.after_last.Tie as tie
 
 returns : tie.Need-returns
+unfolding stepped ask next heard
 returns c =
-    let at-is-done = c .before .before .before .before .before .is-done in
-    let at-if1 = c .before .before .before .before .if1 in
-    let at-stop = c .before .before .stop in
-    λ text. stands-as _ _ _ _ _ _ (printed-done text _ _ (at-is-done .ensures 0 (now (c .before .before .before .before .before .before .before .before .before .args .input))) (at-if1 .taken)) (at-stop .ensures _ _)
+    let start = c .before .before .before .before .before .before .before .before .before in
+    let done = c .before .before .before .before .before .is-done in
+    λ text. stands-as simulating
+    (write-done _ _ (done .ensures 0 (now (start .args .input))) Stopped (c .before .before .before .before .if1 .taken))
+    (c .before .before .stop .ensures _ _)
 
 returns-2 : tie.Need-returns-2
+unfolding stepped ask next heard
 returns-2 c =
-    let at-is-done = c .before .before .before .before .before .before .before .before .is-done in
-    let at-if1 = c .before .before .before .before .before .before .before .if1 in
-    let at-fail = c .before .before .before .before .fail in
-    λ text. stands-as _ _ _ _ _ _ (printed-failed text _ _ (at-is-done .ensures 0 (now (c .before .before .before .before .before .before .before .before .before .before .before .before .args .input))) (at-if1 .left)) (at-fail .ensures)
+    let start = c .before .before .before .before .before .before .before .before .before .before .before .before in
+    let done = c .before .before .before .before .before .before .before .before .is-done in
+    λ text. stands-as simulating
+    (write-failed _ _ (done .ensures 0 (now (start .args .input))) Stopped (c .before .before .before .before .before .before .before .if1 .left))
+    (c .before .before .before .before .fail .ensures)
 
 pub after-last-spec : {M : Type 1} → statement M
 after-last-spec =

@@ -2,22 +2,29 @@
 -- Assumes nothing.
 use Rattle.laws.specs.Basics.{needs}
 use denote.Ref.{now}
-use Rattle.machine_simulate.proofs.{Standing.stands-as, Stepping.row-done, Stepping.row-failed, after_line.Statement.statement}
+use Rattle.machines.specs.Machines.{heard, stepped}
+use Rattle.machines.proofs.Driving.{stands-as}
+use Rattle.machine_simulate.specs.Simulating.{ask, next, nextRow, simulating}
+use Rattle.machine_simulate.proofs.{Stepping.write-done, Stepping.write-failed, after_line.Statement.statement}
 use Rattle.machine_simulate.proofs.after_line.Tie as tie
 
 returns : tie.Need-returns
+unfolding stepped ask next heard
 returns c =
-    let at-is-done = c .before .before .before .before .before .before .before .before .is-done in
-    let at-if1 = c .before .before .before .before .before .before .before .if1 in
-    let at-next-row = c .before .before .before .before .next-row in
-    λ text. stands-as _ _ _ _ _ _ (row-done text _ _ (at-is-done .ensures 0 (now (c .before .before .before .before .before .before .before .before .before .before .before .before .args .input))) (c .before .before .before .before .before .before .before .before .before .before .before .before .args .k) (at-if1 .taken)) (at-next-row .ensures)
+    let start = c .before .before .before .before .before .before .before .before .before .before .before .before in
+    let done = c .before .before .before .before .before .before .before .before .is-done in
+    λ text. stands-as simulating
+    (write-done _ _ (done .ensures 0 (now (start .args .input))) (nextRow (start .args .k)) (c .before .before .before .before .before .before .before .if1 .taken))
+    (c .before .before .before .before .next-row .ensures)
 
 returns-2 : tie.Need-returns-2
+unfolding stepped ask next heard
 returns-2 c =
-    let at-is-done = c .before .before .before .before .before .before .before .before .is-done in
-    let at-if1 = c .before .before .before .before .before .before .before .if1 in
-    let at-fail = c .before .before .before .before .fail in
-    λ text. stands-as _ _ _ _ _ _ (row-failed text _ _ (at-is-done .ensures 0 (now (c .before .before .before .before .before .before .before .before .before .before .before .before .args .input))) (c .before .before .before .before .before .before .before .before .before .before .before .before .args .k) (at-if1 .left)) (at-fail .ensures)
+    let start = c .before .before .before .before .before .before .before .before .before .before .before .before in
+    let done = c .before .before .before .before .before .before .before .before .is-done in
+    λ text. stands-as simulating
+    (write-failed _ _ (done .ensures 0 (now (start .args .input))) (nextRow (start .args .k)) (c .before .before .before .before .before .before .before .if1 .left))
+    (c .before .before .before .before .fail .ensures)
 
 pub after-line-spec : {M : Type 1} → statement M
 after-line-spec =

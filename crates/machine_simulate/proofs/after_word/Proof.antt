@@ -2,7 +2,9 @@
 -- Assumes nothing.
 use Rattle.laws.specs.Basics.{sym, arith, length-take-le, needs}
 use denote.Ref.{now}
-use Rattle.machine_simulate.proofs.{Standing.stands-as, Stepping.led-asking, Stepping.led-decided, after_word.Statement.statement}
+use Rattle.machines.proofs.Driving.{stands-as}
+use Rattle.machine_simulate.specs.Simulating.{simulating}
+use Rattle.machine_simulate.proofs.{Stepping.led-asking, Stepping.led-decided, after_word.Statement.statement}
 use Rattle.machine_simulate.proofs.after_word.Tie as tie
 
 slice-aggregate-with-word : tie.Need-slice-aggregate-with-word
@@ -18,7 +20,9 @@ returns c =
     let at-with-word = c .before .before .before .before .before .before .with-word in
     let at-if1 = c .before .before .before .before .before .if1 in
     let at-ask-word = c .before .before .ask-word in
-    stands-as _ _ _ _ _ _ (led-asking (now (start .args .input)) (start .pre .0 .1) (start .args .answer) (at-word .result) (at-word .ensures .0) (at-size-of .result) (at-size-of .ensures .0) (start .args .i) (start .args .k) (at-with-word .result) (at-with-word .ensures) (at-if1 .taken)) (at-ask-word .ensures)
+    stands-as simulating
+    (led-asking (now (start .args .input)) (start .pre .0 .1) (start .args .answer) (at-word .result) (at-word .ensures .0) (at-size-of .result) (at-size-of .ensures .0) (start .args .i) (start .args .k) (at-with-word .result) (at-with-word .ensures) (at-if1 .taken))
+    (at-ask-word .ensures)
 
 returns-2 : tie.Need-returns-2
 returns-2 c =
@@ -28,7 +32,9 @@ returns-2 c =
     let at-with-word = c .before .before .before .before .before .before .before .before .with-word in
     let at-if1 = c .before .before .before .before .before .before .before .if1 in
     let at-decide = c .before .before .before .before .decide in
-    stands-as _ _ _ _ _ _ (led-decided (now (start .args .input)) (start .pre .0 .1) (start .args .answer) (at-word .result) (at-word .ensures .0) (at-size-of .result) (at-size-of .ensures .0) (start .args .i) (start .args .k) (at-with-word .result) (at-with-word .ensures) (at-if1 .left)) (at-decide .ensures)
+    stands-as simulating
+    (led-decided (now (start .args .input)) (start .pre .0 .1) (start .args .answer) (at-word .result) (at-word .ensures .0) (at-size-of .result) (at-size-of .ensures .0) (start .args .i) (start .args .k) (at-with-word .result) (at-with-word .ensures) (at-if1 .left))
+    (at-decide .ensures)
 
 pub after-word-spec : {M : Type 1} → statement M
 after-word-spec =

@@ -2,7 +2,9 @@
 -- Assumes nothing.
 use Rattle.laws.specs.Basics.{needs}
 use denote.Ref.{now}
-use Rattle.machine_simulate.proofs.{Standing.stands-as, Stepping.steps-as, Stepping.tabled-too-far, Stepping.is-tabling, go_on.Statement.statement}
+use Rattle.machines.proofs.Driving.{stands-as, steps-as}
+use Rattle.machine_simulate.specs.Simulating.{simulating}
+use Rattle.machine_simulate.proofs.{Stepping.tabled-too-far, Stepping.is-tabling, go_on.Statement.statement}
 use Rattle.machine_simulate.proofs.go_on.Tie as tie
 
 returns : tie.Need-returns
@@ -11,7 +13,9 @@ returns c =
     let at-kept = c .before .before .before .before .before .before .before .kept in
     let at-if1 = c .before .before .before .before .if1 in
     let at-stop = c .before .before .stop in
-    stands-as _ _ _ _ _ _ (tabled-too-far (now (start .args .memory)) (now (start .args .input)) (now (start .args .out)) (start .pre .0) _ (start .pre .1) (at-kept .result) (at-kept .ensures) (at-if1 .taken)) (at-stop .ensures _ _)
+    stands-as simulating
+    (tabled-too-far (now (start .args .memory)) (now (start .args .input)) (now (start .args .out)) (start .pre .0) _ (start .pre .1) (at-kept .result) (at-kept .ensures) (at-if1 .taken))
+    (at-stop .ensures _ _)
 
 returns-2 : tie.Need-returns-2
 returns-2 c =
@@ -19,7 +23,9 @@ returns-2 c =
     let at-kept = c .before .before .before .before .before .before .before .before .before .before .kept in
     let at-if1 = c .before .before .before .before .before .before .before .if1 in
     let at-after-line = c .before .before .before .before .after-line in
-    steps-as _ _ _ _ _ _ _ (is-tabling (now (start .args .memory)) (now (start .args .input)) (now (start .args .out)) (start .pre .0) (start .pre .1) (at-kept .result) (at-kept .ensures) (at-if1 .left)) (at-after-line .ensures _)
+    steps-as simulating _ _ _
+    (is-tabling (now (start .args .memory)) (now (start .args .input)) (now (start .args .out)) (start .pre .0) (start .pre .1) (at-kept .result) (at-kept .ensures) (at-if1 .left))
+    (at-after-line .ensures _)
 
 pub go-on-spec : {M : Type 1} → statement M
 go-on-spec =
