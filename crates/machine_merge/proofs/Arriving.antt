@@ -1,12 +1,11 @@
 -- The numbers of a state, and the states that they stand for.
 -- Assumes nothing.
 use Rattle.laws.specs.Basics.{_≡_, refl, sym, _∙_, ap, subst, false, List, _++_, ℕ, _+_, _-_, _≤_, _<_, arith, eqb, length, take, drop, length-append, length-drop, length-take-le, by-bool}
-use lib.Seq.{length-sets}
 use Rattle.listing.specs.Printed.{Printed}
 use Rattle.listing.proofs.Texts.{then}
-use Rattle.machines.proofs.programs.Texts.{front-text}
+use Rattle.machines.proofs.programs.Texts.{printed-inside, printed-front}
 use Rattle.machines.specs.Machines.{Argument, Open, Write, Say, Fail, Answer, stepped}
-use Rattle.machines.specs.Forms.{requestOf, Placed, GoesTo}
+use Rattle.machines.specs.Forms.{requestOf, Placed, GoesTo, Asks}
 use Rattle.machine_merge.specs.declared.marks.Marks.{Marks}
 use Rattle.machine_merge.specs.Buffered.{mostKept, mostCounted}
 use Rattle.machine_merge.specs.Merging.{longestWord, longestName, FirstHalf, SecondHalf, State, Counting, Setting, Naming, Opening, Reading, Writing, Reporting, Failing, Stopped, prefix, fileText, wordOf, ask, next, merging}
@@ -17,64 +16,43 @@ pub led : {m : Marks} {input out : List ℕ} {s t : State} → t ≡ s → Arriv
 led {m} {input} {out} e w = subst (λ (x : State). Arrives m input out x) (sym e) w
 
 -- Nothing but a text.
-plain-fits : (phase size : ℕ) → Fits (atPhase phase size)
-plain-fits phase size = (omega arith, omega arith, omega arith)
-
 module _ (input out : List ℕ) where
+  plain : (phase size : ℕ) (s : State) → size ≤ length out → stateIn (atPhase phase size) input out ≡ s → Asks (asksFor (atPhase phase size)) (placeIn (atPhase phase size)) input out (ask s)
+      → Arrives (atPhase phase size) input out s
+  plain phase size s inside is asks = record { bounds = in-bounds _ (length out) (omega arith, omega arith, omega arith) (omega arith) inside; state = is; asks = asks }
+
   pub arrives-stopped : Arrives (atPhase 0 0) input out Stopped
   unfolding stateIn asksFor placeIn requestOf Placed GoesTo ask
-  arrives-stopped = record { bounds = in-bounds _ (length out) (plain-fits 0 0) (omega arith) (omega arith); state = refl; asks = record { stands = refl; inside = tt; there = tt } }
+  arrives-stopped = plain 0 0 Stopped (omega arith) refl (record { stands = refl; inside = tt; there = tt })
 
   pub arrives-counting : Arrives (atPhase 1 0) input out Counting
   unfolding stateIn asksFor placeIn requestOf Placed GoesTo ask
-  arrives-counting = record { bounds = in-bounds _ (length out) (plain-fits 1 0) (omega arith) (omega arith); state = refl; asks = record { stands = refl; inside = tt; there = tt } }
+  arrives-counting = plain 1 0 Counting (omega arith) refl (record { stands = refl; inside = tt; there = tt })
 
   pub arrives-setting : longestWord ≤ length input → Arrives (atPhase 2 0) input out Setting
   unfolding stateIn asksFor placeIn requestOf Placed GoesTo ask
-  arrives-setting h = record {
-    bounds = in-bounds _ (length out) (plain-fits 2 0) (omega arith) (omega arith);
-    state = refl;
-    asks = record { stands = refl; inside = omega (arith, h); there = refl };
-  }
+  arrives-setting h = plain 2 0 Setting (omega arith) refl (record { stands = refl; inside = omega (arith, h); there = refl })
 
   module _ (size : ℕ) (text : List ℕ) (inside : size ≤ length out) (front : take size out ≡ text) where
     pub arrives-writing : Arrives (atPhase 6 size) input out (Writing text)
     unfolding stateIn asksFor placeIn requestOf Placed GoesTo ask
-    arrives-writing = record {
-      bounds = in-bounds _ (length out) (plain-fits 6 size) (omega arith) inside;
-      state = ap Writing front;
-      asks = record { stands = ap Write front; inside = inside; there = tt };
-    }
+    arrives-writing = plain 6 size (Writing text) inside (ap Writing front) (record { stands = ap Write front; inside = inside; there = tt })
 
-    pub arrives-reporting : Arrives (atPhase 7 size) input out (Reporting text)
+    arrives-reporting : Arrives (atPhase 7 size) input out (Reporting text)
     unfolding stateIn asksFor placeIn requestOf Placed GoesTo ask
-    arrives-reporting = record {
-      bounds = in-bounds _ (length out) (plain-fits 7 size) (omega arith) inside;
-      state = ap Reporting front;
-      asks = record { stands = ap Say front; inside = inside; there = tt };
-    }
+    arrives-reporting = plain 7 size (Reporting text) inside (ap Reporting front) (record { stands = ap Say front; inside = inside; there = tt })
 
-    pub arrives-failing : Arrives (atPhase 8 size) input out (Failing text)
+    arrives-failing : Arrives (atPhase 8 size) input out (Failing text)
     unfolding stateIn asksFor placeIn requestOf Placed GoesTo ask
-    arrives-failing = record {
-      bounds = in-bounds _ (length out) (plain-fits 8 size) (omega arith) inside;
-      state = ap Failing front;
-      asks = record { stands = ap Fail front; inside = inside; there = tt };
-    }
+    arrives-failing = plain 8 size (Failing text) inside (ap Failing front) (record { stands = ap Fail front; inside = inside; there = tt })
 
 -- A text that was printed to the front.
-module _ (out text out′ : List ℕ) (size : ℕ) (fits : length text ≤ length out) (p : Printed out 0 text out′ size) where
-  pub printed-inside : size ≤ length out′
-  printed-inside = omega (arith, p .next-place, ap length (p .holds), length-sets out 0 text, fits)
+module _ (out text out′ : List ℕ) (size : ℕ) (fits : length text ≤ length out) (p : Printed out 0 text out′ size) (input : List ℕ) where
+  pub printed-reporting : Arrives (atPhase 7 size) input out′ (Reporting text)
+  printed-reporting = arrives-reporting input out′ size text (printed-inside out text out′ size fits p) (printed-front out text out′ size fits p)
 
-  pub printed-front : take size out′ ≡ text
-  printed-front = front-text out text out′ size p (omega (arith, p .next-place, fits))
-
-  pub printed-reporting : (input : List ℕ) → Arrives (atPhase 7 size) input out′ (Reporting text)
-  printed-reporting input = arrives-reporting input out′ size text printed-inside printed-front
-
-  pub printed-failing : (input : List ℕ) → Arrives (atPhase 8 size) input out′ (Failing text)
-  printed-failing input = arrives-failing input out′ size text printed-inside printed-front
+  pub printed-failing : Arrives (atPhase 8 size) input out′ (Failing text)
+  printed-failing = arrives-failing input out′ size text (printed-inside out text out′ size fits p) (printed-front out text out′ size fits p)
 
 -- A file is named, opened, read.
 word-is : (m : Marks) (input : List ℕ) → wordAt (m .half) ≡ wordOf (stageOf m input)

@@ -1,19 +1,14 @@
--- The loop that obeys the machine: where it stands before each request.
+-- The loop that obeys the machine: what obeying a request leaves of its state.
 -- Assumes nothing.
-use Rattle.laws.specs.Basics.{_≡_, refl, sym, _∙_, ap, subst, true, false, List, ℕ, _+_, _≤_, _<_, min, arith, eqb, length, take, pick, by-bool}
-use Rattle.machines.specs.{Machines.Answer, Machines.stepped, Machines.Reached, Machines.Ended, Forms.goesOn, Forms.Leaves, Forms.Asks}
-use Rattle.machines.proofs.{Runs.reached-first, Runs.reached-next, Places.going-is, Places.stopped-is, Places.leaves-front}
+use Rattle.laws.specs.Basics.{_≡_, refl, ap, List, ℕ, _+_, _≤_, min, arith, eqb, length, take, pick, by-bool}
+use Rattle.machines.specs.{Forms.Leaves, Forms.GoesTo}
+use Rattle.machines.proofs.Places.{leaves-front}
 use Rattle.machine_merge.specs.declared.marks.Marks.{Marks}
 use Rattle.machine_merge.specs.Buffered.{mostKept}
-use Rattle.machine_merge.specs.Merging.{longestName, SecondHalf, State, Counting, Naming, Opening, Reading, Stopped, ask, merging}
-use Rattle.machine_merge.specs.Words.{EnoughRoom, lacksRoom, marksOf, inBounds, Fits, nameAt, halfAt, readTo, stageOf, nameOf, keptOf, stateIn, stateOf, placeIn, placeOf, StandsFor}
-use Rattle.machine_merge.proofs.{Parts.part-kept, Parts.half-is, Parts.read-past, Marking.bounded, Ending.left, Ending.merging-ends}
+use Rattle.machine_merge.specs.Merging.{longestName, SecondHalf, Naming, Opening, Reading, Stopped}
+use Rattle.machine_merge.specs.Words.{lacksRoom, marksOf, inBounds, Fits, nameAt, halfAt, readTo, stageOf, nameOf, keptOf, stateIn, stateOf, placeIn, placeOf}
+use Rattle.machine_merge.proofs.{Parts.part-kept, Parts.half-is, Parts.read-past, Marking.bounded}
 use Rattle.machines.specs.declared.Request as requests
-
-pub record Driven (memory input out : List ℕ) (r : requests.Request) : Type 0 where
-  pub room : EnoughRoom (length memory) (length input) (length out)
-  pub reached : Reached merging (stateOf memory input out)
-  pub asks : Asks r (placeOf memory) input out (ask (stateOf memory input out))
 
 -- What the machine has not asked for is as it was, and so is its state.
 module _ (m : Marks) (input after out : List ℕ) (fits : Fits m) where
@@ -52,61 +47,20 @@ module _ (m : Marks) (input after out : List ℕ) (fits : Fits m) where
       let kept = same-kept e in
       λ j. Reading (stage j) (name j) (kept j) (m .count)
 
-  name-place : eqb (m .phase) 3 ≡ true → placeIn m ≡ nameAt (m .half)
-  unfolding placeIn
-  name-place p3 = rw p3 refl
-
-  opened-place : eqb (m .phase) 3 ≡ false → eqb (m .phase) 4 ≡ true → placeIn m ≡ halfAt (m .half)
-  unfolding placeIn
-  opened-place n3 p4 = rw (n3, p4) refl
-
-  read-place : eqb (m .phase) 3 ≡ false → eqb (m .phase) 4 ≡ false → eqb (m .phase) 5 ≡ true → placeIn m ≡ readTo (m .half) (m .count)
-  unfolding placeIn
-  read-place n3 n4 p5 = rw (n3, n4, p5) refl
-
   same-state : Same (placeIn m) → stateIn m after out ≡ stateIn m input out
-  unfolding stateIn
+  unfolding stateIn placeIn
   same-state e = by-bool (eqb (m .phase) 1) (λ p1. rw p1 refl)
       (λ n1. by-bool (eqb (m .phase) 2) (λ p2. rw (n1, p2) refl)
-      (λ n2. by-bool (eqb (m .phase) 3) (λ p3. rw (n1, n2, p3) (same-naming (subst Same (name-place p3) e)))
-      (λ n3. by-bool (eqb (m .phase) 4) (λ p4. rw (n1, n2, n3, p4) (same-opening (subst Same (opened-place n3 p4) e)))
-      (λ n4. by-bool (eqb (m .phase) 5) (λ p5. rw (n1, n2, n3, n4, p5) (same-reading (subst Same (read-place n3 n4 p5) e)))
+      (λ n2. by-bool (eqb (m .phase) 3) (λ p3. rw (n1, n2, p3) (same-naming (rw p3 at e)))
+      (λ n3. by-bool (eqb (m .phase) 4) (λ p4. rw (n1, n2, n3, p4) (same-opening (rw (n3, p4) at e)))
+      (λ n4. by-bool (eqb (m .phase) 5) (λ p5. rw (n1, n2, n3, n4, p5) (same-reading (rw (n3, n4, p5) at e)))
       (λ n5. rw (n1, n2, n3, n4, n5) refl)))))
 
-state-kept : (memory input after out : List ℕ) → take (placeOf memory) after ≡ take (placeOf memory) input → length after ≡ length input → stateOf memory after out ≡ stateOf memory input out
+pub kept : (memory input after out : List ℕ) (r : requests.Request) → GoesTo r (placeOf memory) → Leaves r input after → stateOf memory after out ≡ stateOf memory input out
 unfolding stateOf
-state-kept memory input after out front same = rw same (by-bool (inBounds (marksOf memory) (length out))
-    (λ b. rw b (ap (pick (lacksRoom (length memory) (length input) (length out)) Stopped) (same-state (marksOf memory) input after out (bounded (marksOf memory) (length out) b .0) front)))
+kept memory input after out r there leaves =
+    let (front, same) = leaves-front r (placeOf memory) input after there leaves in
+    let m = marksOf memory in
+    rw same (by-bool (inBounds m (length out))
+    (λ b. rw b (ap (pick (lacksRoom (length memory) (length input) (length out)) Stopped) (same-state m input after out (bounded m (length out) b .0) front)))
     (λ n. rw n refl))
-
-stands-driven : (memory input out : List ℕ) (r : requests.Request) (s : State) → EnoughRoom (length memory) (length input) (length out) → Reached merging s → StandsFor memory input out r s → Driven memory input out r
-stands-driven memory input out r s room reached h = record {
-  room = room;
-  reached = subst (Reached merging) (sym (h .state)) reached;
-  asks = subst (λ (x : State). Asks r (placeOf memory) input out (ask x)) (sym (h .state)) (h .asks);
-}
-
-pub driven-first : (memory input out : List ℕ) (r : requests.Request) → EnoughRoom (length memory) (length input) (length out) → StandsFor memory input out r (Counting) → Driven memory input out r
-driven-first memory input out r room h = stands-driven memory input out r (Counting) room (reached-first merging) h
-
--- One request is obeyed, and its answer taken.
-module _ (memory input out : List ℕ) (r : requests.Request) (h : Driven memory input out r) (input′ : List ℕ) (leaves : Leaves r input input′) where
-  kept : stateOf memory input′ out ≡ stateOf memory input out
-  kept = let f = leaves-front r (placeOf memory) input input′ (h .asks .there) leaves in state-kept memory input input′ out (f .0) (f .1)
-
-  module _ (memory′ out′ : List ℕ) (r′ : requests.Request) (a : Answer) (stands : StandsFor memory′ input′ out′ r′ (stepped merging (stateOf memory input′ out) a)) where
-    pub driven-next : EnoughRoom (length memory′) (length input′) (length out′) → Driven memory′ input′ out′ r′
-    driven-next room =
-        stands-driven memory′ input′ out′ r′ (stepped merging (stateOf memory input′ out) a) room
-        (subst (λ (s : State). Reached merging (stepped merging s a)) (sym kept) (reached-next merging (stateOf memory input out) a (h .reached)))
-        stands
-
-    pub driven-less : goesOn r ≡ true → left (stateOf memory′ input′ out′) < left (stateOf memory input out)
-    driven-less going =
-        let fell = merging-ends .falls (stateOf memory input out) a (λ e. going-is r out going (h .asks .stands ∙ e)) in
-        let same = stands .state ∙ ap (λ (s : State). stepped merging s a) kept in
-        omega (arith, fell, ap left same)
-
-pub driven-ends : (memory input out : List ℕ) (r : requests.Request) → Driven memory input out r → goesOn r ≡ false → Ended merging (stateOf memory input out)
-unfolding Ended
-driven-ends memory input out r h e = (h .reached, sym (h .asks .stands) ∙ stopped-is r out e)

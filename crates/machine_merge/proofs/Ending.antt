@@ -1,8 +1,9 @@
 -- The machine ends: a number falls with each answer.
 -- Assumes nothing.
-use Rattle.laws.specs.Basics.{_≡_, refl, Bool, true, false, _&&_, List, [], _∷_, ℕ, _+_, _-_, _≤_, _<_, arith, eqb, ltb, leb, length, take, ltb-true, leb-true, by-bool}
+use Rattle.laws.specs.Basics.{_≡_, refl, List, [], _∷_, ℕ, _+_, _-_, _≤_, _<_, arith, eqb, ltb, length, take, ltb-true, by-bool}
 use Rattle.machines.specs.programs.Numbers.{numberIn, noNumber}
-use Rattle.machines.specs.Machines.{Stop, Answer, Number, Bytes, End, Done, Failed, heard, heardCount, heardWord, heardRead, heardDone, isNumber, stepped, Ends}
+use Rattle.machines.proofs.Answers.{by-word, by-read, by-done}
+use Rattle.machines.specs.Machines.{Stop, Answer, heard, heardCount, heardWord, heardRead, heardDone, isNumber, stepped, Ends}
 use Rattle.machine_merge.specs.{Buffered.mostCounted, Buffered.bufferedSize, Buffered.wanted, Buffered.keeping, Printed.printed}
 use Rattle.machine_merge.specs.Merging.{longestWord, longestName, Stage, FirstHalf, SecondHalf, State, Counting, Setting, Naming, Opening, Reading, Writing, Reporting, Failing, Stopped, ask, shown, showing, halfRead, ended, onward, afterCount, afterSet, afterName, afterOpen, afterRead, afterWrite, next, merging}
 
@@ -39,29 +40,20 @@ count-falls : (a : Answer) → left (afterCount a) < left Counting
 unfolding afterCount
 count-falls a = by-bool (isNumber a 4) (λ e. rw e (omega arith)) (λ e. rw e (omega arith))
 
-set-falls : (a : Answer) → left (afterSet a) < left Setting
+set-falls : (a : Answer) → left (afterSet (heardWord longestWord a)) < left Setting
 unfolding afterSet
-set-falls (Number n) = omega arith
-set-falls (Bytes word) = by-bool (eqb (numberIn word) noNumber) (λ e. rw e (omega arith)) (λ e. rw e (omega arith))
-set-falls End = omega arith
-set-falls Done = omega arith
-set-falls Failed = omega arith
+set-falls a =
+    by-word (λ (x : Answer). left (afterSet x) < left Setting) (omega arith) longestWord
+    (λ word few. by-bool (eqb (numberIn word) noNumber) (λ e. rw e (omega arith)) (λ e. rw e (omega arith)))
+    a
 
-name-falls : (stage : Stage) (a : Answer) → left (afterName stage a) < left (Naming stage)
+name-falls : (stage : Stage) (a : Answer) → left (afterName stage (heardWord longestName a)) < left (Naming stage)
 unfolding afterName
-name-falls stage (Number n) = omega arith
-name-falls stage (Bytes name) = omega arith
-name-falls stage End = omega arith
-name-falls stage Done = omega arith
-name-falls stage Failed = omega arith
+name-falls stage a = by-word (λ (x : Answer). left (afterName stage x) < left (Naming stage)) (omega arith) longestName (λ name few. omega arith) a
 
-open-falls : (stage : Stage) (name : List ℕ) (a : Answer) → left (afterOpen stage name a) < left (Opening stage name)
+open-falls : (stage : Stage) (name : List ℕ) (a : Answer) → left (afterOpen stage name (heardDone a)) < left (Opening stage name)
 unfolding afterOpen
-open-falls stage name (Number n) = omega arith
-open-falls stage name (Bytes l) = omega arith
-open-falls stage name End = omega arith
-open-falls stage name Done = omega arith
-open-falls stage name Failed = omega arith
+open-falls stage name a = by-done (λ (x : Answer). left (afterOpen stage name x) < left (Opening stage name)) (omega arith) (omega arith) a
 
 module _ (stage : Stage) (name kept : List ℕ) (total : ℕ) where
   onward-falls : (more : List ℕ) → 1 ≤ length more → left (onward stage name (keeping kept more) (total + length more)) < left (Reading stage name kept total)
@@ -71,40 +63,25 @@ module _ (stage : Stage) (name kept : List ℕ) (total : ℕ) where
       (λ e. rw e (omega (arith, h, ltb-true (total + length more) mostCounted e)))
       (λ e. rw e (omega (arith, ended-falls stage (keeping kept more) (total + length more))))
 
-  failed-falls : 1 < left (Reading stage name kept total)
-  failed-falls = omega (arith, two-left stage)
-
-  and-true : (a b : Bool) → a && b ≡ true → a ≡ true
-  and-true true b e = refl
-  and-true false b e = absurd (let z : _≡_ {A = ℕ} 0 1 = cc in omega arith)
-
   read-falls : (most : ℕ) (a : Answer) → left (afterRead stage name kept total (heardRead most a)) < left (Reading stage name kept total)
-  unfolding heardRead afterRead
-  read-falls most (Number n) = failed-falls
-  read-falls most (Bytes more) =
-      by-bool (leb 1 (length more) && leb (length more) most)
-      (λ e. rw e (onward-falls more (leb-true 1 (length more) (and-true _ _ e))))
-      (λ e. rw e failed-falls)
-  read-falls most End = omega (arith, ended-falls stage kept total)
-  read-falls most Done = failed-falls
-  read-falls most Failed = failed-falls
+  unfolding afterRead
+  read-falls most a =
+      by-read (λ (x : Answer). left (afterRead stage name kept total x) < left (Reading stage name kept total)) (omega (arith, two-left stage)) most
+      (λ more some few. onward-falls more some)
+      (omega (arith, ended-falls stage kept total)) a
 
-write-falls : (a : Answer) → left (afterWrite a) < 2
+write-falls : (a : Answer) → left (afterWrite (heardDone a)) < 2
 unfolding afterWrite
-write-falls (Number n) = omega arith
-write-falls (Bytes l) = omega arith
-write-falls End = omega arith
-write-falls Done = omega arith
-write-falls Failed = omega arith
+write-falls a = by-done (λ (x : Answer). left (afterWrite x) < 2) (omega arith) (omega arith) a
 
 pub falls : (s : State) (a : Answer) → (ask s ≡ Stop → ⊥) → left (stepped merging s a) < left s
 unfolding stepped ask next heard
 falls Counting a h = count-falls (heardCount a)
-falls Setting a h = set-falls (heardWord longestWord a)
-falls (Naming stage) a h = name-falls stage (heardWord longestName a)
-falls (Opening stage name) a h = open-falls stage name (heardDone a)
+falls Setting a h = set-falls a
+falls (Naming stage) a h = name-falls stage a
+falls (Opening stage name) a h = open-falls stage name a
 falls (Reading stage name kept total) a h = read-falls stage name kept total (wanted total) a
-falls (Writing trace) a h = write-falls (heardDone a)
+falls (Writing trace) a h = write-falls a
 falls (Reporting line) a h = omega arith
 falls (Failing name) a h = omega arith
 falls Stopped a h = absurd (h refl)

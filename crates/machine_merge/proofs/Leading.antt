@@ -39,39 +39,39 @@ at-most x = by-bool (ltb 4294967295 x) (λ e. rw e (omega arith)) (λ e. rw e (l
 
 module _ (x : Answer) (at : ℕ) (input : List ℕ) (t : takens.Taken) where
   module _ (h : heardWord longestWord x ≡ takenOf t at input) where
-    heard-set : stepped merging Setting x ≡ afterSet (takenOf t at input)
+    heard-set : (y : takens.Taken) → t ≡ y → stepped merging Setting x ≡ afterSet (takenOf y at input)
     unfolding stepped ask heard next
-    heard-set = ap afterSet h
+    heard-set y e = ap afterSet (h ∙ ap (λ (z : takens.Taken). takenOf z at input) e)
 
     pub set-word : (size : ℕ) → t ≡ taken.Brought size → stepped merging Setting x ≡ afterSet (Bytes (take size (drop at input)))
     unfolding takenOf
-    set-word size e = heard-set ∙ ap (λ (y : takens.Taken). afterSet (takenOf y at input)) e
+    set-word size e = heard-set (taken.Brought size) e
 
     pub set-end : t ≡ taken.Ended → stepped merging Setting x ≡ Reporting usage
     unfolding takenOf afterSet
-    set-end e = heard-set ∙ ap (λ (y : takens.Taken). afterSet (takenOf y at input)) e
+    set-end e = heard-set taken.Ended e
 
     pub set-failed : t ≡ taken.Failed → stepped merging Setting x ≡ Reporting usage
     unfolding takenOf afterSet
-    set-failed e = heard-set ∙ ap (λ (y : takens.Taken). afterSet (takenOf y at input)) e
+    set-failed e = heard-set taken.Failed e
 
   -- The name of a file.
   module _ (stage : Stage) (h : heardWord longestName x ≡ takenOf t at input) where
-    heard-name : stepped merging (Naming stage) x ≡ afterName stage (takenOf t at input)
+    heard-name : (y : takens.Taken) → t ≡ y → stepped merging (Naming stage) x ≡ afterName stage (takenOf y at input)
     unfolding stepped ask heard next
-    heard-name = ap (afterName stage) h
+    heard-name y e = ap (afterName stage) (h ∙ ap (λ (z : takens.Taken). takenOf z at input) e)
 
     pub name-word : (size : ℕ) → t ≡ taken.Brought size → stepped merging (Naming stage) x ≡ Opening stage (take size (drop at input))
     unfolding takenOf afterName
-    name-word size e = heard-name ∙ ap (λ (y : takens.Taken). afterName stage (takenOf y at input)) e
+    name-word size e = heard-name (taken.Brought size) e
 
     pub name-end : t ≡ taken.Ended → stepped merging (Naming stage) x ≡ Failing (noNameText stage)
     unfolding takenOf afterName
-    name-end e = heard-name ∙ ap (λ (y : takens.Taken). afterName stage (takenOf y at input)) e
+    name-end e = heard-name taken.Ended e
 
     pub name-failed : t ≡ taken.Failed → stepped merging (Naming stage) x ≡ Failing (noNameText stage)
     unfolding takenOf afterName
-    name-failed e = heard-name ∙ ap (λ (y : takens.Taken). afterName stage (takenOf y at input)) e
+    name-failed e = heard-name taken.Failed e
 
 -- Whether a file is opened, and the trace written.
 module _ (x : Answer) (b : Bool) (h : heardDone x ≡ pick b Done Failed) where
@@ -107,29 +107,27 @@ module _ (half count : ℕ) (input : List ℕ) (long : longestWord ≤ length in
   abbrev after-reading : State
   after-reading = stepped merging (Reading stage name kept count) (answerOf a place input)
 
-  heard-read : after-reading ≡ afterRead stage name kept count (takenOf t place input)
+  heard-read : (y : takens.Taken) → t ≡ y → after-reading ≡ afterRead stage name kept count (takenOf y place input)
   unfolding stepped ask heard next
-  heard-read = ap (λ (k : ℕ). afterRead stage name kept count (heardRead k (answerOf a place input))) (sym is) ∙ ap (afterRead stage name kept count) h
+  heard-read y e =
+      ap (λ (k : ℕ). afterRead stage name kept count (heardRead k (answerOf a place input))) (sym is)
+      ∙ ap (afterRead stage name kept count) (h ∙ ap (λ (z : takens.Taken). takenOf z place input) e)
 
   pub read-bytes : (size : ℕ) → t ≡ taken.Brought size → size ≤ most → after-reading ≡ onward stage name (keptOf half (count + size) input) (count + size)
   unfolding takenOf afterRead
   read-bytes size e short =
       let many : length (take size (drop place input)) ≡ size = length-take-le size (drop place input) (omega (arith, short, is, wanted-most count, read-most half count, length-drop place input, long)) in
-      heard-read
-      ∙ ap (λ (y : takens.Taken). afterRead stage name kept count (takenOf y place input)) e
+      heard-read (taken.Brought size) e
       ∙ ap (λ (l : List ℕ). onward stage name l (count + length (take size (drop place input)))) (keeping-is half count size input)
       ∙ ap (λ (k : ℕ). onward stage name (keptOf half (count + size) input) (count + k)) many
 
   pub read-end : t ≡ taken.Ended → after-reading ≡ halfRead stage (take (bufferedSize count) (drop (halfAt half) input))
   unfolding takenOf afterRead
-  read-end e =
-      heard-read
-      ∙ ap (λ (y : takens.Taken). afterRead stage name kept count (takenOf y place input)) e
-      ∙ ap (halfRead stage) (buffered-part half count input)
+  read-end e = heard-read taken.Ended e ∙ ap (halfRead stage) (buffered-part half count input)
 
   pub read-failed : t ≡ taken.Failed → after-reading ≡ Failing (fileText stage name)
   unfolding takenOf afterRead
-  read-failed e = heard-read ∙ ap (λ (y : takens.Taken). afterRead stage name kept count (takenOf y place input)) e
+  read-failed e = heard-read taken.Failed e
 
 module _ (half count : ℕ) (input : List ℕ) (stage : Stage) (name : List ℕ) where
   pub onward-read : count < mostCounted → onward stage name (keptOf half count input) count ≡ Reading stage name (keptOf half count input) count

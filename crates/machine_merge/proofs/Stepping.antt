@@ -1,10 +1,10 @@
 -- What is lent stands for a state, before and after a step.
 -- Assumes nothing.
-use Rattle.laws.specs.Basics.{_≡_, refl, sym, subst, Bool, true, false, not, _||_, List, ℕ, arith, ltb, length, le-ltb, ltb-false}
-use Rattle.laws.specs.Truth.{or-none}
-use Rattle.machines.specs.{Machines.Answer, Machines.stepped, Forms.requestOf, Forms.Placed, Forms.GoesTo, Forms.answerOf}
+use Rattle.laws.specs.Basics.{_≡_, refl, sym, subst, true, false, List, ℕ, arith, length, le-ltb}
+use Rattle.machines.specs.{Machines.Answer, Machines.stepped, Forms.answerOf}
+use Rattle.machines.proofs.{Driving.still-stands, Places.long-enough}
 use Rattle.machine_merge.specs.declared.marks.Marks.{Marks}
-use Rattle.machine_merge.specs.Merging.{longestWord, State, ask, next, merging}
+use Rattle.machine_merge.specs.Merging.{longestWord, State, Stopped, ask, next, merging}
 use Rattle.machine_merge.specs.Words.{longestTrace, EnoughRoom, lacksRoom, marksOf, inBounds, stateIn, stateOf, placeIn, placeOf, asksFor, StandsFor, Arrives}
 use Rattle.machines.specs.declared.Request as requests
 use Rattle.machines.specs.declared.Request.the-variants as request
@@ -17,18 +17,7 @@ room-is memory input out (a, b, c) = rw (le-ltb memory 7 a, le-ltb input longest
 
 pub room-by : (memory input out : ℕ) → lacksRoom memory input out ≡ false → EnoughRoom memory input out
 unfolding lacksRoom
-room-by memory input out e =
-    let a = or-none (ltb memory 7) (ltb input longestWord || ltb out longestTrace) e in
-    let b = or-none (ltb input longestWord) (ltb out longestTrace) (a .1) in
-    (ltb-false memory 7 (a .0), ltb-false input longestWord (b .0), ltb-false out longestTrace (b .1))
-
-pub negated : (v : Bool) → not v ≡ true → v ≡ false
-negated true h = sym h
-negated false h = refl
-
-pub affirmed : (v : Bool) → not v ≡ false → v ≡ true
-affirmed true h = refl
-affirmed false h = sym h
+room-by memory input out e = long-enough memory 7 input longestWord out longestTrace e
 
 -- What stands for no state has stopped, and stays so.
 module _ (memory input out : List ℕ) (a : Answer) where
@@ -36,12 +25,12 @@ module _ (memory input out : List ℕ) (a : Answer) where
   Still = StandsFor memory input out request.Stop (stepped merging (stateOf memory input out) a)
 
   pub no-room : lacksRoom (length memory) (length input) (length out) ≡ true → Still
-  unfolding stateOf stepped next ask requestOf Placed GoesTo
-  no-room h = rw h (record { state = rw h refl; asks = record { stands = refl; inside = tt; there = tt } })
+  unfolding stateOf stepped next ask
+  no-room h = still-stands merging (stateOf memory input out) Stopped (placeOf memory) input out a (rw h refl) refl refl
 
   pub no-bounds : lacksRoom (length memory) (length input) (length out) ≡ false → inBounds (marksOf memory) (length out) ≡ false → Still
-  unfolding stateOf stepped next ask requestOf Placed GoesTo
-  no-bounds h k = rw (h, k) (record { state = rw (h, k) refl; asks = record { stands = refl; inside = tt; there = tt } })
+  unfolding stateOf stepped next ask
+  no-bounds h k = still-stands merging (stateOf memory input out) Stopped (placeOf memory) input out a (rw (h, k) refl) refl refl
 
 -- The numbers of a state are put.
 pub put-stands : (memory input out : List ℕ) (m : Marks) (r : requests.Request) (s : State) → EnoughRoom (length memory) (length input) (length out) → marksOf memory ≡ m

@@ -1,7 +1,7 @@
 -- The machine's state in what a caller lends: seven numbers; the buffer that words and files are read into; the buffer for what is written and reported.
 -- Assumes nothing.
 use Rattle.laws.specs.Basics.{_≡_, Bool, true, _&&_, _||_, List, ℕ, _+_, _≤_, min, eqb, ltb, leb, length, getD, take, drop, pick}
-use Rattle.machines.specs.{Machines.stepped, Forms.answerOf, Forms.Asks}
+use Rattle.machines.specs.{Machines.stepped, Forms.answerOf, Forms.Asks, Forms.Stands}
 use Rattle.machine_merge.specs.declared.marks.Marks.{Marks}
 use Rattle.machine_merge.specs.Buffered.{mostKept, mostCounted, bufferedSize, wanted}
 use Rattle.machine_merge.specs.Merging.{longestWord, longestName, Stage, FirstHalf, SecondHalf, State, Counting, Setting, Naming, Opening, Reading, Writing, Reporting, Failing, Stopped, ask, halfRead, onward, merging}
@@ -123,9 +123,8 @@ asksFor m =
     request.Stop)))))))
 
 -- What is lent stands for a state, and the request is what the machine asks for there.
-pub record StandsFor (memory input out : List ℕ) (r : requests.Request) (s : State) : Type 0 where
-  pub state : stateOf memory input out ≡ s
-  pub asks : Asks r (placeOf memory) input out (ask s)
+abbrev pub StandsFor : (memory input out : List ℕ) → requests.Request → State → Type 0
+StandsFor memory input out r s = Stands merging (stateOf memory input out) (placeOf memory) input out r s
 
 -- The same of the numbers of a state before they are put.
 pub record Arrives (m : Marks) (input out : List ℕ) (s : State) : Type 0 where
