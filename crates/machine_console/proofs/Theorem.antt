@@ -4,7 +4,7 @@ use Rattle.laws.specs.Basics.{_≡_, refl, sym, _∙_, ap, Bool, true, false, L
 use Rattle.laws.specs.Tests.{some-of}
 use native.Mathlib.Numerals.{add-one}
 use Rattle.model.specs.declared.{Run.Run, Refusal.the-variants.NoFirstByte, Refusal.the-variants.LeftOverBytes}
-use Rattle.machines.specs.Machines.{Request, Read, Write, Answer, Number, Bytes, End, Done, Failed, Exchange, heard, heardRead, heardDone, stepped, exchanged, stateAfter, exchanges, written, errorText, writtenOf, errorTextOf, brought, readBy, readOf, gathered, isEnd, endMet, failed, failure, requestsOf}
+use Rattle.machines.specs.Machines.{Request, Read, Write, Answer, Bytes, End, Done, Failed, Exchange, heard, heardRead, heardDone, stepped, exchanged, stateAfter, exchanges, written, errorText, writtenOf, errorTextOf, brought, readBy, readOf, gathered, isEnd, endMet, failed, failure, requestsOf}
 use Rattle.machines.proofs.{Runs.throughout, Runs.written-is, Runs.error-text-is, Runs.stops, Answers.by-read, Answers.by-done}
 use Rattle.machines.proofs.Reporting.{Account, printedIn, more, reads, ends, writes, same-read, same-end, Fine, InWriting, InFailing, InStopped, fine-on, failed-read, failed-write, done-write, after-fail, after-stop, fine-says, failing-says}
 use Rattle.machine_console.specs.Made.{madeOn, opened}

@@ -1,6 +1,6 @@
 -- A settled verdict is settled for good.
 -- Assumes nothing.
-use Rattle.laws.specs.Basics.{_≡_, refl, sym, Bool, true, false, not, _&&_, _||_, false≢true, List, [], _∷_, _++_, none, ℕ, _≤_, _<_, ltb, leb, length, le-ltb, leb-true, by-bool}
+use Rattle.laws.specs.Basics.{_≡_, refl, sym, Bool, true, false, not, _&&_, _||_, false≢true, List, [], _∷_, _++_, none, ℕ, _≤_, ltb, leb, length, le-ltb, leb-true, by-bool}
 use Rattle.model.specs.{Words.ones, Refusals.startRefusal, laws.Refusals.no-rule, laws.Refusals.by-refusal}
 use Rattle.theory_patterns.specs.{Patterns.reading, Verdicts.countOf, Verdicts.verdict}
 use Rattle.theory_patterns.proofs.Ends.{long-traces-end}

@@ -5,7 +5,7 @@ use Rattle.laws.specs.Choice.{pick-same}
 use Rattle.machines.specs.Forms.{requestOf, Placed, GoesTo}
 use Rattle.machines.proofs.Driving.{stopped-stands}
 use Rattle.machine_judge.specs.{Text.longestVerdict, Words.EnoughRoom, Words.lacksRoom, Words.inPhase, Words.stateOf, Words.placeOf, Words.StandsFor}
-use Rattle.machine_judge.specs.Judging.{mostRead, wanted, settled, State, Reading, Printing, Failing, Stopped, ask, printing, onward, judging}
+use Rattle.machine_judge.specs.Judging.{mostRead, wanted, settled, Reading, Printing, Failing, Stopped, ask, printing, onward, judging}
 use Rattle.machines.specs.declared.Request as requests
 use Rattle.machines.specs.declared.Request.the-variants as request
 

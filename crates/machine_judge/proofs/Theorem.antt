@@ -1,8 +1,8 @@
 -- What the machine does with every list of answers.
 -- Assumes nothing.
-use Rattle.laws.specs.Basics.{_≡_, refl, sym, _∙_, ap, Bool, true, false, _||_, List, [], _∷_, _++_, append-nil, ℕ, _+_, _≤_, arith, length, pick, by-bool}
+use Rattle.laws.specs.Basics.{_≡_, refl, sym, _∙_, ap, Bool, false, _||_, List, [], _∷_, _++_, append-nil, ℕ, _+_, _≤_, arith, length, pick, by-bool}
 use Rattle.laws.specs.Tests.{some-of}
-use Rattle.machines.specs.Machines.{Read, Write, Answer, Number, Bytes, End, Done, Failed, Exchange, heard, heardRead, heardDone, stepped, exchanged, stateAfter, exchanges, written, errorText, writtenOf, errorTextOf, brought, readBy, readOf, gathered, isEnd, endMet, failed, failure, requestsOf}
+use Rattle.machines.specs.Machines.{Read, Write, Answer, Bytes, End, Exchange, heard, heardRead, heardDone, stepped, exchanged, stateAfter, exchanges, written, errorText, writtenOf, errorTextOf, brought, readBy, readOf, gathered, isEnd, endMet, failed, failure, requestsOf}
 use Rattle.machines.proofs.{Runs.throughout, Runs.written-is, Runs.error-text-is, Runs.stops, Answers.by-read, Answers.by-done}
 use Rattle.machines.proofs.Reporting.{Account, printedIn, more, reads, ends, writes, same-read, shownIn, Fine, InWriting, InFailing, InStopped, fine-on, failed-read, failed-write, done-write, after-fail, after-stop, fine-says, failing-says}
 use Rattle.theory_patterns.specs.Verdicts.{verdict}

@@ -1,7 +1,7 @@
 -- The line of a verdict, by its number and its pair: `refused R`, `trackable` or `breaks P:K Q:X`, decimal, with a line feed; and what it is for a line to be the verdict on
 -- a trace.
 -- Assumes nothing.
-use Rattle.laws.specs.Basics.{_≡_, List, [], _∷_, _++_, Option, none, some, ℕ, _<_, eqb, pick}
+use Rattle.laws.specs.Basics.{List, [], _∷_, _++_, Option, none, some, ℕ, _<_, eqb, pick}
 use Rattle.model.specs.Words.{mostProcesses}
 use Rattle.whole_runs.specs.Listing.{lineFeed}
 use Rattle.listing.specs.Lines.{pairText}

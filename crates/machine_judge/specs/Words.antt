@@ -1,6 +1,6 @@
 -- The machine's state in what a caller lends: two numbers, the phase and a count; the buffer that the trace is read into; the buffer for what is written and reported.
 -- Assumes nothing.
-use Rattle.laws.specs.Basics.{_≡_, Bool, _&&_, _||_, List, ℕ, _≤_, eqb, ltb, leb, length, getD, take, pick}
+use Rattle.laws.specs.Basics.{Bool, _&&_, _||_, List, ℕ, _≤_, eqb, ltb, leb, length, getD, take, pick}
 use Rattle.machines.specs.Forms.{Stands}
 use Rattle.machine_judge.specs.Text.{longestVerdict}
 use Rattle.machine_judge.specs.Judging.{mostRead, State, Reading, Printing, Failing, Stopped, judging}

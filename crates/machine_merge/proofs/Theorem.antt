@@ -5,7 +5,7 @@ use lib.Seq.{take-take}
 use Rattle.laws.specs.Choice.{pick-same}
 use Rattle.model.specs.laws.Refusals.{by-refusal}
 use Rattle.machines.specs.programs.Numbers.{decimalIn, standsFor, numberIn, noNumber, atMost}
-use Rattle.machines.specs.Machines.{Read, Write, Say, Fail, Stop, Answer, Number, Bytes, End, Done, Failed, Exchange, heard, heardCount, heardWord, heardRead, heardDone, isNumber, stepped, exchanged, stateAfter, exchanges, written, writtenOf, requestsOf, brought}
+use Rattle.machines.specs.Machines.{Read, Write, Say, Fail, Stop, Answer, Failed, Exchange, heard, heardCount, heardWord, heardRead, heardDone, isNumber, stepped, exchanged, stateAfter, exchanges, written, writtenOf, requestsOf, brought}
 use Rattle.machines.proofs.{Runs.throughout, Runs.written-next, Runs.written-is, Answers.by-word, Answers.by-read, Answers.by-done}
 use Rattle.theory_merges.specs.Merge.{Taken, stopped, took, takeAll, countOf, mergeRefusal}
 use Rattle.machine_merge.specs.Buffered.{mostKept, mostCounted, bufferedSize, bufferedOf, wanted, keeping}

@@ -1,6 +1,6 @@
 -- What is promised of the program, over every list of answers of the system.
 -- Assumes nothing.
-use Rattle.laws.specs.Basics.{_≡_, Bool, true, false, _||_, List, [], _∷_, _++_, Option, none, some, ℕ, _+_, eqb, leb, length, pick}
+use Rattle.laws.specs.Basics.{_≡_, Bool, true, false, _||_, List, [], _∷_, _++_, Option, none, some, ℕ, eqb, leb, length, pick}
 use Rattle.machines.specs.programs.Numbers.{decimalIn}
 use Rattle.machines.specs.Machines.{Request, Count, Argument, Open, Read, Write, Say, Fail, Stop, Answer, Number, Bytes, End, Done, Failed, Exchange, heard, stepped, asked, exchanges, stateAfter, writtenOf, brought}
 use Rattle.machine_merge.specs.{Buffered.mostCounted, Printed.printed}

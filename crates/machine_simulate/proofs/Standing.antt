@@ -7,7 +7,7 @@ use Rattle.machines.specs.{Machines.Say, Machines.Fail, Forms.requestOf, Forms.
 use Rattle.machines.proofs.{Places.long-enough, programs.Texts.printed-inside, programs.Texts.printed-front}
 use Rattle.machine_simulate.specs.declared.words.Numbers.{Numbers}
 use Rattle.machine_simulate.specs.Text.{longestText}
-use Rattle.machine_simulate.specs.Simulating.{longestWord, State, Counting, Asking, Printing, Tabling, Reporting, Failing, Stopped, ask}
+use Rattle.machine_simulate.specs.Simulating.{longestWord, Counting, Asking, Printing, Tabling, Reporting, Failing, Stopped, ask}
 use Rattle.machine_simulate.specs.Words.{EnoughRoom, lacksRoom, keptIn, inPhase, stateOf, Puts, StandsFor}
 use Rattle.machines.specs.declared.Request.the-variants as request
 

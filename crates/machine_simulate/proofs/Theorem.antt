@@ -4,7 +4,7 @@ use Rattle.laws.specs.Basics.{_≡_, refl, sym, _∙_, ap, subst, Bool, true, f
 use Rattle.laws.specs.{Rows.or-false, Tests.some-of}
 use Rattle.model.specs.declared.Refusal.the-variants.{TrialOutsideRange}
 use Rattle.machines.specs.{programs.Numbers.numberIn, programs.Texts.refusedText}
-use Rattle.machines.specs.Machines.{Request, Count, Argument, Write, Say, Fail, Stop, Answer, Number, Bytes, End, Done, Failed, Exchange, heard, heardCount, heardWord, heardDone, isNumber, brought, stepped, exchanged, stateAfter, exchanges, written, errorText, writtenOf, errorTextOf, gathered, failed, requestsOf}
+use Rattle.machines.specs.Machines.{Request, Count, Argument, Write, Say, Fail, Stop, Answer, Done, Failed, Exchange, heard, heardCount, heardWord, heardDone, isNumber, brought, stepped, exchanged, stateAfter, exchanges, written, errorText, writtenOf, errorTextOf, gathered, failed, requestsOf}
 use Rattle.machines.proofs.{Runs.throughout, Runs.gathered-next, Runs.some-next, Runs.written-is, Runs.error-text-is, Runs.stops, Answers.by-done}
 use Rattle.machines.proofs.Reporting.{printedIn, reportedIn, more, writes, reports}
 use Rattle.machine_simulate.specs.declared.words.Numbers.{Numbers}

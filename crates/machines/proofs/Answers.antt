@@ -1,6 +1,6 @@
 -- Every answer, as it is taken: one that fits, or `Failed`.
 -- Assumes nothing.
-use Rattle.laws.specs.Basics.{_≡_, true, _&&_, List, ℕ, _≤_, leb, length, leb-true, by-bool}
+use Rattle.laws.specs.Basics.{_&&_, List, ℕ, _≤_, leb, length, leb-true, by-bool}
 use Rattle.laws.specs.Truth.{and-left, and-right}
 use Rattle.machines.specs.Machines.{Answer, Number, Bytes, End, Done, Failed, heardCount, heardWord, heardRead, heardDone}
 

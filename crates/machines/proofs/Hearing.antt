@@ -1,12 +1,13 @@
 -- Answers in their forms, as they are taken.
 -- Assumes nothing.
-use Rattle.laws.specs.Basics.{_≡_, refl, sym, _∙_, ap, Bool, true, false, _&&_, false≢true, List, ℕ, zero, suc, _+_, _-_, _≤_, _<_, arith, eqb, leb, length, take, drop, length-drop, length-take-le, eq-eqb, ne-eqb, le-ltb, le-leb, lt-leb, leb-true, pick, by-bool}
+use Rattle.laws.specs.Basics.{_≡_, refl, sym, _∙_, ap, true, false, _&&_, false≢true, List, ℕ, zero, suc, _+_, _≤_, _<_, arith, leb, length, take, drop, length-drop, length-take-le, eq-eqb, ne-eqb, le-ltb, le-leb, lt-leb, leb-true, by-bool}
+use Rattle.laws.specs.Truth.{and-no-right}
 use lib.IntN.{ℤ, pos, negsuc}
 use lib.Signed.{ltZ}
 use Rattle.io.specs.Counts.{clamped}
 use mir.Syntax.{w32}
 use mir.Val.{SFits, ofZ}
-use Rattle.machines.specs.Machines.{Answer, Number, Bytes, End, Done, Failed, heardCount, heardWord, heardRead, heardDone, isNumber}
+use Rattle.machines.specs.Machines.{Answer, Bytes, End, Done, Failed, heardWord, heardRead}
 use Rattle.machines.specs.Forms.{answerOf, takenOf, Between, readAnswer, wordAnswer, from, openAnswer}
 use Rattle.machines.specs.declared.Source.{Source}
 use Rattle.machines.specs.declared.Answer as answers
@@ -29,12 +30,6 @@ ReadAs a most r = ((at : ℕ) (input : List ℕ) → at + most ≤ length input 
 abbrev pub WordAs : answers.Answer → ℕ → takens.Taken → Type 0
 WordAs a most r = ((at : ℕ) (input : List ℕ) → at + most ≤ length input → heardWord most (answerOf a at input) ≡ takenOf r at input) × Between r 0 most
 
-abbrev pub DoneAs : answers.Answer → Bool → Type 0
-DoneAs a r = (at : ℕ) (input : List ℕ) → heardDone (answerOf a at input) ≡ pick r Done Failed
-
-abbrev pub NumberAs : answers.Answer → ℕ → Bool → Type 0
-NumberAs a number r = (at : ℕ) (input : List ℕ) → r ≡ isNumber (heardCount (answerOf a at input)) number
-
 -- Bytes that are taken for none.
 read-none : (most at size : ℕ) (input : List ℕ) → (length (take size (drop at input)) ≡ size → leb 1 (length (take size (drop at input))) && leb (length (take size (drop at input))) most ≡ false)
     → heardRead most (answerOf (answer.Bytes size) at input) ≡ Failed
@@ -46,10 +41,6 @@ unfolding heardWord answerOf
 word-none most at size input h =
     by-bool (leb (at + size) (length input)) (λ e. rw (e, many at size input (leb-true _ _ e), lt-leb size most h)) (λ e. rw e)
 
-and-false : (b : Bool) → b && false ≡ false
-and-false true = refl
-and-false false = refl
-
 -- Bytes, by the tests of the code.
 module _ (a : answers.Answer) (most size : ℕ) (e : a ≡ answer.Bytes size) where
   pub read-few : size < 1 → ReadAs a most taken.Failed
@@ -58,7 +49,7 @@ module _ (a : answers.Answer) (most size : ℕ) (e : a ≡ answer.Bytes size) wh
 
   pub read-many : most < size → ReadAs a most taken.Failed
   unfolding takenOf Between
-  read-many more = (λ at input h. rw e (read-none most at size input (λ k. rw (k, lt-leb size most more) (and-false (leb 1 size)))), tt)
+  read-many more = (λ at input h. rw e (read-none most at size input (λ k. rw k (and-no-right (leb 1 size) (leb size most) (lt-leb size most more)))), tt)
 
   pub read-some : 1 ≤ size → size ≤ most → ReadAs a most (taken.Brought size)
   unfolding heardRead takenOf Between

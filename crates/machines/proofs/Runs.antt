@@ -1,7 +1,7 @@
 -- Runs of a machine: a fact that holds at the start and that every answer keeps holds after every list of answers; what lists of exchanges come to, one exchange after
 -- the other; a machine that has a measure ends.
 -- Assumes nothing.
-use Rattle.laws.specs.Basics.{_≡_, refl, sym, _∙_, ap, subst, Bool, _||_, List, [], _∷_, _++_, append-nil, append-assoc, _⊎_, inl, inr, ℕ, _≤_, _<_, arith, length}
+use Rattle.laws.specs.Basics.{_≡_, refl, sym, _∙_, ap, subst, Bool, _||_, List, [], _∷_, _++_, append-nil, append-assoc, _⊎_, inl, inr, ℕ, _<_, arith, length}
 use mathlib.Core.Logic.{⊎-elim}
 use Rattle.laws.specs.{Tests.some-of, Select.some-append, Select.some-one}
 use Rattle.machines.specs.Machines.{Request, Count, Argument, Open, Read, Write, Say, Fail, Stop, Answer, Machine, Exchange, stepped, exchanged, stateFrom, exchangesFrom, askedFrom, stateAfter, exchanges, asked, written, errorText, writtenOf, errorTextOf, readBy, readOf, gathered, isEnd, endMet, requestsOf, Reached, Ends}

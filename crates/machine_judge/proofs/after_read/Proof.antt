@@ -1,6 +1,6 @@
 -- `machine_judge::after_read` meets its contract, by what the read brought.
 -- Assumes nothing.
-use Rattle.laws.specs.Basics.{_≡_, List, ℕ, _+_, _≤_, arith, needs}
+use Rattle.laws.specs.Basics.{_≡_, ℕ, _+_, _≤_, arith, needs}
 use denote.Ref.{now}
 use Rattle.machines.proofs.Driving.{stands-as}
 use Rattle.machine_judge.specs.Judging.{mostRead, judging}

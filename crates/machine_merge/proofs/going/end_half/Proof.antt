@@ -6,10 +6,23 @@ use Rattle.machine_merge.proofs.going.end_half.Statement.{statement}
 use Rattle.machine_merge.proofs.going.end_half.Tie as tie
 
 returns : tie.Need-returns
-returns c = let m = c .before .before .before .before .before .args .m in let input = c .before .before .before .before .before .args .input .now in let buffered = c .before .before .buffered-size in led (first-buffered m input (c .before .before .before .before .before .args .count) (buffered .result) (buffered .ensures .0) (c .if1 .taken)) (arrives-second (m .set) (buffered .result) input _ (c .before .before .before .before .before .pre .0 .0) (buffered .ensures .1) (c .before .before .before .before .before .pre .1))
+returns c =
+    let start = c .before .before .before .before .before in
+    let m = start .args .m in
+    let input = start .args .input .now in
+    let buffered = c .before .before .buffered-size in
+    led (first-buffered m input (start .args .count) (buffered .result) (buffered .ensures .0) (c .if1 .taken))
+    (arrives-second (m .set) (buffered .result) input _ (start .pre .0 .0) (buffered .ensures .1) (start .pre .1))
 
 returns-2 : tie.Need-returns-2
-returns-2 c = let m = c .before .before .before .before .before .before .before .before .before .before .before .before .before .args .m in let input = c .before .before .before .before .before .before .before .before .before .before .before .before .before .args .input .now in let buffered = c .before .before .before .before .before .before .before .before .before .before .buffered-size in led (second-buffered m input (c .before .before .before .before .before .before .before .before .before .before .before .before .before .args .count) (buffered .result) (buffered .ensures .0) (c .before .before .before .before .before .before .before .before .if1 .left)) (c .before .before .show .ensures input)
+returns-2 c =
+    let start = c .before .before .before .before .before .before .before .before .before .before .before .before .before in
+    let m = start .args .m in
+    let input = start .args .input .now in
+    let buffered = c .before .before .before .before .before .before .before .before .before .before .buffered-size in
+    led
+    (second-buffered m input (start .args .count) (buffered .result) (buffered .ensures .0) (c .before .before .before .before .before .before .before .before .if1 .left))
+    (c .before .before .show .ensures input)
 
 pub end-half-spec : {M : Type 1} → statement M
 end-half-spec =

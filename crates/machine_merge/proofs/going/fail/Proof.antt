@@ -5,7 +5,9 @@ use Rattle.machine_merge.proofs.{Arriving.printed-failing, going.fail.S
 use Rattle.machine_merge.proofs.going.fail.Tie as tie
 
 returns : tie.Need-returns
-returns c = λ input. rw (c .at .ensures) (printed-failing _ _ _ _ (c .before .before .before .before .before .before .before .pre) (c .before .before .before .write-word .ensures) input)
+returns c = λ input.
+    let start = c .before .before .before .before .before .before .before in
+    rw (c .at .ensures) (printed-failing _ _ _ _ (start .pre) (c .before .before .before .write-word .ensures) input)
 
 pub fail-spec : {M : Type 1} → statement M
 fail-spec = tie.close (tie.spec (λ c κs. search needs) (λ c κs. search needs) (λ c. search needs) returns)

@@ -6,10 +6,14 @@ use Rattle.machine_merge.proofs.{Leading.no-name-first, Leading.no-name
 use Rattle.machine_merge.proofs.going.fail_no_name.Tie as tie
 
 returns : tie.Need-returns
-returns c = λ input. led (ap Failing (no-name-first (c .before .before .before .before .before .before .before .before .args .m) input (c .before .before .before .before .before .if1 .taken))) (c .before .before .fail .ensures input)
+returns c = λ input.
+    let start = c .before .before .before .before .before .before .before .before in
+    led (ap Failing (no-name-first (start .args .m) input (c .before .before .before .before .before .if1 .taken))) (c .before .before .fail .ensures input)
 
 returns-2 : tie.Need-returns-2
-returns-2 c = λ input. led (ap Failing (no-name-second (c .before .before .before .before .before .before .before .before .args .m) input (c .before .before .before .before .before .if1 .left))) (c .before .before .fail2 .ensures input)
+returns-2 c = λ input.
+    let start = c .before .before .before .before .before .before .before .before in
+    led (ap Failing (no-name-second (start .args .m) input (c .before .before .before .before .before .if1 .left))) (c .before .before .fail2 .ensures input)
 
 pub fail-no-name-spec : {M : Type 1} → statement M
 fail-no-name-spec =

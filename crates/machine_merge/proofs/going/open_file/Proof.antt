@@ -5,7 +5,11 @@ use Rattle.machine_merge.proofs.{Arriving.printed-opening, going.open_f
 use Rattle.machine_merge.proofs.going.open_file.Tie as tie
 
 returns : tie.Need-returns
-returns c = printed-opening (c .before .before .before .before .before .before .before .before .args .m) (c .before .before .before .before .before .before .before .before .args .input .now) (c .before .before .before .before .before .before .before .before .pre .1) (c .before .before .before .before .before .before .before .before .args .name) (c .before .before .before .before .before .name-at .result) (c .before .before .before .before .before .before .before .before .pre .3) (c .before .before .before .before .before .name-at .ensures .0) _ _ _ (c .before .before .before .before .before .before .before .before .pre .0) (c .before .before .before .before .before .before .before .before .pre .2) (c .before .before .write-word .ensures)
+returns c =
+    let start = c .before .before .before .before .before .before .before .before in
+    printed-opening (start .args .m) (start .args .input .now) (start .pre .1) (start .args .name)
+    (c .before .before .before .before .before .name-at .result) (start .pre .3) (c .before .before .before .before .before .name-at .ensures .0) _ _
+    _ (start .pre .0) (start .pre .2) (c .before .before .write-word .ensures)
 
 pub open-file-spec : {M : Type 1} → statement M
 open-file-spec =

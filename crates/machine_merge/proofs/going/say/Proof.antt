@@ -5,7 +5,9 @@ use Rattle.machine_merge.proofs.{Arriving.printed-reporting, going.say.
 use Rattle.machine_merge.proofs.going.say.Tie as tie
 
 returns : tie.Need-returns
-returns c = λ input. rw (c .at .ensures) (printed-reporting _ _ _ _ (c .before .before .before .before .before .before .before .pre) (c .before .before .before .write-word .ensures) input)
+returns c = λ input.
+    let start = c .before .before .before .before .before .before .before in
+    rw (c .at .ensures) (printed-reporting _ _ _ _ (start .pre) (c .before .before .before .write-word .ensures) input)
 
 pub say-spec : {M : Type 1} → statement M
 say-spec = tie.close (tie.spec (λ c κs. search needs) (λ c κs. search needs) (λ c. search needs) returns)
