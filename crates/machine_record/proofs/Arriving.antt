@@ -1,60 +1,36 @@
 -- The numbers of a state, and the states that they stand for.
 -- Assumes nothing.
-use Rattle.laws.specs.Basics.{_≡_, refl, sym, _∙_, ap, true, false, List, [], _∷_, ℕ, _+_, _-_, _≤_, _<_, arith, eqb, length, take, length-take-le, lt-ltb, le-ltb, le-leb, by-bool}
+use Rattle.laws.specs.Basics.{_≡_, refl, sym, _∙_, ap, true, false, List, [], _∷_, ℕ, _+_, _≤_, _<_, arith, eqb, length, take, length-take-le, lt-ltb, le-ltb, le-leb, by-bool}
 use lib.Seq.{length-sets}
 use Rattle.model.specs.Refusals.{number}
 use Rattle.whole_runs.specs.Listing.{mostRecords}
 use Rattle.listing.specs.Printed.{Printed}
+use Rattle.machines.proofs.programs.Texts.{front-text}
 use Rattle.machines.specs.Machines.{Answer, stepped}
 use Rattle.machine_record.specs.declared.marks.Marks.{Marks}
 use Rattle.machine_record.specs.{Recorded.refusedLine, Recorded.endLine, Played.blockLines, Lent.inBounds, Lent.positionOf, Lent.stateIn, Lent.Arrives}
-use Rattle.machine_record.specs.Machine.{Position, counting, naming, beginning, writing, reporting, ending, failing, stopped, machine, next, toRead, toReport, toWrite, toEnd}
-use Rattle.machine_record.proofs.Emptied.{front}
-use Rattle.machines.specs.declared.Request as requests
-use Rattle.machines.specs.declared.Request.the-variants as request
+use Rattle.machine_record.specs.Machine.{Position, State, writing, reporting, ending, stopped, machine, next, toRead, toReport, toWrite, toEnd}
 
 pub bounds : (m : Marks) (out : ℕ) → m .left ≤ 4000000001 → m .done ≤ mostRecords → m .kept ≤ 3 → m .size ≤ out → m .pending ≤ blockLines → inBounds m out ≡ true
 unfolding inBounds
 bounds m out a b c d e = rw (le-leb (m .left) 4000000001 a, le-leb (m .done) mostRecords b, le-leb (m .kept) 3 c, le-leb (m .size) out d, le-leb (m .pending) blockLines e) refl
 
--- A text printed to the front.
-pub printed-front : (out text out′ : List ℕ) (size : ℕ) → length text ≤ length out → Printed out 0 text out′ size → take size out′ ≡ text
-printed-front out text out′ size h p = (λ j. take (p .next-place j) (p .holds j)) ∙ front out text 0 (omega (arith, h))
-
-pub printed-inside : (out text out′ : List ℕ) (size : ℕ) → length text ≤ length out → Printed out 0 text out′ size → size ≤ length out′
-printed-inside out text out′ size h p = omega (arith, p .next-place, ap (λ (x : List ℕ). length x) (p .holds), length-sets out 0 text, h)
+pub printed-inside : (out text out′ : List ℕ) (size : ℕ) → size ≤ length out → Printed out 0 text out′ size → size ≤ length out′
+printed-inside out text out′ size h p = omega (arith, h, ap (λ (x : List ℕ). length x) (p .holds), length-sets out 0 text)
 
 module _ (words input lines : List ℕ) where
-  pub arrives-stopped : (out : List ℕ) → Arrives (record { phase = 0; left = 0; done = 0; kept = 0; size = 0; pending = 0 }) words input out lines stopped
-  unfolding stateIn
-  arrives-stopped out = record { bounds = bounds _ (length out) (omega arith) (omega arith) (omega arith) (omega arith) (omega arith); state = refl }
+  -- A phase in which nothing is counted but the bytes of the buffer.
+  pub arrives-at : (phase left : ℕ) (out : List ℕ) → left ≤ 4000000001
+      → let m : Marks = record { phase = phase; left = left; done = 0; kept = 0; size = 0; pending = 0 } in Arrives m words input out lines (stateIn m words input out lines)
+  arrives-at phase left out h = record { bounds = bounds _ (length out) h (omega arith) (omega arith) (omega arith) (omega arith); state = refl }
 
-  pub arrives-counting : (out : List ℕ) → Arrives (record { phase = 1; left = 0; done = 0; kept = 0; size = 0; pending = 0 }) words input out lines counting
-  unfolding stateIn
-  arrives-counting out = record { bounds = bounds _ (length out) (omega arith) (omega arith) (omega arith) (omega arith) (omega arith); state = refl }
-
-  pub arrives-naming : (out : List ℕ) → Arrives (record { phase = 2; left = 0; done = 0; kept = 0; size = 0; pending = 0 }) words input out lines naming
-  unfolding stateIn
-  arrives-naming out = record { bounds = bounds _ (length out) (omega arith) (omega arith) (omega arith) (omega arith) (omega arith); state = refl }
-
-  pub arrives-beginning : (out : List ℕ) (left : ℕ) → left ≤ 4000000001 → Arrives (record { phase = 3; left = left; done = 0; kept = 0; size = 0; pending = 0 }) words input out lines (beginning left)
-  unfolding stateIn
-  arrives-beginning out left h = record { bounds = bounds _ (length out) h (omega arith) (omega arith) (omega arith) (omega arith); state = refl }
-
-  pub arrives-ending : (out text out′ : List ℕ) (size : ℕ) → length text ≤ length out → Printed out 0 text out′ size
-      → Arrives (record { phase = 7; left = 0; done = 0; kept = 0; size = size; pending = 0 }) words input out′ lines (ending text)
-  unfolding stateIn
-  arrives-ending out text out′ size h p = record {
+  -- A phase that has a text and nothing else.
+  pub arrives-text : (phase : ℕ) (state : List ℕ → State) (out text out′ : List ℕ) (size : ℕ) → size ≤ length out → Printed out 0 text out′ size
+      → let m : Marks = record { phase = phase; left = 0; done = 0; kept = 0; size = size; pending = 0 } in
+      stateIn m words input out′ lines ≡ state (take size out′) → Arrives m words input out′ lines (state text)
+  arrives-text phase state out text out′ size h p is = record {
     bounds = bounds _ (length out′) (omega arith) (omega arith) (omega arith) (printed-inside out text out′ size h p) (omega arith);
-    state = ap ending (printed-front out text out′ size h p);
-  }
-
-  pub arrives-failing : (out text out′ : List ℕ) (size : ℕ) → length text ≤ length out → Printed out 0 text out′ size
-      → Arrives (record { phase = 8; left = 0; done = 0; kept = 0; size = size; pending = 0 }) words input out′ lines (failing text)
-  unfolding stateIn
-  arrives-failing out text out′ size h p = record {
-    bounds = bounds _ (length out′) (omega arith) (omega arith) (omega arith) (printed-inside out text out′ size h p) (omega arith);
-    state = ap failing (printed-front out text out′ size h p);
+    state = is ∙ ap state (front-text out text out′ size p h);
   }
 
   pub arrives-read : (m : Marks) (out : List ℕ) → m .left ≤ 4000000001 → m .done < mostRecords → m .kept ≤ 3
@@ -85,10 +61,10 @@ module _ (words input lines : List ℕ) where
   unfolding stateIn
   arrives-report m out out′ size a b c d e some p =
       let many : length (take (m .pending) lines) ≡ m .pending = length-take-le (m .pending) lines d in
-      let fits : length (take (m .pending) lines) ≤ length out = omega (arith, many, e) in
+      let fits : size ≤ length out = omega (arith, many, e, p .next-place) in
       record {
         bounds = bounds _ (length out′) a b c (printed-inside out (take (m .pending) lines) out′ size fits p) (omega arith);
-        state = ap (λ (x : List ℕ). reporting x (positionOf m words input)) (printed-front out (take (m .pending) lines) out′ size fits p) ∙ sym (some-to-report (take (m .pending) lines) (positionOf m words input) (λ h. some (sym many ∙ h)));
+        state = ap (λ (x : List ℕ). reporting x (positionOf m words input)) (front-text out (take (m .pending) lines) out′ size p fits) ∙ sym (some-to-report (take (m .pending) lines) (positionOf m words input) (λ h. some (sym many ∙ h)));
       }
 
   -- What is left over at the end.

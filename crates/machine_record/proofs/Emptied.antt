@@ -9,7 +9,7 @@ use Rattle.whole_runs.specs.{Outcomes.Outcome, Outcomes.Report, Calls.Call, Cal
 use Rattle.theory_recording.specs.Replay.{recordBytes}
 use Rattle.theory_recording.specs.Recording.{Recorded, Tape, Taped, unwritten, appended, recording, taped, recorded, recordedCheckpoint, recordedSend, recordedDeliver, recordedLose, recordedRecover, tapeAfter}
 use Rattle.machine_record.specs.Recorded.{callIn, callsIn, lent, inFront, recordedIn, lineFor, linesIn}
-use Rattle.machine_record.specs.Records.{Standing, emptied, taken, standingNext, bytesOf, lineOf, standingAfter, bytesAfter, linesAfter, StandsAt}
+use Rattle.machine_record.specs.Records.{Standing, emptied, taken, standingNext, bytesOf, lineOf, standingAfter, textsAfter, bytesAfter, linesAfter, StandsAt}
 
 -- Two tapes with the same state, and both with room for a record or both without.
 pub record SameRoom (t u : Tape) : Type 0 where
@@ -190,7 +190,7 @@ unfolding tapeAfter
 none-taken g t l w a b c d = record { stands = rw (a, b) w; bytes = rw (b, c) (sym (append-nil (inFront t))); lines = d }
 
 pub same : (g : Standing) (t : Tape) → StandsAt g t → (l : List ℕ) → Same g t l
-unfolding standingAfter standingNext callsIn bytesAfter linesIn linesAfter
+unfolding standingAfter standingNext callsIn textsAfter linesIn
 same g t w [] = none-taken g t [] w refl refl refl refl
 same g t w (a ∷ []) = none-taken g t (a ∷ []) w refl refl refl refl
 same g t w (a ∷ b ∷ []) = none-taken g t (a ∷ b ∷ []) w refl refl refl refl

@@ -1,18 +1,15 @@
 -- Where the machine stands after a list of answers, by what was asked and answered.
 -- Assumes nothing.
-use Rattle.laws.specs.Basics.{_≡_, refl, sym, _∙_, ap, Bool, true, false, _&&_, List, [], _∷_, _++_, append-nil, append-assoc, ℕ, _+_, _-_, _≤_, _<_, arith, eqb, ltb, leb, length, eqb-true, le-ltb, ltb-true, leb-true, by-bool}
+use Rattle.laws.specs.Basics.{_≡_, refl, sym, _∙_, ap, true, false, List, [], _∷_, _++_, append-nil, append-assoc, ℕ, _+_, _<_, arith, eqb, ltb, eqb-true, le-ltb, ltb-true, by-bool}
 use Rattle.whole_runs.specs.Listing.{mostRecords}
 use Rattle.machines.specs.programs.Numbers.{numberIn}
-use Rattle.machines.specs.Machines.{Count, Argument, Read, Write, Say, Fail, Stop, Answer, Number, Bytes, End, Done, Failed, Exchange, heard, heardRead, stepped, stateAfter, exchanges, written, errorText, writtenOf, errorTextOf, brought, readBy, readOf, requestsOf}
-use Rattle.machines.proofs.Runs.{throughout, requests-then, written-then, error-text-then, read-then, written-one, error-text-one}
+use Rattle.machines.specs.Machines.{Count, Argument, Read, Write, Say, Fail, Stop, Answer, Number, Bytes, End, Done, Failed, Exchange, heard, stepped, stateAfter, exchanges, written, errorText, writtenOf, errorTextOf, brought, readBy, readOf, requestsOf}
+use Rattle.machines.proofs.{Leading.FitsRead, Leading.fits-read, Runs.throughout, Runs.read-next, Runs.written-next, Runs.error-text-next}
 use Rattle.machine_record.specs.Recorded.{longEnough, startNumber, recordedTrace, refusedLines, leftOver}
-use Rattle.machine_record.specs.{Records.standingAfter, Records.bytesAfter, Records.linesAfter, Promised.wordsIn, Promised.sizeGiven, Promised.sizeAsked}
+use Rattle.machine_record.specs.{Records.bytesOf, Records.lineOf, Records.standingAfter, Records.textsAfter, Records.bytesAfter, Records.linesAfter, Promised.wordsIn, Promised.sizeGiven, Promised.sizeAsked}
 use Rattle.machine_record.specs.Machine.{Position, State, counting, naming, beginning, writing, reporting, reading, ending, failing, stopped, machine, ask, next, mostToRead, toRead, toReport, toWrite, toEnd, counted, sized, begun as machine-begun, beginsWith, blockTaken, longestWord, largestBuffer}
 use Rattle.machine_record.proofs.Starts.{first, trace-is, lines-are}
-use Rattle.machine_record.proofs.Parts.{standing-append, left-append, bytes-append, lines-append}
-
-clash : {P : Type 0} → true ≡ false → P
-clash e = absurd (let z : _≡_ {A = ℕ} 0 1 = cc in omega arith)
+use Rattle.machine_record.proofs.Parts.{standing-append, left-append, texts-append}
 
 -- The size of the buffer is settled, whatever is asked from here on.
 abbrev Settled : ℕ → List Exchange → Type 0
@@ -62,23 +59,11 @@ module _ (talk : List Exchange) (e : Exchange) where
   abbrev more : List Exchange
   more = talk ++ (e ∷ [])
 
-  read-more : readOf more ≡ readOf talk ++ readBy (e .request) (e .answer)
-  unfolding readOf
-  read-more = read-then talk (e ∷ []) ∙ ap (λ (x : List ℕ). readOf talk ++ x) (append-nil (readBy (e .request) (e .answer)))
-
-  wrote-more : wrote more ≡ wrote talk ++ written (e .request)
-  unfolding requestsOf
-  wrote-more = ap writtenOf (requests-then talk (e ∷ [])) ∙ written-then (requestsOf talk) (e .request ∷ []) ∙ ap (λ (x : List ℕ). wrote talk ++ x) (written-one (e .request))
-
-  errors-more : errorsIn more ≡ errorsIn talk ++ errorText (e .request)
-  unfolding requestsOf
-  errors-more = ap errorTextOf (requests-then talk (e ∷ [])) ∙ error-text-then (requestsOf talk) (e .request ∷ []) ∙ ap (λ (x : List ℕ). errorsIn talk ++ x) (error-text-one (e .request))
-
   settled-more : (size : ℕ) → Settled size talk → Settled size more
   settled-more size h = λ k. ap sizeAsked (append-assoc talk (e ∷ []) k) ∙ h (e ∷ k)
 
   read-none : readBy (e .request) (e .answer) ≡ [] → readOf more ≡ readOf talk
-  read-none h = read-more ∙ ap (λ (x : List ℕ). readOf talk ++ x) h ∙ append-nil (readOf talk)
+  read-none h = read-next talk e ∙ ap (λ (x : List ℕ). readOf talk ++ x) h ∙ append-nil (readOf talk)
 
   -- Some of what is to be written or reported was asked for.
   at-more : (p : Position) (out lines out′ lines′ : List ℕ) → At p talk out lines → readBy (e .request) (e .answer) ≡ [] → written (e .request) ++ out′ ≡ out → errorText (e .request) ++ lines′ ≡ lines
@@ -93,13 +78,13 @@ module _ (talk : List Exchange) (e : Exchange) where
     standing = w .standing;
     rest = w .rest;
     all-written =
-        ap (λ (x : List ℕ). x ++ out′) wrote-more
+        ap (λ (x : List ℕ). x ++ out′) (written-next talk e)
         ∙ append-assoc (wrote talk) (written (e .request)) out′
         ∙ ap (λ (x : List ℕ). wrote talk ++ x) o
         ∙ w .all-written
         ∙ ap (recordedTrace (w .size)) (sym (read-none none-read));
     all-reported =
-        ap (λ (x : List ℕ). x ++ lines′) errors-more
+        ap (λ (x : List ℕ). x ++ lines′) (error-text-next talk e)
         ∙ append-assoc (errorsIn talk) (errorText (e .request)) lines′
         ∙ ap (λ (x : List ℕ). errorsIn talk ++ x) s
         ∙ w .all-reported
@@ -107,13 +92,13 @@ module _ (talk : List Exchange) (e : Exchange) where
   }
 
   over-more : (size : ℕ) → Settled size talk → readBy (e .request) (e .answer) ≡ [] → wrote talk ++ written (e .request) ≡ recordedTrace size (readOf talk) → Over more
-  over-more size h none-read o = (size, settled-more size h, wrote-more ∙ o ∙ ap (recordedTrace size) (sym (read-none none-read)))
+  over-more size h none-read o = (size, settled-more size h, written-next talk e ∙ o ∙ ap (recordedTrace size) (sym (read-none none-read)))
 
   over-silent : Over talk → readBy (e .request) (e .answer) ≡ [] → written (e .request) ≡ [] → Over more
   over-silent w none-read o = over-more (w .0) (w .1) none-read (ap (λ (x : List ℕ). wrote talk ++ x) o ∙ append-nil (wrote talk) ∙ w .2)
 
   nothing-more : Nothing talk → readBy (e .request) (e .answer) ≡ [] → written (e .request) ≡ [] → errorText (e .request) ≡ [] → Nothing more
-  nothing-more w r o s = (read-none r ∙ w .0, wrote-more ∙ ap (λ (x : List ℕ). wrote talk ++ x) o ∙ append-nil (wrote talk) ∙ w .1, errors-more ∙ ap (λ (x : List ℕ). errorsIn talk ++ x) s ∙ append-nil (errorsIn talk) ∙ w .2)
+  nothing-more w r o s = (read-none r ∙ w .0, written-next talk e ∙ ap (λ (x : List ℕ). wrote talk ++ x) o ∙ append-nil (wrote talk) ∙ w .1, error-text-next talk e ∙ ap (λ (x : List ℕ). errorsIn talk ++ x) s ∙ append-nil (errorsIn talk) ∙ w .2)
 
 -- Before anything is read, nothing is recorded.
 none-over : (size : ℕ) (talk : List Exchange) → Settled size talk → Nothing talk → Over talk
@@ -149,7 +134,7 @@ at-block : (p : Position) (talk : List Exchange) (e : Exchange) (m : List ℕ) �
 at-block p talk e m w brings o s =
     let f = first (w .size) (w .n) in
     let l = w .l in
-    let now-read : readOf (talk ++ (e ∷ [])) ≡ w .n ∷ (l ++ m) = read-more talk e ∙ ap (λ (x : List ℕ). readOf talk ++ x) brings ∙ ap (λ (x : List ℕ). x ++ m) (w .read) in
+    let now-read : readOf (talk ++ (e ∷ [])) ≡ w .n ∷ (l ++ m) = read-next talk e ∙ ap (λ (x : List ℕ). readOf talk ++ x) brings ∙ ap (λ (x : List ℕ). x ++ m) (w .read) in
     let block-is : p .rest ++ m ≡ leftOver l ++ m = ap (λ (x : List ℕ). x ++ m) (w .rest) in
     record {
       size = w .size;
@@ -161,16 +146,16 @@ at-block p talk e m w brings o s =
       standing = (λ j. standingAfter (w .standing j) (block-is j)) ∙ sym (standing-append f l m);
       rest = ap leftOver block-is ∙ sym (left-append l m);
       all-written =
-          ap (λ (x : List ℕ). x ++ bytesAfter (p .standing) (p .rest ++ m)) (wrote-more talk e ∙ ap (λ (x : List ℕ). wrote talk ++ x) o ∙ w .all-written ∙ ap (recordedTrace (w .size)) (w .read) ∙ trace-is (w .size) (w .n) l (w .fine))
+          ap (λ (x : List ℕ). x ++ bytesAfter (p .standing) (p .rest ++ m)) (written-next talk e ∙ ap (λ (x : List ℕ). wrote talk ++ x) o ∙ w .all-written ∙ ap (recordedTrace (w .size)) (w .read) ∙ trace-is (w .size) (w .n) l (w .fine))
           ∙ (λ j. ((w .n ∷ []) ++ bytesAfter f l) ++ bytesAfter (w .standing j) (block-is j))
           ∙ append-assoc (w .n ∷ []) (bytesAfter f l) (bytesAfter (standingAfter f l) (leftOver l ++ m))
-          ∙ ap (λ (x : List ℕ). (w .n ∷ []) ++ x) (sym (bytes-append f l m))
+          ∙ ap (λ (x : List ℕ). (w .n ∷ []) ++ x) (sym (texts-append bytesOf f l m))
           ∙ sym (trace-is (w .size) (w .n) (l ++ m) (w .fine))
           ∙ ap (recordedTrace (w .size)) (sym now-read);
       all-reported =
-          ap (λ (x : List ℕ). x ++ linesAfter (p .standing) (p .rest ++ m)) (errors-more talk e ∙ ap (λ (x : List ℕ). errorsIn talk ++ x) s ∙ w .all-reported ∙ ap (refusedLines (w .size)) (w .read) ∙ lines-are (w .size) (w .n) l (w .fine))
+          ap (λ (x : List ℕ). x ++ linesAfter (p .standing) (p .rest ++ m)) (error-text-next talk e ∙ ap (λ (x : List ℕ). errorsIn talk ++ x) s ∙ w .all-reported ∙ ap (refusedLines (w .size)) (w .read) ∙ lines-are (w .size) (w .n) l (w .fine))
           ∙ (λ j. linesAfter f l ++ linesAfter (w .standing j) (block-is j))
-          ∙ sym (lines-append f l m)
+          ∙ sym (texts-append lineOf f l m)
           ∙ sym (lines-are (w .size) (w .n) (l ++ m) (w .fine))
           ∙ ap (refusedLines (w .size)) (sym now-read);
     }
@@ -178,9 +163,9 @@ at-block p talk e m w brings o s =
 -- The start.
 at-start : (size n : ℕ) (talk : List Exchange) (e : Exchange) → Settled size talk → Nothing talk → readBy (e .request) (e .answer) ≡ n ∷ [] → written (e .request) ≡ [] → errorText (e .request) ≡ []
     → eqb (startNumber size n) 0 ≡ true → At (record { standing = first size n; rest = [] }) (talk ++ (e ∷ [])) (n ∷ []) []
-unfolding standingAfter leftOver bytesAfter linesAfter
+unfolding standingAfter leftOver textsAfter
 at-start size n talk e h w brings o s fine =
-    let now-read : readOf (talk ++ (e ∷ [])) ≡ n ∷ [] = read-more talk e ∙ ap (λ (x : List ℕ). readOf talk ++ x) brings ∙ ap (λ (x : List ℕ). x ++ (n ∷ [])) (w .0) in
+    let now-read : readOf (talk ++ (e ∷ [])) ≡ n ∷ [] = read-next talk e ∙ ap (λ (x : List ℕ). readOf talk ++ x) brings ∙ ap (λ (x : List ℕ). x ++ (n ∷ [])) (w .0) in
     record {
       size = size;
       settled = settled-more talk e size h;
@@ -191,11 +176,11 @@ at-start size n talk e h w brings o s fine =
       standing = refl;
       rest = refl;
       all-written =
-          ap (λ (x : List ℕ). x ++ (n ∷ [])) (wrote-more talk e ∙ ap (λ (x : List ℕ). wrote talk ++ x) o ∙ append-nil (wrote talk) ∙ w .1)
+          ap (λ (x : List ℕ). x ++ (n ∷ [])) (written-next talk e ∙ ap (λ (x : List ℕ). wrote talk ++ x) o ∙ append-nil (wrote talk) ∙ w .1)
           ∙ sym (trace-is size n [] fine)
           ∙ ap (recordedTrace size) (sym now-read);
       all-reported =
-          ap (λ (x : List ℕ). x ++ []) (errors-more talk e ∙ ap (λ (x : List ℕ). errorsIn talk ++ x) s ∙ append-nil (errorsIn talk) ∙ w .2)
+          ap (λ (x : List ℕ). x ++ []) (error-text-next talk e ∙ ap (λ (x : List ℕ). errorsIn talk ++ x) s ∙ append-nil (errorsIn talk) ∙ w .2)
           ∙ sym (lines-are size n [] fine)
           ∙ ap (refusedLines size) (sym now-read);
     }
@@ -204,60 +189,17 @@ refused-start : (size n : ℕ) (talk : List Exchange) (e : Exchange) → Settled
     → eqb (startNumber size n) 0 ≡ false → Over (talk ++ (e ∷ []))
 unfolding recordedTrace
 refused-start size n talk e h w brings o wrong =
-    let now-read : readOf (talk ++ (e ∷ [])) ≡ n ∷ [] = read-more talk e ∙ ap (λ (x : List ℕ). readOf talk ++ x) brings ∙ ap (λ (x : List ℕ). x ++ (n ∷ [])) (w .0) in
+    let now-read : readOf (talk ++ (e ∷ [])) ≡ n ∷ [] = read-next talk e ∙ ap (λ (x : List ℕ). readOf talk ++ x) brings ∙ ap (λ (x : List ℕ). x ++ (n ∷ [])) (w .0) in
     let nothing : recordedTrace size (n ∷ []) ≡ [] = rw wrong refl in
-    (size, settled-more talk e size h, wrote-more talk e ∙ ap (λ (x : List ℕ). wrote talk ++ x) o ∙ append-nil (wrote talk) ∙ w .1 ∙ sym nothing ∙ ap (recordedTrace size) (sym now-read))
+    (size, settled-more talk e size h, written-next talk e ∙ ap (λ (x : List ℕ). wrote talk ++ x) o ∙ append-nil (wrote talk) ∙ w .1 ∙ sym nothing ∙ ap (recordedTrace size) (sym now-read))
 
 -- An answer as it is taken fits what was asked for.
 abbrev pub Fits : State → Answer → Type 0
-Fits counting a = Unit {0}
-Fits naming a = Unit {0}
-Fits (beginning size) (Bytes m) = length m ≡ 1
-Fits (beginning size) (Number x) = Unit {0}
-Fits (beginning size) End = Unit {0}
-Fits (beginning size) Done = Unit {0}
-Fits (beginning size) Failed = Unit {0}
-Fits (writing out lines p) a = Unit {0}
-Fits (reporting lines p) a = Unit {0}
-Fits (reading p) (Bytes m) = (1 ≤ length m) × (length m ≤ mostToRead p)
-Fits (reading p) (Number x) = Unit {0}
-Fits (reading p) End = Unit {0}
-Fits (reading p) Done = Unit {0}
-Fits (reading p) Failed = Unit {0}
-Fits (ending text) a = Unit {0}
-Fits (failing text) a = Unit {0}
-Fits stopped a = Unit {0}
-
-and-true : (a b : Bool) → (a && b) ≡ true → (a ≡ true) × (b ≡ true)
-and-true true true h = (refl, refl)
-and-true true false h = clash (sym h)
-and-true false b h = clash (sym h)
-
-read-fits : (P : Answer → Type 0) (most : ℕ) (m : List ℕ) → (1 ≤ length m → length m ≤ most → P (Bytes m)) → P Failed → P (heardRead most (Bytes m))
-unfolding heardRead
-read-fits P most m fitting unfit = by-bool (leb 1 (length m) && leb (length m) most)
-    (λ h. let w = and-true (leb 1 (length m)) (leb (length m) most) h in rw h (fitting (leb-true 1 (length m) (w .0)) (leb-true (length m) most (w .1))))
-    (λ h. rw h unfit)
+Fits s b = (most : ℕ) → ask s ≡ Read most → FitsRead most b
 
 pub fits : (s : State) (a : Answer) → Fits s (heard (ask s) a)
-unfolding ask heard heardRead
-fits counting a = tt
-fits naming a = tt
-fits (beginning size) (Bytes m) = read-fits (Fits (beginning size)) 1 m (λ h k. omega (arith, h, k)) tt
-fits (beginning size) (Number x) = tt
-fits (beginning size) End = tt
-fits (beginning size) Done = tt
-fits (beginning size) Failed = tt
-fits (writing out lines p) a = tt
-fits (reporting lines p) a = tt
-fits (reading p) (Bytes m) = read-fits (Fits (reading p)) (mostToRead p) m (λ h k. (h, k)) tt
-fits (reading p) (Number x) = tt
-fits (reading p) End = tt
-fits (reading p) Done = tt
-fits (reading p) Failed = tt
-fits (ending text) a = tt
-fits (failing text) a = tt
-fits stopped a = tt
+unfolding heard
+fits s a most e = rw e (fits-read most a)
 
 -- The first two answers.
 settled-words : (e : Exchange) → eqb (wordsIn (e .answer)) 2 ≡ false → Settled longEnough (e ∷ [])
@@ -337,9 +279,9 @@ kept-next naming talk (Number x) fit h = over-asked (h .0) talk (Number x) (h .1
 kept-next naming talk End fit h = over-asked (h .0) talk End (h .1) (h .2) (h .3)
 kept-next naming talk Done fit h = over-asked (h .0) talk Done (h .1) (h .2) (h .3)
 kept-next naming talk Failed fit h = over-asked (h .0) talk Failed (h .1) (h .2) (h .3)
-kept-next (beginning size) talk (Bytes []) fit h = absurd (omega (arith, fit))
+kept-next (beginning size) talk (Bytes []) fit h = absurd (omega (arith, fit 1 refl))
 kept-next (beginning size) talk (Bytes (n ∷ [])) fit h = stands-begun size n talk (h .0) (h .1)
-kept-next (beginning size) talk (Bytes (n ∷ k ∷ l)) fit h = absurd (omega (arith, fit))
+kept-next (beginning size) talk (Bytes (n ∷ k ∷ l)) fit h = absurd (omega (arith, fit 1 refl))
 kept-next (beginning size) talk End fit h = over-begun size talk End refl (h .0) (h .1)
 kept-next (beginning size) talk (Number x) fit h = over-begun size talk (Number x) refl (h .0) (h .1)
 kept-next (beginning size) talk Done fit h = over-begun size talk Done refl (h .0) (h .1)

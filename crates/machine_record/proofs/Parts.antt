@@ -1,17 +1,17 @@
 -- Records part by part: what two parts come to, one after the other.
 -- Assumes nothing.
-use Rattle.laws.specs.Basics.{_≡_, refl, sym, _∙_, ap, List, [], _∷_, _++_, append-assoc, ℕ, _+_, _-_, _*_, _<_, arith, length}
-use Rattle.model.specs.Trace.{decoded}
+use Rattle.laws.specs.Basics.{_≡_, refl, sym, _∙_, ap, List, [], _∷_, _++_, append-assoc, Option, ℕ, _+_, _*_, _<_, arith, length}
+use Rattle.model.specs.{declared.Event.Event, Trace.decoded}
 use Rattle.machine_record.specs.Recorded.{wholeRecords, leftOver}
-use Rattle.machine_record.specs.Records.{Standing, standingNext, bytesOf, lineOf, standingAfter, bytesAfter, linesAfter}
+use Rattle.machine_record.specs.Records.{Standing, standingNext, standingAfter, textsAfter}
 
 -- Fewer than four bytes are no record.
-pub few-bytes : (g : Standing) (l : List ℕ) → length l < 4 → (standingAfter g l ≡ g) × (bytesAfter g l ≡ []) × (linesAfter g l ≡ []) × (leftOver l ≡ l)
-unfolding standingAfter bytesAfter linesAfter leftOver
-few-bytes g [] h = (refl, refl, refl, refl)
-few-bytes g (a ∷ []) h = (refl, refl, refl, refl)
-few-bytes g (a ∷ b ∷ []) h = (refl, refl, refl, refl)
-few-bytes g (a ∷ b ∷ c ∷ []) h = (refl, refl, refl, refl)
+pub few-bytes : (g : Standing) (l : List ℕ) → length l < 4 → (standingAfter g l ≡ g) × ((text : Standing → Option Event → List ℕ) → textsAfter text g l ≡ [])
+unfolding standingAfter textsAfter
+few-bytes g [] h = (refl, λ text. refl)
+few-bytes g (a ∷ []) h = (refl, λ text. refl)
+few-bytes g (a ∷ b ∷ []) h = (refl, λ text. refl)
+few-bytes g (a ∷ b ∷ c ∷ []) h = (refl, λ text. refl)
 few-bytes g (a ∷ b ∷ c ∷ d ∷ l) h = absurd (omega arith)
 
 pub left-few : (l : List ℕ) → length (leftOver l) < 4
@@ -55,24 +55,14 @@ left-append (a ∷ b ∷ []) m = refl
 left-append (a ∷ b ∷ c ∷ []) m = refl
 left-append (a ∷ b ∷ c ∷ d ∷ l) m = left-append l m
 
-pub bytes-append : (g : Standing) (l m : List ℕ) → bytesAfter g (l ++ m) ≡ bytesAfter g l ++ bytesAfter (standingAfter g l) (leftOver l ++ m)
-unfolding standingAfter leftOver bytesAfter
-bytes-append g [] m = refl
-bytes-append g (a ∷ []) m = refl
-bytes-append g (a ∷ b ∷ []) m = refl
-bytes-append g (a ∷ b ∷ c ∷ []) m = refl
-bytes-append g (a ∷ b ∷ c ∷ d ∷ l) m =
-    let o = decoded (a ∷ b ∷ c ∷ d ∷ []) in
-    let h = standingNext g o in
-    ap (λ (x : List ℕ). bytesOf g o ++ x) (bytes-append h l m) ∙ sym (append-assoc (bytesOf g o) (bytesAfter h l) (bytesAfter (standingAfter h l) (leftOver l ++ m)))
-
-pub lines-append : (g : Standing) (l m : List ℕ) → linesAfter g (l ++ m) ≡ linesAfter g l ++ linesAfter (standingAfter g l) (leftOver l ++ m)
-unfolding standingAfter leftOver linesAfter
-lines-append g [] m = refl
-lines-append g (a ∷ []) m = refl
-lines-append g (a ∷ b ∷ []) m = refl
-lines-append g (a ∷ b ∷ c ∷ []) m = refl
-lines-append g (a ∷ b ∷ c ∷ d ∷ l) m =
-    let o = decoded (a ∷ b ∷ c ∷ d ∷ []) in
-    let h = standingNext g o in
-    ap (λ (x : List ℕ). lineOf g o ++ x) (lines-append h l m) ∙ sym (append-assoc (lineOf g o) (linesAfter h l) (linesAfter (standingAfter h l) (leftOver l ++ m)))
+module _ (text : Standing → Option Event → List ℕ) where
+  pub texts-append : (g : Standing) (l m : List ℕ) → textsAfter text g (l ++ m) ≡ textsAfter text g l ++ textsAfter text (standingAfter g l) (leftOver l ++ m)
+  unfolding standingAfter leftOver textsAfter
+  texts-append g [] m = refl
+  texts-append g (a ∷ []) m = refl
+  texts-append g (a ∷ b ∷ []) m = refl
+  texts-append g (a ∷ b ∷ c ∷ []) m = refl
+  texts-append g (a ∷ b ∷ c ∷ d ∷ l) m =
+      let o = decoded (a ∷ b ∷ c ∷ d ∷ []) in
+      let h = standingNext g o in
+      ap (λ (x : List ℕ). text g o ++ x) (texts-append h l m) ∙ sym (append-assoc (text g o) (textsAfter text h l) (textsAfter text (standingAfter h l) (leftOver l ++ m)))

@@ -1,9 +1,9 @@
 -- The promises, proved.
 -- Assumes nothing.
-use Rattle.laws.specs.Basics.{_≡_, refl, sym, _∙_, ap, true, false, List, [], _∷_, _++_, append-nil, ℕ, _+_, _-_, _*_, _≤_, _<_, arith, eqb, ltb, length, ltb-true, ltb-false, by-bool}
+use Rattle.laws.specs.Basics.{_≡_, refl, sym, _∙_, ap, true, false, List, [], _∷_, _++_, append-nil, ℕ, _+_, _*_, _≤_, _<_, arith, eqb, ltb, length, ltb-true, ltb-false, by-bool}
 use Rattle.whole_runs.specs.Listing.{mostRecords}
-use Rattle.machines.specs.Machines.{Request, Read, Write, Say, Fail, Stop, Answer, Bytes, End, Failed, Exchange, heard, heardRead, stepped, stateAfter, asked, exchanges, written, errorText, writtenOf, errorTextOf, readOf, requestsOf}
-use Rattle.machines.proofs.Runs.{asked-is, error-text-then, error-text-one, written-is}
+use Rattle.machines.specs.Machines.{Request, Read, Write, Say, Fail, Stop, Answer, Bytes, End, Failed, Exchange, heard, heardRead, stepped, stateAfter, exchanges, written, errorText, writtenOf, errorTextOf, readOf, requestsOf}
+use Rattle.machines.proofs.Runs.{written-is, error-text-is}
 use Rattle.machine_record.specs.Recorded.{startNumber, recordedTrace, refusedLine, refusedLines, leftOver, endLine, lastLine}
 use Rattle.machine_record.specs.{Records.Standing, Records.standingAfter, Promised.sizeAsked, Promised.RecordsItsInput}
 use Rattle.machine_record.specs.Machine.{Position, State, counting, naming, beginning, writing, reporting, reading, ending, failing, stopped, machine, ask, next, mostToRead, toEnd, begun, beginsWith, inputName, outputName}
@@ -32,24 +32,29 @@ all-written (ending text) talk h = append-nil _ ∙ h .2 ∙ same-size (h .0) ta
 all-written (failing text) talk h = append-nil _ ∙ h .2 ∙ same-size (h .0) talk (h .1)
 all-written stopped talk h = append-nil _ ∙ h .2 ∙ same-size (h .0) talk (h .1)
 
+-- Two states ask to read.
+never : {P : Type 0} → _≡_ {A = ℕ} 0 1 → P
+never e = absurd (omega arith)
+
+asking : (P : State → Type 0) → ((size : ℕ) → P (beginning size)) → ((p : Position) → P (reading p)) → (s : State) (most : ℕ) → ask s ≡ Read most → P s
+unfolding ask
+asking P first-byte more counting most e = never (cc)
+asking P first-byte more naming most e = never (cc)
+asking P first-byte more (beginning size) most e = first-byte size
+asking P first-byte more (writing out lines p) most e = never (cc)
+asking P first-byte more (reporting lines p) most e = never (cc)
+asking P first-byte more (reading p) most e = more p
+asking P first-byte more (ending text) most e = never (cc)
+asking P first-byte more (failing text) most e = never (cc)
+asking P first-byte more stopped most e = never (cc)
+
 -- What was said, whenever bytes are asked for.
 all-reported : (s : State) (talk : List Exchange) (most : ℕ) → Stands s talk → ask s ≡ Read most → errorTextOf (requestsOf talk) ++ errorText (ask s) ≡ refusedLines (sizeAsked talk) (readOf talk)
 unfolding ask errorText refusedLines
-all-reported counting talk most h e = absurd (let z : _≡_ {A = ℕ} 0 1 = cc in omega arith)
-all-reported naming talk most h e = absurd (let z : _≡_ {A = ℕ} 0 1 = cc in omega arith)
-all-reported (beginning size) talk most h e = append-nil _ ∙ h .1 .2 ∙ ap (refusedLines (sizeAsked talk)) (sym (h .1 .0))
-all-reported (writing out lines p) talk most h e = absurd (let z : _≡_ {A = ℕ} 0 1 = cc in omega arith)
-all-reported (reporting lines p) talk most h e = absurd (let z : _≡_ {A = ℕ} 0 1 = cc in omega arith)
-all-reported (reading p) talk most h e = h .0 .all-reported ∙ ap (λ (k : ℕ). refusedLines k (readOf talk)) (size-is (h .0 .size) talk (h .0 .settled))
-all-reported (ending text) talk most h e = absurd (let z : _≡_ {A = ℕ} 0 1 = cc in omega arith)
-all-reported (failing text) talk most h e = absurd (let z : _≡_ {A = ℕ} 0 1 = cc in omega arith)
-all-reported stopped talk most h e = absurd (let z : _≡_ {A = ℕ} 0 1 = cc in omega arith)
-
-error-text-is : (answers : List Answer) → errorTextOf (asked machine answers) ≡ errorTextOf (requestsOf (exchanges machine answers)) ++ errorText (ask (stateAfter machine answers))
-error-text-is answers =
-    ap errorTextOf (asked-is machine answers)
-    ∙ error-text-then (requestsOf (exchanges machine answers)) (ask (stateAfter machine answers) ∷ [])
-    ∙ ap (λ (x : List ℕ). errorTextOf (requestsOf (exchanges machine answers)) ++ x) (error-text-one (ask (stateAfter machine answers)))
+all-reported s talk most h e = asking (λ (x : State). Stands x talk → errorTextOf (requestsOf talk) ++ errorText (ask x) ≡ refusedLines (sizeAsked talk) (readOf talk))
+    (λ size w. append-nil _ ∙ w .1 .2 ∙ ap (refusedLines (sizeAsked talk)) (sym (w .1 .0)))
+    (λ p w. w .0 .all-reported ∙ ap (λ (k : ℕ). refusedLines k (readOf talk)) (size-is (w .0 .size) talk (w .0 .settled)))
+    s most e h
 
 -- What is reported at the end of the input.
 end-reported : (text : List ℕ) → errorText (ask (toEnd text)) ≡ text
@@ -63,20 +68,14 @@ last-is size n l h = rw h (ap (λ (k : ℕ). endLine k (leftOver l)) (omega (ari
 
 all-ended : (s : State) (talk : List Exchange) (most : ℕ) → Stands s talk → ask s ≡ Read most → errorText (ask (stepped machine s End)) ≡ lastLine (sizeAsked talk) (readOf talk)
 unfolding ask stepped heard heardRead next errorText lastLine
-all-ended counting talk most h e = absurd (let z : _≡_ {A = ℕ} 0 1 = cc in omega arith)
-all-ended naming talk most h e = absurd (let z : _≡_ {A = ℕ} 0 1 = cc in omega arith)
-all-ended (beginning size) talk most h e = ap (lastLine (sizeAsked talk)) (sym (h .1 .0))
-all-ended (writing out lines p) talk most h e = absurd (let z : _≡_ {A = ℕ} 0 1 = cc in omega arith)
-all-ended (reporting lines p) talk most h e = absurd (let z : _≡_ {A = ℕ} 0 1 = cc in omega arith)
-all-ended (reading p) talk most h e =
-    let w = h .0 in
+all-ended s talk most h e = asking (λ (x : State). Stands x talk → errorText (ask (stepped machine x End)) ≡ lastLine (sizeAsked talk) (readOf talk))
+    (λ size w. ap (lastLine (sizeAsked talk)) (sym (w .1 .0)))
+    (λ p h. let w = h .0 in
     end-reported (endLine (p .standing .done) (p .rest))
     ∙ (λ j. endLine (w .standing j .done) (w .rest j))
     ∙ last-is (w .size) (w .n) (w .l) (w .fine)
-    ∙ (λ j. lastLine (size-is (w .size) talk (w .settled) j) (sym (w .read) j))
-all-ended (ending text) talk most h e = absurd (let z : _≡_ {A = ℕ} 0 1 = cc in omega arith)
-all-ended (failing text) talk most h e = absurd (let z : _≡_ {A = ℕ} 0 1 = cc in omega arith)
-all-ended stopped talk most h e = absurd (let z : _≡_ {A = ℕ} 0 1 = cc in omega arith)
+    ∙ (λ j. lastLine (size-is (w .size) talk (w .settled) j) (sym (w .read) j)))
+    s most e h
 
 -- How much is asked for.
 read-size : (m most : ℕ) → Read m ≡ Read most → m ≡ most
@@ -88,24 +87,14 @@ within p talk w few =
     let rest = ap (λ (x : List ℕ). length x) (w .rest) in
     let size = ap (λ (x : List ℕ). length x) (w .read) in
     let done = ap (λ (g : Standing). g .done) (w .standing) ∙ done-after (first (w .size) (w .n)) (w .l) in
-    (omega (arith, few, rest, left-few (w .l)), omega (arith, few, rest, size, done, counted (w .l), left-few (w .l)))
+    omega (arith, few, rest, size, done, counted (w .l), left-few (w .l))
 
 all-read : (s : State) (talk : List Exchange) (most : ℕ) → Stands s talk → ask s ≡ Read most → (1 ≤ most) × (length (readOf talk) + most ≤ 1 + 4 * mostRecords)
 unfolding ask
-all-read counting talk most h e = absurd (let z : _≡_ {A = ℕ} 0 1 = cc in omega arith)
-all-read naming talk most h e = absurd (let z : _≡_ {A = ℕ} 0 1 = cc in omega arith)
-all-read (beginning size) talk most h e =
-    let one = read-size 1 most e in
-    (omega (arith, one), omega (arith, one, ap (λ (x : List ℕ). length x) (h .1 .0)))
-all-read (writing out lines p) talk most h e = absurd (let z : _≡_ {A = ℕ} 0 1 = cc in omega arith)
-all-read (reporting lines p) talk most h e = absurd (let z : _≡_ {A = ℕ} 0 1 = cc in omega arith)
-all-read (reading p) talk most h e =
-    let m = read-size (mostToRead p) most e in
-    let w = within p talk (h .0) (h .1) in
-    (omega (arith, m, w .0), omega (arith, m, w .1))
-all-read (ending text) talk most h e = absurd (let z : _≡_ {A = ℕ} 0 1 = cc in omega arith)
-all-read (failing text) talk most h e = absurd (let z : _≡_ {A = ℕ} 0 1 = cc in omega arith)
-all-read stopped talk most h e = absurd (let z : _≡_ {A = ℕ} 0 1 = cc in omega arith)
+all-read s talk most h e = asking (λ (x : State). Stands x talk → ask x ≡ Read most → (1 ≤ most) × (length (readOf talk) + most ≤ 1 + 4 * mostRecords))
+    (λ size w f. omega (arith, read-size 1 most f, ap (λ (x : List ℕ). length x) (w .1 .0)))
+    (λ p w f. omega (arith, read-size (mostToRead p) most f, within p talk (w .0) (w .1)))
+    s most e h e
 
 -- A first byte that is refused.
 start-refused : (size n : ℕ) → eqb (startNumber size n) 0 ≡ false → ask (stepped machine (beginning size) (Bytes (n ∷ []))) ≡ Say (refusedLine 0 (startNumber size n))
@@ -115,39 +104,34 @@ start-refused size n h = rw h refl
 -- Errors.
 fails-on-read : (s : State) (most : ℕ) (a : Answer) → ask s ≡ Read most → heard (Read most) a ≡ Failed → ask (stepped machine s a) ≡ Fail inputName
 unfolding stepped ask next
-fails-on-read counting most a e f = absurd (let z : _≡_ {A = ℕ} 0 1 = cc in omega arith)
-fails-on-read naming most a e f = absurd (let z : _≡_ {A = ℕ} 0 1 = cc in omega arith)
-fails-on-read (beginning size) most a e f = rw (ap (λ (r : Request). heard r a) e ∙ f) refl
-fails-on-read (writing out lines p) most a e f = absurd (let z : _≡_ {A = ℕ} 0 1 = cc in omega arith)
-fails-on-read (reporting lines p) most a e f = absurd (let z : _≡_ {A = ℕ} 0 1 = cc in omega arith)
-fails-on-read (reading p) most a e f = rw (ap (λ (r : Request). heard r a) e ∙ f) refl
-fails-on-read (ending text) most a e f = absurd (let z : _≡_ {A = ℕ} 0 1 = cc in omega arith)
-fails-on-read (failing text) most a e f = absurd (let z : _≡_ {A = ℕ} 0 1 = cc in omega arith)
-fails-on-read stopped most a e f = absurd (let z : _≡_ {A = ℕ} 0 1 = cc in omega arith)
+fails-on-read s most a e f = asking (λ (x : State). heard (ask x) a ≡ Failed → ask (stepped machine x a) ≡ Fail inputName)
+    (λ size g. rw g refl)
+    (λ p g. rw g refl)
+    s most e (ap (λ (r : Request). heard r a) e ∙ f)
 
 fails-on-write : (s : State) (text : List ℕ) (a : Answer) → ask s ≡ Write text → heard (Write text) a ≡ Failed → ask (stepped machine s a) ≡ Fail outputName
 unfolding stepped ask next
-fails-on-write counting text a e f = absurd (let z : _≡_ {A = ℕ} 0 1 = cc in omega arith)
-fails-on-write naming text a e f = absurd (let z : _≡_ {A = ℕ} 0 1 = cc in omega arith)
-fails-on-write (beginning size) text a e f = absurd (let z : _≡_ {A = ℕ} 0 1 = cc in omega arith)
+fails-on-write counting text a e f = cc
+fails-on-write naming text a e f = cc
+fails-on-write (beginning size) text a e f = cc
 fails-on-write (writing out lines p) text a e f = rw (ap (λ (r : Request). heard r a) e ∙ f) refl
-fails-on-write (reporting lines p) text a e f = absurd (let z : _≡_ {A = ℕ} 0 1 = cc in omega arith)
-fails-on-write (reading p) text a e f = absurd (let z : _≡_ {A = ℕ} 0 1 = cc in omega arith)
-fails-on-write (ending text′) text a e f = absurd (let z : _≡_ {A = ℕ} 0 1 = cc in omega arith)
-fails-on-write (failing text′) text a e f = absurd (let z : _≡_ {A = ℕ} 0 1 = cc in omega arith)
-fails-on-write stopped text a e f = absurd (let z : _≡_ {A = ℕ} 0 1 = cc in omega arith)
+fails-on-write (reporting lines p) text a e f = cc
+fails-on-write (reading p) text a e f = cc
+fails-on-write (ending text′) text a e f = cc
+fails-on-write (failing text′) text a e f = cc
+fails-on-write stopped text a e f = cc
 
 after-failure : (s : State) (text : List ℕ) (a : Answer) → ask s ≡ Fail text → ask (stepped machine s a) ≡ Stop
 unfolding stepped ask next
-after-failure counting text a e = absurd (let z : _≡_ {A = ℕ} 0 1 = cc in omega arith)
-after-failure naming text a e = absurd (let z : _≡_ {A = ℕ} 0 1 = cc in omega arith)
-after-failure (beginning size) text a e = absurd (let z : _≡_ {A = ℕ} 0 1 = cc in omega arith)
-after-failure (writing out lines p) text a e = absurd (let z : _≡_ {A = ℕ} 0 1 = cc in omega arith)
-after-failure (reporting lines p) text a e = absurd (let z : _≡_ {A = ℕ} 0 1 = cc in omega arith)
-after-failure (reading p) text a e = absurd (let z : _≡_ {A = ℕ} 0 1 = cc in omega arith)
-after-failure (ending text′) text a e = absurd (let z : _≡_ {A = ℕ} 0 1 = cc in omega arith)
+after-failure counting text a e = cc
+after-failure naming text a e = cc
+after-failure (beginning size) text a e = cc
+after-failure (writing out lines p) text a e = cc
+after-failure (reporting lines p) text a e = cc
+after-failure (reading p) text a e = cc
+after-failure (ending text′) text a e = cc
 after-failure (failing text′) text a e = refl
-after-failure stopped text a e = absurd (let z : _≡_ {A = ℕ} 0 1 = cc in omega arith)
+after-failure stopped text a e = cc
 
 after-text : (text : List ℕ) (a : Answer) → ask (stepped machine (toEnd text) a) ≡ Stop
 unfolding stepped ask next toEnd
@@ -156,15 +140,10 @@ after-text (b ∷ text) a = refl
 
 after-end : (s : State) (most : ℕ) (a : Answer) → ask s ≡ Read most → ask (stepped machine (stepped machine s End) a) ≡ Stop
 unfolding stepped ask next heard heardRead
-after-end counting most a e = absurd (let z : _≡_ {A = ℕ} 0 1 = cc in omega arith)
-after-end naming most a e = absurd (let z : _≡_ {A = ℕ} 0 1 = cc in omega arith)
-after-end (beginning size) most a e = refl
-after-end (writing out lines p) most a e = absurd (let z : _≡_ {A = ℕ} 0 1 = cc in omega arith)
-after-end (reporting lines p) most a e = absurd (let z : _≡_ {A = ℕ} 0 1 = cc in omega arith)
-after-end (reading p) most a e = after-text (endLine (p .standing .done) (p .rest)) a
-after-end (ending text) most a e = absurd (let z : _≡_ {A = ℕ} 0 1 = cc in omega arith)
-after-end (failing text) most a e = absurd (let z : _≡_ {A = ℕ} 0 1 = cc in omega arith)
-after-end stopped most a e = absurd (let z : _≡_ {A = ℕ} 0 1 = cc in omega arith)
+after-end s most a e = asking (λ (x : State). ask (stepped machine (stepped machine x End) a) ≡ Stop)
+    (λ size. refl)
+    (λ p. after-text (endLine (p .standing .done) (p .rest)) a)
+    s most e
 
 all-stops : (answers : List Answer) → 4 + 3 * length (readOf (exchanges machine answers)) ≤ length (exchanges machine answers) → ask (stateAfter machine answers) ≡ Stop
 all-stops answers h =
@@ -174,7 +153,7 @@ all-stops answers h =
 pub records-its-input : RecordsItsInput
 records-its-input = record {
   written = λ answers. written-is machine answers ∙ all-written (stateAfter machine answers) (exchanges machine answers) (stands answers);
-  reported = λ answers most e. error-text-is answers ∙ all-reported (stateAfter machine answers) (exchanges machine answers) most (stands answers) e;
+  reported = λ answers most e. error-text-is machine answers ∙ all-reported (stateAfter machine answers) (exchanges machine answers) most (stands answers) e;
   ended = λ answers most e. all-ended (stateAfter machine answers) (exchanges machine answers) most (stands answers) e;
   refused = start-refused;
   reads = λ answers most e. all-read (stateAfter machine answers) (exchanges machine answers) most (stands answers) e;

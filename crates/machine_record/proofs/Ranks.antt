@@ -1,10 +1,10 @@
 -- The machine stops: each answer brings it nearer to its end, or brings bytes.
 -- Assumes nothing.
-use Rattle.laws.specs.Basics.{_≡_, refl, _∙_, ap, List, [], _∷_, _++_, append-nil, ℕ, _+_, _-_, _*_, _≤_, _<_, arith, eqb, ltb, length, length-append, ltb-true, ltb-false, by-bool}
+use Rattle.laws.specs.Basics.{_≡_, refl, _∙_, ap, List, [], _∷_, _++_, ℕ, _+_, _-_, _*_, _≤_, _<_, arith, eqb, ltb, length, length-append, ltb-true, ltb-false, by-bool}
 use Rattle.whole_runs.specs.Listing.{mostRecords}
 use Rattle.machines.specs.programs.Numbers.{numberIn}
 use Rattle.machines.specs.Machines.{Stop, Answer, Number, Bytes, End, Done, Failed, Exchange, Ends, heard, stepped, brought, readBy, readOf, exchanges, stateAfter}
-use Rattle.machines.proofs.Runs.{throughout, read-then}
+use Rattle.machines.proofs.{Runs.throughout, Runs.read-next}
 use Rattle.machine_record.specs.{Recorded.startNumber, Recorded.endLine, Recorded.leftOver, Records.standingAfter, Records.bytesAfter, Records.linesAfter}
 use Rattle.machine_record.specs.Machine.{Position, State, counting, naming, beginning, writing, reporting, reading, ending, failing, stopped, machine, ask, next, mostToRead, toRead, toReport, toWrite, toEnd, counted, sized, begun, beginsWith, blockTaken, largestBuffer}
 use Rattle.machine_record.proofs.{Parts.counted as all-counted, Parts.done-after, Observed.Fits, Observed.fits}
@@ -41,34 +41,34 @@ Within s most-rank most-unread = (rank s ≤ most-rank) × (unread s ≤ most-un
 
 read-within : (p : Position) → Within (toRead p) 2 (bytesLeft p)
 unfolding toRead rank unread
-read-within p = by-bool (ltb (p .standing .done) mostRecords) (λ t. rw t (omega arith, omega arith)) (λ t. rw t (omega arith, omega arith))
+read-within p = by-bool (ltb (p .standing .done) mostRecords) (λ t. rw t omega arith) (λ t. rw t omega arith)
 
 report-within : (lines : List ℕ) (p : Position) → Within (toReport lines p) 3 (bytesLeft p)
 unfolding toReport rank unread
-report-within [] p = let w = read-within p in (omega (arith, w .0), w .1)
-report-within (b ∷ lines) p = (omega arith, omega arith)
+report-within [] p = omega (arith, read-within p)
+report-within (b ∷ lines) p = omega arith
 
 write-within : (out lines : List ℕ) (p : Position) → Within (toWrite out lines p) 4 (bytesLeft p)
 unfolding toWrite rank unread
-write-within [] lines p = let w = report-within lines p in (omega (arith, w .0), w .1)
-write-within (b ∷ out) lines p = (omega arith, omega arith)
+write-within [] lines p = omega (arith, report-within lines p)
+write-within (b ∷ out) lines p = omega arith
 
 end-within : (text : List ℕ) → Within (toEnd text) 1 0
 unfolding toEnd rank unread
-end-within [] = (omega arith, omega arith)
-end-within (b ∷ text) = (omega arith, omega arith)
+end-within [] = omega arith
+end-within (b ∷ text) = omega arith
 
 counted-within : (words : ℕ) → Within (counted words) 3 (1 + 4 * mostRecords)
 unfolding counted rank unread
-counted-within words = by-bool (ltb words 2) (λ t. rw t (omega arith, omega arith)) (λ t. by-bool (eqb words 2) (λ u. rw (t, u) (omega arith, omega arith)) (λ u. rw (t, u) (omega arith, omega arith)))
+counted-within words = by-bool (ltb words 2) (λ t. rw t omega arith) (λ t. by-bool (eqb words 2) (λ u. rw (t, u) omega arith) (λ u. rw (t, u) omega arith))
 
 sized-within : (size : ℕ) → Within (sized size) 2 (1 + 4 * mostRecords)
 unfolding sized rank unread
-sized-within size = by-bool (ltb largestBuffer size) (λ t. rw t (omega arith, omega arith)) (λ t. rw t (omega arith, omega arith))
+sized-within size = by-bool (ltb largestBuffer size) (λ t. rw t omega arith) (λ t. rw t omega arith)
 
 begun-within : (size n : ℕ) → Within (begun size n) 4 (4 * mostRecords)
 unfolding begun rank unread bytesLeft
-begun-within size n = by-bool (eqb (startNumber size n) 0) (λ t. rw t (omega arith, omega arith)) (λ t. rw t (omega arith, omega arith))
+begun-within size n = by-bool (eqb (startNumber size n) 0) (λ t. rw t omega arith) (λ t. rw t omega arith)
 
 -- A block brings its bytes.
 block-left : (p : Position) (m : List ℕ) → 1 ≤ length m → length m ≤ mostToRead p → let block = p .rest ++ m in
@@ -83,65 +83,62 @@ Nearer s b = (rank (next s b) + 1 ≤ rank s + 3 * length (readBy (ask s) b)) ×
 
 pub nearer : (s : State) (b : Answer) → Fits s b → 1 ≤ rank s → Nearer s b
 unfolding rank unread ask next beginsWith blockTaken readBy brought
-nearer counting (Number words) fit h = let w = (counted-within words) in (omega (arith, w .0), omega (arith, w .1))
-nearer counting (Bytes l) fit h = (omega arith, omega arith)
-nearer counting End fit h = (omega arith, omega arith)
-nearer counting Done fit h = (omega arith, omega arith)
-nearer counting Failed fit h = (omega arith, omega arith)
-nearer naming (Bytes word) fit h = let w = (sized-within (numberIn word)) in (omega (arith, w .0), omega (arith, w .1))
-nearer naming (Number x) fit h = (omega arith, omega arith)
-nearer naming End fit h = (omega arith, omega arith)
-nearer naming Done fit h = (omega arith, omega arith)
-nearer naming Failed fit h = (omega arith, omega arith)
-nearer (beginning size) (Bytes []) fit h = absurd (omega (arith, fit))
-nearer (beginning size) (Bytes (n ∷ [])) fit h = let w = begun-within size n in (omega (arith, w .0), omega (arith, w .1))
-nearer (beginning size) (Bytes (n ∷ k ∷ l)) fit h = absurd (omega (arith, fit))
-nearer (beginning size) End fit h = (omega arith, omega arith)
-nearer (beginning size) (Number x) fit h = (omega arith, omega arith)
-nearer (beginning size) Done fit h = (omega arith, omega arith)
-nearer (beginning size) Failed fit h = (omega arith, omega arith)
-nearer (writing out lines p) Done fit h = let w = (report-within lines p) in (omega (arith, w .0), omega (arith, w .1))
-nearer (writing out lines p) (Number x) fit h = (omega arith, omega arith)
-nearer (writing out lines p) (Bytes l) fit h = (omega arith, omega arith)
-nearer (writing out lines p) End fit h = (omega arith, omega arith)
-nearer (writing out lines p) Failed fit h = (omega arith, omega arith)
-nearer (reporting lines p) b fit h = let w = (read-within p) in (omega (arith, w .0), omega (arith, w .1))
+nearer counting (Number words) fit h = omega (arith, counted-within words)
+nearer counting (Bytes l) fit h = omega arith
+nearer counting End fit h = omega arith
+nearer counting Done fit h = omega arith
+nearer counting Failed fit h = omega arith
+nearer naming (Bytes word) fit h = omega (arith, sized-within (numberIn word))
+nearer naming (Number x) fit h = omega arith
+nearer naming End fit h = omega arith
+nearer naming Done fit h = omega arith
+nearer naming Failed fit h = omega arith
+nearer (beginning size) (Bytes []) fit h = absurd (omega (arith, fit 1 refl))
+nearer (beginning size) (Bytes (n ∷ [])) fit h = omega (arith, begun-within size n)
+nearer (beginning size) (Bytes (n ∷ k ∷ l)) fit h = absurd (omega (arith, fit 1 refl))
+nearer (beginning size) End fit h = omega arith
+nearer (beginning size) (Number x) fit h = omega arith
+nearer (beginning size) Done fit h = omega arith
+nearer (beginning size) Failed fit h = omega arith
+nearer (writing out lines p) Done fit h = omega (arith, report-within lines p)
+nearer (writing out lines p) (Number x) fit h = omega arith
+nearer (writing out lines p) (Bytes l) fit h = omega arith
+nearer (writing out lines p) End fit h = omega arith
+nearer (writing out lines p) Failed fit h = omega arith
+nearer (reporting lines p) b fit h = omega (arith, read-within p)
 nearer (reading p) (Bytes m) fit h =
     let block = p .rest ++ m in
     let w = write-within (bytesAfter (p .standing) block) (linesAfter (p .standing) block) (record { standing = standingAfter (p .standing) block; rest = leftOver block }) in
-    (omega (arith, w .0, fit .0), omega (arith, w .1, block-left p m (fit .0) (fit .1)))
-nearer (reading p) End fit h = let w = end-within (endLine (p .standing .done) (p .rest)) in (omega (arith, w .0), omega (arith, w .1))
-nearer (reading p) (Number x) fit h = (omega arith, omega arith)
-nearer (reading p) Done fit h = (omega arith, omega arith)
-nearer (reading p) Failed fit h = (omega arith, omega arith)
-nearer (ending text) b fit h = (omega arith, omega arith)
-nearer (failing text) b fit h = (omega arith, omega arith)
+    let few = fit (mostToRead p) refl in
+    omega (arith, w, few, block-left p m (few .0) (few .1))
+nearer (reading p) End fit h = omega (arith, end-within (endLine (p .standing .done) (p .rest)))
+nearer (reading p) (Number x) fit h = omega arith
+nearer (reading p) Done fit h = omega arith
+nearer (reading p) Failed fit h = omega arith
+nearer (ending text) b fit h = omega arith
+nearer (failing text) b fit h = omega arith
 nearer stopped b fit h = absurd (omega (arith, h))
 
--- A machine that has stopped stays so.
+-- A machine that has stopped: no answer brings it nearer, and it asks for nothing.
+is-stopped : (s : State) → rank s < 1 → s ≡ stopped
+unfolding rank
+is-stopped counting h = absurd (omega (arith, h))
+is-stopped naming h = absurd (omega (arith, h))
+is-stopped (beginning size) h = absurd (omega (arith, h))
+is-stopped (writing out lines p) h = absurd (omega (arith, h))
+is-stopped (reporting lines p) h = absurd (omega (arith, h))
+is-stopped (reading p) h = absurd (omega (arith, h))
+is-stopped (ending text) h = absurd (omega (arith, h))
+is-stopped (failing text) h = absurd (omega (arith, h))
+is-stopped stopped h = refl
+
 still : (s : State) (b : Answer) → rank s < 1 → rank (next s b) ≡ 0
 unfolding rank next
-still counting b h = absurd (omega (arith, h))
-still naming b h = absurd (omega (arith, h))
-still (beginning size) b h = absurd (omega (arith, h))
-still (writing out lines p) b h = absurd (omega (arith, h))
-still (reporting lines p) b h = absurd (omega (arith, h))
-still (reading p) b h = absurd (omega (arith, h))
-still (ending text) b h = absurd (omega (arith, h))
-still (failing text) b h = absurd (omega (arith, h))
-still stopped b h = refl
+still s b h = rw (is-stopped s h)
 
 pub no-rank : (s : State) → rank s < 1 → ask s ≡ Stop
-unfolding rank ask
-no-rank counting h = absurd (omega (arith, h))
-no-rank naming h = absurd (omega (arith, h))
-no-rank (beginning size) h = absurd (omega (arith, h))
-no-rank (writing out lines p) h = absurd (omega (arith, h))
-no-rank (reporting lines p) h = absurd (omega (arith, h))
-no-rank (reading p) h = absurd (omega (arith, h))
-no-rank (ending text) h = absurd (omega (arith, h))
-no-rank (failing text) h = absurd (omega (arith, h))
-no-rank stopped h = refl
+unfolding ask
+no-rank s h = rw (is-stopped s h)
 
 some-rank : (s : State) → (ask s ≡ Stop → ⊥) → 1 ≤ rank s
 some-rank s h = by-bool (ltb (rank s) 1) (λ t. absurd (h (no-rank s (ltb-true (rank s) 1 t)))) (λ t. ltb-false (rank s) 1 t)
@@ -151,11 +148,7 @@ abbrev Counts : State → List Exchange → Type 0
 Counts s talk = 1 ≤ rank s → length talk + rank s ≤ 4 + 3 * length (readOf talk)
 
 length-read : (talk : List Exchange) (e : Exchange) → length (readOf (talk ++ (e ∷ []))) ≡ length (readOf talk) + length (readBy (e .request) (e .answer))
-unfolding readOf
-length-read talk e =
-    ap (λ (x : List ℕ). length x) (read-then talk (e ∷ []))
-    ∙ length-append (readOf talk) (readBy (e .request) (e .answer) ++ [])
-    ∙ ap (λ (k : ℕ). length (readOf talk) + k) (ap (λ (x : List ℕ). length x) (append-nil (readBy (e .request) (e .answer))))
+length-read talk e = ap (λ (x : List ℕ). length x) (read-next talk e) ∙ length-append (readOf talk) (readBy (e .request) (e .answer))
 
 counts-next : (s : State) (talk : List Exchange) (b : Answer) → Fits s b → Counts s talk → Counts (next s b) (talk ++ (record { request = ask s; answer = b } ∷ []))
 counts-next s talk b fit h = by-bool (ltb (rank s) 1)
@@ -171,26 +164,22 @@ unfolding stepped rank readOf
 counts answers = throughout machine Counts (λ s talk a h. counts-next s talk (heard (ask s) a) (fits s a) h) (λ k. omega arith) answers
 
 -- And a number falls with each answer.
-is-stopped : (s : State) → ask s ≡ Stop → s ≡ stopped
-unfolding ask
-is-stopped counting e = absurd (let z : _≡_ {A = ℕ} 0 1 = cc in omega arith)
-is-stopped naming e = absurd (let z : _≡_ {A = ℕ} 0 1 = cc in omega arith)
-is-stopped (beginning size) e = absurd (let z : _≡_ {A = ℕ} 0 1 = cc in omega arith)
-is-stopped (writing out lines p) e = absurd (let z : _≡_ {A = ℕ} 0 1 = cc in omega arith)
-is-stopped (reporting lines p) e = absurd (let z : _≡_ {A = ℕ} 0 1 = cc in omega arith)
-is-stopped (reading p) e = absurd (let z : _≡_ {A = ℕ} 0 1 = cc in omega arith)
-is-stopped (ending text) e = absurd (let z : _≡_ {A = ℕ} 0 1 = cc in omega arith)
-is-stopped (failing text) e = absurd (let z : _≡_ {A = ℕ} 0 1 = cc in omega arith)
-is-stopped stopped e = refl
-
-stopped-stays : (s : State) (b : Answer) → s ≡ stopped → ask (next s b) ≡ Stop
+stops-again : (s : State) (b : Answer) → ask s ≡ Stop → ask (next s b) ≡ Stop
 unfolding ask next
-stopped-stays s b e = rw e refl
+stops-again counting b e = cc
+stops-again naming b e = cc
+stops-again (beginning size) b e = cc
+stops-again (writing out lines p) b e = cc
+stops-again (reporting lines p) b e = cc
+stops-again (reading p) b e = cc
+stops-again (ending text) b e = cc
+stops-again (failing text) b e = cc
+stops-again stopped b e = refl
 
 pub machine-ends : Ends machine
 unfolding stepped
 machine-ends = record {
   left = λ s. rank s + 3 * unread s;
   falls = λ s a h. let w = nearer s (heard (ask s) a) (fits s a) (some-rank s h) in omega (arith, w .0, w .1);
-  stays = λ s a e. stopped-stays s (heard (ask s) a) (is-stopped s e);
+  stays = λ s a e. stops-again s (heard (ask s) a) e;
 }

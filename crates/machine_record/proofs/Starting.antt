@@ -1,6 +1,6 @@
 -- A start in place through the recorder, in a buffer of no byte or one, and the start in a long buffer.
 -- Assumes nothing.
-use Rattle.laws.specs.Basics.{_≡_, refl, sym, _∙_, ap, true, false, _&&_, List, [], _∷_, _++_, none, ℕ, _+_, _-_, _≤_, min, arith, eqb, ltb, length, take, drop, length-append, length-replicate, length-drop, sets, length-take-le, eq-eqb, ne-eqb, lt-ltb, le-ltb, ltb-true, ltb-false, by-bool}
+use Rattle.laws.specs.Basics.{_≡_, refl, sym, _∙_, ap, true, false, List, [], _∷_, _++_, none, ℕ, _+_, _-_, _≤_, min, arith, eqb, ltb, length, take, drop, length-append, length-replicate, length-drop, sets, length-take-le, eq-eqb, ne-eqb, lt-ltb, le-ltb, ltb-true, ltb-false, by-bool}
 use Rattle.model.specs.declared.{Refusal.Refusal, Refusal.the-variants.BufferTooShort, StartAnswer.StartAnswer, StartAnswer.the-variants.Refused}
 use Rattle.model.specs.{Words.ones, Steps.startState, Refusals.startRefusal, laws.Refusals.by-refusal}
 use Rattle.whole_runs.specs.Outcomes.{Outcome, Report, startReport, startOutcome}

@@ -3,7 +3,7 @@
 use Rattle.laws.specs.Basics.{_≡_, refl, sym, ap, subst, Bool, true, false, not, _&&_, List, ℕ, _-_, _*_, _≤_, min, arith, eqb, leb, length, take, length-take-le, eqb-true, leb-true, by-bool}
 use Rattle.laws.specs.Truth.{and-left, and-right}
 use Rattle.whole_runs.specs.Listing.{mostRecords}
-use Rattle.machines.specs.Machines.{Request, Read, Stop, Answer, stepped}
+use Rattle.machines.specs.Machines.{Read, Answer, stepped}
 use Rattle.machines.specs.Forms.{Asks, requestOf, Placed, GoesTo, answerOf}
 use Rattle.machine_record.specs.declared.marks.Marks.{Marks}
 use Rattle.machine_record.specs.{Machine.State, Machine.machine, Machine.ask, Machine.next, Machine.mostToRead, Machine.blockBytes, Played.blockLines}

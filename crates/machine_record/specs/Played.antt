@@ -1,6 +1,6 @@
 -- What the functions leave that take records: in the words of the recorder.
 -- Assumes nothing.
-use Rattle.laws.specs.Basics.{_≡_, List, Option, ℕ, _+_, _-_, _≤_, ltb, length, take, sets, pick}
+use Rattle.laws.specs.Basics.{_≡_, List, Option, ℕ, _+_, _≤_, ltb, length, take, sets, pick}
 use Rattle.model.specs.declared.{Event.Event, Run.Run}
 use Rattle.theory_recording.specs.Recording.{Tape}
 use Rattle.machine_record.specs.{declared.calls.Played.Played, declared.block.Taken.Taken, Recorded.recordedIn}

@@ -28,7 +28,7 @@ bytesOf g o = inFront (taken g o .tape)
 unfoldable pub lineOf : Standing → Option Event → List ℕ
 lineOf g o = lineFor (g .done + 1) (taken g o .reply .report .refused)
 
--- The whole records of some bytes: where the recorder stands after them, what it wrote, and what is reported of them.
+-- The whole records of some bytes: where the recorder stands after them,
 unfoldable pub standingAfter : Standing → List ℕ → Standing
 standingAfter g [] = g
 standingAfter g (a ∷ []) = g
@@ -36,19 +36,20 @@ standingAfter g (a ∷ b ∷ []) = g
 standingAfter g (a ∷ b ∷ c ∷ []) = g
 standingAfter g (a ∷ b ∷ c ∷ d ∷ l) = standingAfter (standingNext g (decoded (a ∷ b ∷ c ∷ d ∷ []))) l
 
-unfoldable pub bytesAfter : Standing → List ℕ → List ℕ
-bytesAfter g [] = []
-bytesAfter g (a ∷ []) = []
-bytesAfter g (a ∷ b ∷ []) = []
-bytesAfter g (a ∷ b ∷ c ∷ []) = []
-bytesAfter g (a ∷ b ∷ c ∷ d ∷ l) = bytesOf g (decoded (a ∷ b ∷ c ∷ d ∷ [])) ++ bytesAfter (standingNext g (decoded (a ∷ b ∷ c ∷ d ∷ []))) l
+-- the texts that `text` gives of each of them, one after the other,
+unfoldable pub textsAfter : (Standing → Option Event → List ℕ) → Standing → List ℕ → List ℕ
+textsAfter text g [] = []
+textsAfter text g (a ∷ []) = []
+textsAfter text g (a ∷ b ∷ []) = []
+textsAfter text g (a ∷ b ∷ c ∷ []) = []
+textsAfter text g (a ∷ b ∷ c ∷ d ∷ l) = text g (decoded (a ∷ b ∷ c ∷ d ∷ [])) ++ textsAfter text (standingNext g (decoded (a ∷ b ∷ c ∷ d ∷ []))) l
 
-unfoldable pub linesAfter : Standing → List ℕ → List ℕ
-linesAfter g [] = []
-linesAfter g (a ∷ []) = []
-linesAfter g (a ∷ b ∷ []) = []
-linesAfter g (a ∷ b ∷ c ∷ []) = []
-linesAfter g (a ∷ b ∷ c ∷ d ∷ l) = lineOf g (decoded (a ∷ b ∷ c ∷ d ∷ [])) ++ linesAfter (standingNext g (decoded (a ∷ b ∷ c ∷ d ∷ []))) l
+-- so what it wrote, and what is reported of them.
+abbrev pub bytesAfter : Standing → List ℕ → List ℕ
+bytesAfter = textsAfter bytesOf
+
+abbrev pub linesAfter : Standing → List ℕ → List ℕ
+linesAfter = textsAfter lineOf
 
 -- A long buffer that stands where an emptied one does: the same state, and as many bytes left.
 pub record StandsAt (g : Standing) (t : Tape) : Type 0 where

@@ -5,3 +5,4 @@ pub mod Hearing
 pub mod Answers
 pub mod Driving
 pub mod Reporting
+pub mod Leading

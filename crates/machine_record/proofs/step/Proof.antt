@@ -1,5 +1,5 @@
 -- `machine_record::step` meets its contract. Assumes nothing.
-use Rattle.laws.specs.Basics.{_≡_, sym, _∙_, ap, length, needs}
+use Rattle.laws.specs.Basics.{sym, _∙_, ap, length, needs}
 use Rattle.machine_record.specs.declared.marks.Marks.{Marks}
 use Rattle.machine_record.specs.Lent.{inBounds}
 use Rattle.machine_record.proofs.Stepping.{negated, affirmed, bounded, enoughRoom, not-state, no-room, no-bounds, room-kept, step-stands}

@@ -1,14 +1,18 @@
 -- `machine_record::going::after_count` meets its contract. Assumes nothing.
-use Rattle.laws.specs.Basics.{arith, needs}
-use Rattle.machine_record.proofs.{Arriving.arrives-beginning, Arriving.arrives-naming, going.after_count.Statement.statement}
-use Rattle.machine_record.proofs.Leading.{led, counted-few, counted-two, counted-many, count-bytes, count-end, count-done, count-failed}
+use Rattle.laws.specs.Basics.{refl, arith, needs}
+use Rattle.machines.specs.{Machines.heardCount, Forms.answerOf}
+use Rattle.machine_record.specs.Lent.{stateIn}
+use Rattle.machine_record.proofs.{Arriving.arrives-at, going.after_count.Statement.statement}
+use Rattle.machine_record.proofs.Leading.{led, counted-few, counted-two, counted-many, not-counted, bytes-no-count}
 use Rattle.machine_record.proofs.going.after_count.Tie as tie
 
 returns : tie.Need-returns
-returns c = λ words input lines at. led (counted-few _ at input _ (c .before .before .before .answer .given .1) (c .before .if1 .taken)) (rw (c .at .ensures) (arrives-beginning words input lines _ _ (omega arith)))
+unfolding stateIn
+returns c = λ words input lines at. led (counted-few _ at input _ (c .before .before .before .answer .given .1) (c .before .if1 .taken)) (rw (c .at .ensures) (arrives-at words input lines 3 _ _ (omega arith)))
 
 returns-2 : tie.Need-returns-2
-returns-2 c = λ words input lines at. led (counted-two _ at input _ (c .before .before .before .before .answer .given .1) (c .before .if2 .taken)) (rw (c .at2 .ensures) (arrives-naming words input lines _))
+unfolding stateIn
+returns-2 c = λ words input lines at. led (counted-two _ at input _ (c .before .before .before .before .answer .given .1) (c .before .if2 .taken)) (rw (c .at2 .ensures) (arrives-at words input lines 2 _ _ (omega arith)))
 
 end-with-requires : tie.Need-end-with-requires
 end-with-requires c κs = omega (arith, c .before .before .before .before .before .before .before .before .pre)
@@ -29,16 +33,19 @@ returns-3 : tie.Need-returns-3
 returns-3 c = λ words input lines at. led (counted-many _ at input _ (c .before .before .before .before .before .before .before .before .answer .given .1) (c .before .before .before .before .before .before .if1 .left) (c .before .before .before .before .before .if2 .left)) (c .before .before .end-with .ensures words input lines)
 
 returns-4 : tie.Need-returns-4
-returns-4 c = λ words input lines at. led (count-bytes _ _ at input (c .before .before .before .before .before .enum-told .given .1)) (c .before .before .fail .ensures words input lines)
+returns-4 c = λ words input lines at. led (not-counted _ at input _ (c .before .before .before .before .before .enum-told .given .1) (bytes-no-count _ at input)) (c .before .before .fail .ensures words input lines)
 
 returns-5 : tie.Need-returns-5
-returns-5 c = λ words input lines at. led (count-end _ at input (c .before .before .before .before .before .enum-told2 .given .1)) (c .before .before .fail2 .ensures words input lines)
+unfolding heardCount answerOf
+returns-5 c = λ words input lines at. led (not-counted _ at input _ (c .before .before .before .before .before .enum-told2 .given .1) refl) (c .before .before .fail2 .ensures words input lines)
 
 returns-6 : tie.Need-returns-6
-returns-6 c = λ words input lines at. led (count-done _ at input (c .before .before .before .before .before .enum-told3 .given .1)) (c .before .before .fail3 .ensures words input lines)
+unfolding heardCount answerOf
+returns-6 c = λ words input lines at. led (not-counted _ at input _ (c .before .before .before .before .before .enum-told3 .given .1) refl) (c .before .before .fail3 .ensures words input lines)
 
 returns-7 : tie.Need-returns-7
-returns-7 c = λ words input lines at. led (count-failed _ at input (c .before .before .before .before .before .enum-told4 .given .1)) (c .before .before .fail4 .ensures words input lines)
+unfolding heardCount answerOf
+returns-7 c = λ words input lines at. led (not-counted _ at input _ (c .before .before .before .before .before .enum-told4 .given .1) refl) (c .before .before .fail4 .ensures words input lines)
 
 pub after-count-spec : {M : Type 1} → statement M
 after-count-spec =

@@ -1,7 +1,8 @@
 -- `machine_record::going::on` meets its contract. Assumes nothing.
 use Rattle.laws.specs.Basics.{needs, ne-eqb}
-use Rattle.machine_record.proofs.{Arriving.rest-stops, Leading.led, Leading.reported-then-read, going.on.Statement.statement}
-use Rattle.machine_record.specs.Lent.{stateIn}
+use Rattle.machine_record.proofs.{Arriving.rest-stops, Leading.led, going.on.Statement.statement}
+use Rattle.machines.specs.Machines.{stepped}
+use Rattle.machine_record.specs.{Machine.next, Lent.stateIn}
 use Rattle.machine_record.proofs.going.on.Tie as tie
 
 after-word-requires : tie.Need-after-word-requires
@@ -36,8 +37,8 @@ unfolding stateIn
 returns-4 c = rw (c .before .before .before .before .before .match .keys4) (c .before .before .after-write .ensures _ _ (c .before .before .before .before .before .before .before .before .before .before .args .m .kept))
 
 returns-5 : tie.Need-returns-5
-unfolding stateIn
-returns-5 c = rw (c .before .match .keys5) (led (reported-then-read _ _ _) (c .to-read .ensures _ _ _ _))
+unfolding stateIn stepped next
+returns-5 c = rw (c .before .match .keys5) (c .to-read .ensures _ _ _ _)
 
 returns-6 : tie.Need-returns-6
 unfolding stateIn

@@ -1,5 +1,5 @@
 -- `machine_record::going::start` meets its contract. Assumes nothing.
-use Rattle.laws.specs.Basics.{_≡_, refl, sym, _∙_, arith, take, drop, length-take-le, needs}
+use Rattle.laws.specs.Basics.{refl, sym, _∙_, arith, take, drop, length-take-le, needs}
 use Rattle.machine_record.proofs.{Leading.led, going.start.Statement.statement}
 use Rattle.machine_record.proofs.Starting.{accepted, number-is, start-refused, start-fine, long-enough, arrives-started}
 use Rattle.machine_record.proofs.going.start.Tie as tie

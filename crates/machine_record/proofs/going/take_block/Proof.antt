@@ -1,5 +1,5 @@
 -- `machine_record::going::take_block` meets its contract. Assumes nothing.
-use Rattle.laws.specs.Basics.{_≡_, refl, sym, _∙_, _+_, _-_, _*_, arith, length-take-le, needs}
+use Rattle.laws.specs.Basics.{refl, sym, _∙_, _+_, _-_, _*_, arith, length-take-le, needs}
 use Rattle.machine_record.specs.declared.marks.Marks.{Marks}
 use Rattle.machine_record.proofs.{Arriving.arrives-write, Arriving.none-to-write, Leading.led, going.take_block.Statement.statement}
 use Rattle.machine_record.proofs.Kept.{whole-inside, done-before, left-most, rest-few, block-is}
