@@ -3,7 +3,7 @@
 use Rattle.laws.specs.Basics.{_≡_, refl, sym, _∙_, ap, true, false, List, [], _∷_, _++_, append-nil, ℕ, _+_, _*_, _≤_, _<_, arith, eqb, ltb, length, ltb-true, ltb-false, by-bool}
 use Rattle.whole_runs.specs.Listing.{mostRecords}
 use Rattle.machines.specs.Machines.{Request, Read, Write, Say, Fail, Stop, Answer, Bytes, End, Failed, Exchange, heard, heardRead, stepped, stateAfter, exchanges, written, errorText, writtenOf, errorTextOf, readOf, requestsOf}
-use Rattle.machines.proofs.Runs.{written-is, error-text-is}
+use Rattle.machines.proofs.{Leading.never, Leading.read-size, Runs.written-is, Runs.error-text-is}
 use Rattle.machine_record.specs.Recorded.{startNumber, recordedTrace, refusedLine, refusedLines, leftOver, endLine, lastLine}
 use Rattle.machine_record.specs.{Records.Standing, Records.standingAfter, Promised.sizeAsked, Promised.RecordsItsInput}
 use Rattle.machine_record.specs.Machine.{Position, State, counting, naming, beginning, writing, reporting, reading, ending, failing, stopped, machine, ask, next, mostToRead, toEnd, begun, beginsWith, inputName, outputName}
@@ -33,9 +33,6 @@ all-written (failing text) talk h = append-nil _ ∙ h .2 ∙ same-size (h .0) t
 all-written stopped talk h = append-nil _ ∙ h .2 ∙ same-size (h .0) talk (h .1)
 
 -- Two states ask to read.
-never : {P : Type 0} → _≡_ {A = ℕ} 0 1 → P
-never e = absurd (omega arith)
-
 asking : (P : State → Type 0) → ((size : ℕ) → P (beginning size)) → ((p : Position) → P (reading p)) → (s : State) (most : ℕ) → ask s ≡ Read most → P s
 unfolding ask
 asking P first-byte more counting most e = never (cc)
@@ -78,9 +75,6 @@ all-ended s talk most h e = asking (λ (x : State). Stands x talk → errorText 
     s most e h
 
 -- How much is asked for.
-read-size : (m most : ℕ) → Read m ≡ Read most → m ≡ most
-read-size m most e = cc
-
 within : (p : Position) (talk : List Exchange) → At p talk [] [] → p .standing .done < mostRecords → (1 ≤ mostToRead p) × (length (readOf talk) + mostToRead p ≤ 1 + 4 * mostRecords)
 unfolding mostToRead
 within p talk w few =

@@ -21,9 +21,14 @@ drop-of-part (suc k) zero l h = absurd (omega arith)
 drop-of-part (suc k) (suc n) [] h = sym (take-nil (suc n - suc k))
 drop-of-part (suc k) (suc n) (x ∷ l) h = let e : suc n - suc k ≡ n - k = omega arith in rw e (drop-of-part k n l (omega arith))
 
-module _ (p : Place) (words input out : List ℕ) (lies : Lies p words input out) (made : Progress) (then-words then-out : List ℕ)
-    (blocked : Blocked (p .all) (p .count) words (take (p .buffered) (drop (p .from) input)) out made then-words then-out)
-    (same-words : length then-words ≡ length words) (same-out : length then-out ≡ length out) where
+-- The records that lay in the lists were replayed as a block.
+pub record Replayed (p : Place) (words input out : List ℕ) (made : Progress) (then-words then-out : List ℕ) : Type 0 where
+  pub lies : Lies p words input out
+  pub blocked : Blocked (p .all) (p .count) words (take (p .buffered) (drop (p .from) input)) out made then-words then-out
+  pub same-words : length then-words ≡ length words
+  pub same-out : length then-out ≡ length out
+
+module _ {p : Place} {words input out : List ℕ} {made : Progress} {then-words then-out : List ℕ} (done : Replayed p words input out made then-words then-out) where
   abbrev block : List ℕ
   block = take (p .buffered) (drop (p .from) input)
 
@@ -38,13 +43,13 @@ module _ (p : Place) (words input out : List ℕ) (lies : Lies p words input out
   within = blocks-go-on (p .all) (p .count) (runOf words) block (length out)
 
   block-length : length block ≡ p .buffered
-  block-length = length-take-le (p .buffered) (drop (p .from) input) (omega (arith, lies .within, length-drop (p .from) input))
+  block-length = length-take-le (p .buffered) (drop (p .from) input) (omega (arith, done .lies .within, length-drop (p .from) input))
 
   pub inside-block : 4 * made .taken ≤ p .buffered
-  inside-block = omega (arith, blocked .taken, within .inside, block-length)
+  inside-block = omega (arith, done .blocked .taken, within .inside, block-length)
 
   pub few-then : p .count + made .taken ≤ mostRecords
-  few-then = omega (arith, blocked .taken, within .few (omega (arith, lies .few)))
+  few-then = omega (arith, done .blocked .taken, within .few (omega (arith, done .lies .few)))
 
   is-onward : onward (length out) between ≡ taking between (o .taken) (o .lines) (o .going) (o .run)
   unfolding onward betweenIn
@@ -52,16 +57,16 @@ module _ (p : Place) (words input out : List ℕ) (lies : Lies p words input out
 
   lines-front : take (made .written) then-out ≡ o .lines
   lines-front =
-      ap (take (made .written)) (blocked .lines ∙ written-front out (o .lines) (omega (arith, blocked .written, blocked .fits)))
-      ∙ take-at (o .lines) (drop (length (o .lines)) out) (made .written) (sym (blocked .written))
+      ap (take (made .written)) (done .blocked .lines ∙ written-front out (o .lines) (omega (arith, done .blocked .written, done .blocked .fits)))
+      ∙ take-at (o .lines) (drop (length (o .lines)) out) (made .written) (sym (done .blocked .written))
 
   room-then : (then-input : List ℕ) → length then-input ≡ length input → enoughRoom (length then-words) (length then-input) (length then-out) ≡ true
-  room-then then-input same = rw (same-words, same, same-out) (lies .room)
+  room-then then-input same = rw (done .same-words, same, done .same-out) (done .lies .room)
 
   -- No record is taken.
   module _ (none : made .taken ≡ 0) (then-input : List ℕ) (front : take (p .buffered) then-input ≡ take (p .buffered) (drop (p .from) input)) (same-input : length then-input ≡ length input) where
     taken-none : o .taken ≡ 0
-    taken-none = sym (blocked .taken) ∙ none
+    taken-none = sym (done .blocked .taken) ∙ none
 
     pub few-buffered : p .buffered < 4
     unfolding mayTake
@@ -69,30 +74,30 @@ module _ (p : Place) (words input out : List ℕ) (lies : Lies p words input out
         (λ e. absurd (omega (
           arith,
           none,
-          blocked .taken,
+          done .blocked .taken,
           within .some (omega (arith, block-length, leb-true 4 (p .buffered) e))
-              (rw (lt-ltb (p .count) mostRecords (lies .few), le-leb longestLine (length out) (enough-out (length words) (length input) (length out) (lies .room)))),
+              (rw (lt-ltb (p .count) mostRecords (done .lies .few), le-leb longestLine (length out) (enough-out (length words) (length input) (length out) (done .lies .room)))),
         )))
         (λ e. leb-false 4 (p .buffered) e)
 
     same-run : runOf then-words ≡ runOf words
     unfolding blockOutcome outcomeOf stateAfterRecords
-    same-run = blocked .run ∙ ap (λ (k : ℕ). stateAfterRecords (runOf words) (take (4 * k) block)) taken-none
+    same-run = done .blocked .run ∙ ap (λ (k : ℕ). stateAfterRecords (runOf words) (take (4 * k) block)) taken-none
 
     waiting-inside : inside (waitingPlace p) (length then-input) (length then-out) ≡ true
     unfolding waitingPlace
-    waiting-inside = inside-in (waitingPlace p) (length then-input) (length then-out) (lies .few) (omega arith) (omega (arith, lies .within)) (rw (lt-ltb (p .buffered) 4 few-buffered))
+    waiting-inside = inside-in (waitingPlace p) (length then-input) (length then-out) (done .lies .few) (omega arith) (omega (arith, done .lies .within)) (rw (lt-ltb (p .buffered) 4 few-buffered))
 
     pub waits : stateIn (waitingPlace p) then-words then-input then-out ≡ onward (length out) between
     unfolding waitingPlace taking betweenIn
     waits =
-        is-reading (waitingPlace p) then-words then-input then-out (room-then then-input same-input, waiting-inside) refl
+        is-reading {p = waitingPlace p} {words = then-words} {input = then-input} {out = then-out} (record { room = room-then then-input same-input; there = waiting-inside }) refl
         ∙ rw (same-run, front) (sym (is-onward ∙ rw taken-none))
 
   -- Some are.
   module _ (some : made .taken ≡ 0 → ⊥) where
     some-taken : eqb (o .taken) 0 ≡ false
-    some-taken = ne-eqb (o .taken) 0 (λ e. some (blocked .taken ∙ e))
+    some-taken = ne-eqb (o .taken) 0 (λ e. some (done .blocked .taken ∙ e))
 
     abbrev goes : Bool
     goes = o .going && ltb (p .count + o .taken) mostRecords
@@ -100,32 +105,32 @@ module _ (p : Place) (words input out : List ℕ) (lies : Lies p words input out
     stops : goes ≡ false → stateIn (textPlace 5 (made .written)) then-words input then-out ≡ onward (length out) between
     unfolding taking betweenIn
     stops e =
-        text-ending (made .written) then-words input then-out (room-then input refl) (omega (arith, blocked .fits, same-out))
+        text-ending (made .written) then-words input then-out (room-then input refl) (omega (arith, done .blocked .fits, done .same-out))
         ∙ ap ending lines-front
         ∙ sym (is-onward ∙ rw (some-taken, e))
 
     pub stops-refused : made .going ≡ false → stateIn (textPlace 5 (made .written)) then-words input then-out ≡ onward (length out) between
-    stops-refused e = stops (rw (← blocked .going, e))
+    stops-refused e = stops (rw (← done .blocked .going, e))
 
     pub stops-last : mostRecords ≤ p .count + made .taken → stateIn (textPlace 5 (made .written)) then-words input then-out ≡ onward (length out) between
-    stops-last h = stops (rw (← blocked .taken, le-ltb (p .count + made .taken) mostRecords h) (and-no-right (o .going) false refl))
+    stops-last h = stops (rw (← done .blocked .taken, le-ltb (p .count + made .taken) mostRecords h) (and-no-right (o .going) false refl))
 
     module _ (next : Place) (phase : next .phase ≡ 4) (all : next .all ≡ p .all) (count : next .count ≡ p .count + made .taken) (from : next .from ≡ p .from + 4 * made .taken)
         (buffered : next .buffered ≡ p .buffered - 4 * made .taken) (written : next .written ≡ made .written) (going : made .going ≡ true) (less : p .count + made .taken < mostRecords) where
       goes-on : goes ≡ true
-      goes-on = rw (← blocked .going, ← blocked .taken, going, lt-ltb (p .count + made .taken) mostRecords less)
+      goes-on = rw (← done .blocked .going, ← done .blocked .taken, going, lt-ltb (p .count + made .taken) mostRecords less)
 
       next-inside : inside next (length input) (length then-out) ≡ true
-      next-inside = inside-in next (length input) (length then-out) (omega (arith, count, less)) (omega (arith, written, blocked .fits, same-out)) (omega (arith, from, buffered, lies .within, inside-block)) (rw phase)
+      next-inside = inside-in next (length input) (length then-out) (omega (arith, count, less)) (omega (arith, written, done .blocked .fits, done .same-out)) (omega (arith, from, buffered, done .lies .within, inside-block)) (rw phase)
 
       next-buffered : take (next .buffered) (drop (next .from) input) ≡ drop (4 * o .taken) block
-      next-buffered = rw (from, buffered, ← blocked .taken) (sym (ap (λ (l : List ℕ). take (p .buffered - 4 * made .taken) l) (drop-drop (4 * made .taken) (p .from) input)) ∙ sym (drop-of-part (4 * made .taken) (p .buffered) (drop (p .from) input) inside-block))
+      next-buffered = rw (from, buffered, ← done .blocked .taken) (sym (ap (λ (l : List ℕ). take (p .buffered - 4 * made .taken) l) (drop-drop (4 * made .taken) (p .from) input)) ∙ sym (drop-of-part (4 * made .taken) (p .buffered) (drop (p .from) input) inside-block))
 
       pub prints : stateIn next then-words input then-out ≡ onward (length out) between
       unfolding taking betweenIn
       prints =
-          is-printing next then-words input then-out (room-then input refl, next-inside) phase
-          ∙ rw (all, count, written, next-buffered, lines-front, blocked .run, blocked .taken) (sym (is-onward ∙ rw (some-taken, goes-on)))
+          is-printing {p = next} {words = then-words} {input = input} {out = then-out} (record { room = room-then input refl; there = next-inside }) phase
+          ∙ rw (all, count, written, next-buffered, lines-front, done .blocked .run, done .blocked .taken) (sym (is-onward ∙ rw (some-taken, goes-on)))
 
 -- The bytes held, moved to the front.
 pub kept-front : (input then : List ℕ) (from buffered : ℕ) → from + buffered ≤ length input → then ≡ sets input 0 (take (from + buffered - from) (drop from input))

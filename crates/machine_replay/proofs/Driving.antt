@@ -1,7 +1,7 @@
 -- The loop that obeys the machine: where it stands before each request.
 -- Assumes nothing.
-use Rattle.laws.specs.Basics.{_≡_, refl, sym, _∙_, ap, subst, Bool, true, false, false≢true, List, [], ℕ, _≤_, _<_, leb, length, take, leb-true, by-bool, by-eq}
-use Rattle.machines.specs.Machines.{Request, Count, Argument, Open, Read, Write, Say, Fail, Stop, Answer, stepped, Reached, Ended}
+use Rattle.laws.specs.Basics.{_≡_, refl, sym, _∙_, ap, subst, true, false, List, ℕ, _≤_, _<_, leb, length, take, leb-true, by-bool, by-eq}
+use Rattle.machines.specs.Machines.{Write, Answer, stepped, Reached, Ended}
 use Rattle.machines.specs.Forms.{requestOf, goesOn, Leaves, Asks}
 use Rattle.machines.proofs.{Runs.reached-first, Runs.reached-next, Places.going-is, Places.stopped-is, Places.leaves-front}
 use Rattle.machine_replay.specs.declared.place.Place.{Place}
@@ -12,26 +12,12 @@ use Rattle.machines.specs.declared.Request as requests
 use Rattle.machines.specs.declared.Request.the-variants as request
 
 -- Only a request to write leaves all of the buffer.
-isWrite : Request → Bool
-isWrite Count = false
-isWrite (Argument i k) = false
-isWrite (Open path) = false
-isWrite (Read k) = false
-isWrite (Write text) = true
-isWrite (Say text) = false
-isWrite (Fail text) = false
-isWrite Stop = false
-
-other : {P : Type 0} (r : Request) (text : List ℕ) → isWrite r ≡ false → r ≡ Write text → P
-unfolding isWrite
-other r text f e = absurd (false≢true (sym f ∙ ap isWrite e))
-
 write-leaves : (r : requests.Request) (out text input after : List ℕ) → requestOf r out ≡ Write text → Leaves r input after → after ≡ input
-unfolding requestOf Leaves isWrite
+unfolding requestOf Leaves
 write-leaves request.Count out text input after e h = h
-write-leaves (request.Argument i at most) out text input after e h = other (Argument i most) text refl e
+write-leaves (request.Argument i at most) out text input after e h = cc
 write-leaves (request.Open size) out text input after e h = h
-write-leaves (request.Read at most) out text input after e h = other (Read most) text refl e
+write-leaves (request.Read at most) out text input after e h = cc
 write-leaves (request.Write size) out text input after e h = h
 write-leaves (request.Say size) out text input after e h = h
 write-leaves (request.Fail size) out text input after e h = h
@@ -56,7 +42,7 @@ module _ (words memory input after out : List ℕ) (r : requests.Request) (size 
     buffered-same room in-lists =
         let there = inside-out p (length input) (length out) in-lists in
         by-eq (p .phase) 4
-        (λ e. let printed = state-of words memory input out many p refl ∙ is-printing p words input out (room, in-lists) e in
+        (λ e. let printed = state-of words memory input out many p refl ∙ is-printing {p = p} {words = words} {input = input} {out = out} (record { room = room; there = in-lists }) e in
         let same = write-leaves r out _ input after (asks-it .stands ∙ ap (asks size) printed) leaves in rw same)
         (λ ne. rw (there .front ne .1, front))
 

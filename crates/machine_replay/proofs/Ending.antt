@@ -1,13 +1,12 @@
 -- The replay program ends after finitely many answers: a number falls with each.
 -- Assumes nothing.
-use Rattle.laws.specs.Basics.{_≡_, refl, sym, _∙_, ap, Bool, true, false, _&&_, false≢true, List, [], _∷_, _++_, Option, none, some, ℕ, _+_, _-_, _*_, _≤_, _<_, arith, eqb, ltb, leb, length, getD, length-append, length-drop, eqb-false, leb-true, by-bool}
-use Rattle.laws.specs.Truth.{and-left, and-right}
-use Rattle.model.specs.declared.Refusal.{Refusal}
-use Rattle.model.specs.{Words.ones, Refusals.startRefusal}
+use Rattle.laws.specs.Basics.{_≡_, refl, Bool, _&&_, List, _++_, ℕ, _+_, _-_, _*_, _≤_, _<_, arith, eqb, ltb, length, getD, length-append, length-drop, eqb-false, by-bool}
+use Rattle.model.specs.{Words.ones, Refusals.startRefusal, laws.Refusals.by-refusal}
 use Rattle.whole_runs.specs.Listing.{mostRecords}
 use Rattle.library_replay.specs.Taken.{outcomeOf, blockOutcome, BlocksGoOn}
 use Rattle.library_replay.proofs.Onward.{blocks-go-on}
-use Rattle.machines.specs.Machines.{Request, Count, Argument, Open, Read, Write, Say, Fail, Stop, Answer, Number, Bytes, End, Done, Failed, Ends, stepped, heard, heardRead, heardDone}
+use Rattle.machines.specs.Machines.{Stop, Answer, Number, Bytes, End, Done, Failed, Ends, stepped, heard, heardRead, heardDone}
+use Rattle.machines.proofs.Leading.{FitsRead, fits-read}
 use Rattle.machine_replay.specs.Replaying.{Between, State, starting, counted, opening, reading, printing, ending, failing, stopped, mostToRead, asks, taking, onward, begun, opened, filled, wrote, next, replaying}
 
 -- How many bytes it may still read, three for each of them, and those that it has read and not taken.
@@ -23,10 +22,6 @@ left (printing b lines) = bytesLeft b + 4
 left (ending lines) = 2
 left (failing text) = 1
 left stopped = 0
-
-by-refusal : {P : Type 0} (o : Option Refusal) → (o ≡ none → P) → ((x : Refusal) → o ≡ some x → P) → P
-by-refusal none a b = a refl
-by-refusal (some x) a b = b x refl
 
 module _ (size room : ℕ) where
   begun-falls : (all : Bool) (n : ℕ) → left (begun all n (startRefusal n ones)) < 12 * mostRecords + 5
@@ -57,15 +52,13 @@ module _ (size room : ℕ) where
   unfolding mostToRead bytesLeft
   more-falls b l one most = omega (arith, onward-falls (record { all = b .all; done = b .done; run = b .run; buffered = b .buffered ++ l }), length-append (b .buffered) l)
 
-  filled-falls : (b : Between) (a : Answer) → left (filled room b (heardRead (mostToRead size b) a)) < bytesLeft b + 3
-  unfolding left filled heardRead
-  filled-falls b (Number k) = omega arith
-  filled-falls b (Bytes l) = by-bool (leb 1 (length l) && leb (length l) (mostToRead size b))
-      (λ e. rw e (more-falls b l (leb-true 1 (length l) (and-left (leb 1 (length l)) (leb (length l) (mostToRead size b)) e)) (leb-true (length l) (mostToRead size b) (and-right (leb 1 (length l)) (leb (length l) (mostToRead size b)) e))))
-      (λ e. rw e (omega arith))
-  filled-falls b End = omega arith
-  filled-falls b Done = omega arith
-  filled-falls b Failed = omega arith
+  filled-falls : (b : Between) (a : Answer) → FitsRead (mostToRead size b) a → left (filled room b a) < bytesLeft b + 3
+  unfolding left filled
+  filled-falls b (Number k) fits = omega arith
+  filled-falls b (Bytes l) fits = more-falls b l (fits .0) (fits .1)
+  filled-falls b End fits = omega arith
+  filled-falls b Done fits = omega arith
+  filled-falls b Failed fits = omega arith
 
   wrote-falls : (k : ℕ) (s : State) (a : Answer) → 1 < k → left s < k → left (wrote s a) < k
   unfolding left wrote
@@ -80,36 +73,26 @@ module _ (size room : ℕ) where
   next-falls starting a on = omega arith
   next-falls (counted single) a on = omega arith
   next-falls (opening all) a on = opened-falls all (heardRead 1 a)
-  next-falls (reading b) a on = filled-falls b a
+  next-falls (reading b) a on = filled-falls b (heardRead (mostToRead size b) a) (fits-read (mostToRead size b) a)
   next-falls (printing b lines) a on = wrote-falls (bytesLeft b + 4) (onward room b) (heardDone a) (omega arith) (onward-falls b)
   next-falls (ending lines) a on = wrote-falls 2 stopped (heardDone a) (omega arith) (omega arith)
   next-falls (failing text) a on = omega arith
   next-falls stopped a on = absurd (on refl)
 
-  isStop : Request → Bool
-  isStop Count = false
-  isStop (Argument i k) = false
-  isStop (Open path) = false
-  isStop (Read k) = false
-  isStop (Write text) = false
-  isStop (Say text) = false
-  isStop (Fail text) = false
-  isStop Stop = true
-
-  other : {P : Type 0} (r : Request) → isStop r ≡ false → r ≡ Stop → P
-  unfolding isStop
-  other r f e = absurd (false≢true (sym f ∙ ap isStop e))
+  pub only-stopped : (s : State) → asks size s ≡ Stop → s ≡ stopped
+  unfolding asks
+  only-stopped starting e = cc
+  only-stopped (counted single) e = cc
+  only-stopped (opening all) e = cc
+  only-stopped (reading b) e = cc
+  only-stopped (printing b lines) e = cc
+  only-stopped (ending lines) e = cc
+  only-stopped (failing text) e = cc
+  only-stopped stopped e = refl
 
   stays : (s : State) (a : Answer) → asks size s ≡ Stop → asks size (stepped (replaying size room) s a) ≡ Stop
-  unfolding stepped next asks isStop
-  stays starting a e = other Count refl e
-  stays (counted single) a e = other (Argument 1 4) refl e
-  stays (opening all) a e = other (Read 1) refl e
-  stays (reading b) a e = other (Read (mostToRead size b)) refl e
-  stays (printing b lines) a e = other (Write lines) refl e
-  stays (ending lines) a e = other (Write lines) refl e
-  stays (failing text) a e = other (Fail text) refl e
-  stays stopped a e = refl
+  unfolding stepped next asks
+  stays s a e = rw (only-stopped s e)
 
   pub ends : Ends (replaying size room)
   ends = record { left = left; falls = next-falls; stays = stays }

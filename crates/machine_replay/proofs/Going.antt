@@ -1,6 +1,6 @@
 -- Where a replay stands after the bytes that it read: the records taken are the first of them, their lines are written, and the bytes held are the others.
 -- Assumes nothing.
-use Rattle.laws.specs.Basics.{_≡_, refl, sym, _∙_, ap, Bool, true, false, _&&_, List, [], _∷_, _++_, append-nil, append-assoc, none, ℕ, _+_, _-_, _*_, _/_, _≤_, _<_, arith, ltb, length, take, drop, length-append, length-drop, length-take-le, ltb-false, pick, by-bool}
+use Rattle.laws.specs.Basics.{_≡_, refl, sym, _∙_, ap, Bool, true, false, _&&_, List, [], _∷_, _++_, append-nil, append-assoc, none, ℕ, _+_, _*_, _/_, _≤_, _<_, arith, ltb, length, take, drop, length-append, length-drop, length-take-le, ltb-false, pick, by-bool}
 use lib.ListN.{take-append-drop}
 use lib.Seq.{take-append-le, drop-append-le, take-add, drop-drop}
 use Rattle.model.specs.declared.Run.{Run}

@@ -1,9 +1,10 @@
 -- The state that stands in lent lists, by the numbers of its place.
 -- Assumes nothing.
-use Rattle.laws.specs.Basics.{_≡_, refl, _∙_, Bool, true, false, _&&_, List, [], _∷_, ℕ, _+_, _-_, _≤_, _<_, arith, eqb, ltb, leb, length, take, set, ne-eqb, eqb-true, lt-ltb, ltb-true, le-leb, leb-true, pick, by-bool}
+use Rattle.laws.specs.Basics.{_≡_, refl, _∙_, ap, Bool, true, false, _&&_, List, [], _∷_, ℕ, _+_, _-_, _≤_, _<_, arith, eqb, ltb, leb, length, take, set, ne-eqb, eqb-true, lt-ltb, ltb-true, le-leb, leb-true, pick, by-bool}
 use Rattle.laws.specs.{Truth.and-left, Truth.and-right}
 use Rattle.whole_runs.specs.Listing.{mostRecords}
-use Rattle.listing.specs.Lines.{longestLine}
+use Rattle.listing.specs.{Lines.longestLine, Printed.Printed}
+use Rattle.machines.proofs.programs.Texts.{front-text}
 use Rattle.words.specs.Layout.{stateSize}
 use Rattle.machine_replay.specs.declared.place.Place.{Place}
 use Rattle.machine_replay.specs.Replaying.{starting, counted, opening, reading, printing, ending, failing, stopped}
@@ -59,16 +60,16 @@ module _ (p : Place) (input out : ℕ) where
   inside-in few text within last =
       rw (lt-ltb (p .count) mostRecords few, le-leb (p .written) out text, le-leb (p .buffered) input (omega arith), le-leb (p .from) (input - p .buffered) (omega arith), last)
 
-module _ (p : Place) (words input out : List ℕ) (h : Holds p words input out) where
+module _ {p : Place} {words input out : List ℕ} (h : Holds p words input out) where
   pub in-lists : Inside p (length input) (length out)
-  in-lists = inside-out p (length input) (length out) (h .1)
+  in-lists = inside-out p (length input) (length out) (h .there)
 
   pub lies-there : Lies p words input out
-  lies-there = record { room = h .0; few = in-lists .few; within = in-lists .within }
+  lies-there = record { room = h .room; few = in-lists .few; within = in-lists .within }
 
   pub is-phase : stateIn p words input out ≡ byPhase p words input out
   unfolding stateIn
-  is-phase = rw (h .0, h .1)
+  is-phase = rw (h .room, h .there)
 
   pub is-starting : p .phase ≡ 0 → stateIn p words input out ≡ starting
   unfolding byPhase
@@ -114,47 +115,61 @@ unfolding stateIn
 narrow-stopped p words input out h = rw h
 
 -- A place that has a text and nothing else.
-pub text-inside : (k written input out : ℕ) → written ≤ out → inside (textPlace k written) input out ≡ true
-unfolding textPlace
-text-inside k written input out h =
-    inside-in (textPlace k written) input out (omega arith) h (omega arith) (by-bool (eqb k 4) (λ e. rw e) (λ e. rw e))
-
 module _ (written : ℕ) (words input out : List ℕ) (room : enoughRoom (length words) (length input) (length out) ≡ true) (h : written ≤ length out) where
+  text-there : (k : ℕ) → Holds (textPlace k written) words input out
+  unfolding textPlace
+  text-there k = record {
+    room = room;
+    there = inside-in (textPlace k written) (length input) (length out) (omega arith) h (omega arith) (by-bool (eqb k 4) (λ e. rw e) (λ e. rw e));
+  }
+
   pub text-ending : stateIn (textPlace 5 written) words input out ≡ ending (take written out)
   unfolding textPlace
-  text-ending = is-ending (textPlace 5 written) words input out (room, text-inside 5 written (length input) (length out) h) refl
+  text-ending = is-ending (text-there 5) refl
 
   pub text-failing : stateIn (textPlace 6 written) words input out ≡ failing (take written out)
   unfolding textPlace
-  text-failing = is-failing (textPlace 6 written) words input out (room, text-inside 6 written (length input) (length out) h) refl
+  text-failing = is-failing (text-there 6) refl
 
   pub text-stopped : stateIn (textPlace 7 written) words input out ≡ stopped
   unfolding textPlace
   text-stopped =
-      is-stopped (textPlace 7 written) words input out (room, text-inside 7 written (length input) (length out) h)
+      is-stopped (text-there 7)
       (λ e. omega arith) (λ e. omega arith) (λ e. omega arith) (λ e. omega arith) (λ e. omega arith) (λ e. omega arith) (λ e. omega arith)
 
   pub text-starting : stateIn (textPlace 0 written) words input out ≡ starting
   unfolding textPlace
-  text-starting = is-starting (textPlace 0 written) words input out (room, text-inside 0 written (length input) (length out) h) refl
+  text-starting = is-starting (text-there 0) refl
+
+-- A text that was printed at the front of the buffer for lines.
+module _ (words input out text then-out : List ℕ) (written : ℕ) (room : enoughRoom (length words) (length input) (length out) ≡ true) (printed : Printed out 0 text then-out written)
+    (fits : written ≤ length out) (same : length then-out ≡ length out) where
+  pub printed-ending : stateIn (textPlace 5 written) words input then-out ≡ ending text
+  printed-ending = text-ending written words input then-out (rw same room) (omega (arith, fits, same)) ∙ ap ending (front-text out text then-out written printed fits)
+
+  pub printed-failing : stateIn (textPlace 6 written) words input then-out ≡ failing text
+  printed-failing = text-failing written words input then-out (rw same room) (omega (arith, fits, same)) ∙ ap failing (front-text out text then-out written printed fits)
 
 -- A place with nothing but a way.
 module _ (all : Bool) (words input out : List ℕ) (room : enoughRoom (length words) (length input) (length out) ≡ true) where
-  plain-inside : (k : ℕ) → inside (plainPlace k all) (length input) (length out) ≡ true
+  plain-there : (k : ℕ) → Holds (plainPlace k all) words input out
   unfolding plainPlace
-  plain-inside k = inside-in (plainPlace k all) (length input) (length out) (omega arith) (omega arith) (omega arith) (by-bool (eqb k 4) (λ e. rw e) (λ e. rw e))
+  plain-there k = record {
+    room = room;
+    there = inside-in (plainPlace k all) (length input) (length out) (omega arith) (omega arith) (omega arith) (by-bool (eqb k 4) (λ e. rw e) (λ e. rw e));
+  }
 
   pub plain-counted : stateIn (plainPlace 1 all) words input out ≡ counted all
   unfolding plainPlace
-  plain-counted = is-counted (plainPlace 1 all) words input out (room, plain-inside 1) refl
+  plain-counted = is-counted (plain-there 1) refl
 
   pub plain-opening : stateIn (plainPlace 2 all) words input out ≡ opening all
   unfolding plainPlace
-  plain-opening = is-opening (plainPlace 2 all) words input out (room, plain-inside 2) refl
+  plain-opening = is-opening (plain-there 2) refl
 
   pub plain-reading : stateIn (plainPlace 3 all) words input out ≡ reading (betweenIn (plainPlace 3 all) words input)
   unfolding plainPlace
-  plain-reading = is-reading (plainPlace 3 all) words input out (room, plain-inside 3) refl
+  plain-reading = is-reading (plain-there 3) refl
 
 -- The numbers of a place, stored.
 bit-there : (b : Bool) → eqb (bitOf b) 1 ≡ b

@@ -1,17 +1,18 @@
 -- What the replay program asks to be written is the listing of what it read, over every list of answers.
 -- Assumes nothing.
-use Rattle.laws.specs.Basics.{_≡_, refl, sym, _∙_, ap, Bool, true, false, _&&_, _||_, false≢true, List, [], _∷_, _++_, append-nil, append-assoc, Option, none, some, ℕ, _+_, _-_, _*_, _≤_, _<_, arith, eqb, ltb, leb, length, length-append, eqb-true, lt-ltb, ltb-true, le-leb, leb-true, leb-false, by-bool}
+use Rattle.laws.specs.Basics.{_≡_, refl, sym, _∙_, ap, subst, Bool, true, false, _&&_, _||_, List, [], _∷_, _++_, append-nil, append-assoc, ℕ, _+_, _*_, _≤_, _<_, arith, eqb, ltb, leb, length, length-append, eqb-true, lt-ltb, ltb-true, le-leb, leb-true, leb-false, by-bool}
 use Rattle.laws.specs.{Truth.and-left, Truth.and-right, Truth.or-left, Tests.same}
-use Rattle.model.specs.declared.{Refusal.Refusal}
-use Rattle.model.specs.{Words.ones, Refusals.startRefusal}
+use Rattle.model.specs.{Words.ones, Refusals.startRefusal, laws.Refusals.by-refusal}
 use Rattle.whole_runs.specs.Listing.{mostRecords, asksForAll, records, started, listing}
 use Rattle.listing.specs.Lines.{longestLine}
 use Rattle.library_replay.specs.Taken.{BlockOutcome, mayTake, outcomeOf, blockOutcome, Within, BlocksGoOn}
 use Rattle.library_replay.proofs.Onward.{blocks-go-on}
-use Rattle.machines.specs.Machines.{Request, Count, Argument, Open, Read, Write, Say, Fail, Stop, Answer, Number, Bytes, End, Done, Failed, Machine, Exchange, stepped, exchanged, stateAfter, exchanges, asked, writtenOf, errorTextOf, readBy, readOf, requestsOf, brought, isNumber, heard, heardRead, heardDone, heardCount, heardWord}
-use Rattle.machines.proofs.Runs.{throughout, asked-is, requests-then, written-then, error-text-then, read-then, written-one, error-text-one, written-is}
+use Rattle.machines.specs.Machines.{Request, Count, Argument, Read, Write, Fail, Stop, Answer, Number, Bytes, End, Done, Failed, Machine, Exchange, stepped, exchanged, stateAfter, exchanges, writtenOf, errorTextOf, readBy, readOf, requestsOf, brought, isNumber, heard, heardRead, heardDone, heardCount, heardWord}
+use Rattle.machines.proofs.Runs.{throughout, written-is, error-text-is, read-next, written-next, error-text-next}
+use Rattle.machines.proofs.Leading.{never, read-size, FitsRead, fits-read}
 use Rattle.machine_replay.specs.Replaying.{Between, State, starting, counted, opening, reading, printing, ending, failing, stopped, allWord, inputText, outputText, mostToRead, asks, taking, onward, begun, opened, filled, wrote, next, replaying}
 use Rattle.machine_replay.specs.Printing.{numberOf, wayOf, isEnd, hasEnded, linesOf, goesOnAfter, MayFollow, PrintsTheListing}
+use Rattle.machine_replay.proofs.Ending.{only-stopped}
 use Rattle.machine_replay.proofs.Going.{Going, begun-going, read-length, owed, going-filled, going-taken, owed-last, buffered-length, lines-so-far, goes-on-after}
 use Rattle.machines.specs.Machines as m
 
@@ -30,17 +31,12 @@ unfolding hasEnded
 ended-then [] e = by-bool (isEnd (e .answer)) (λ h. rw h) (λ h. rw h)
 ended-then (x ∷ l) e = by-bool (isEnd (x .answer)) (λ h. rw h) (λ h. rw h (ended-then l e))
 
-read-one : (e : Exchange) → readOf (e ∷ []) ≡ readBy (e .request) (e .answer)
-unfolding readOf
-read-one e = append-nil (readBy (e .request) (e .answer))
-
 module _ (all : Bool) (read written : List ℕ) (ended : Bool) (talk : List Exchange) (account : Account all read written ended talk) where
   account-then : (r : Request) (a : Answer) → Account all (read ++ readBy r a) (written ++ m.written r) (ended || isEnd a) (talk ++ (one r a ∷ []))
-  unfolding requestsOf
   account-then r a = record {
     way = λ more. ap wayOf (append-assoc talk (one r a ∷ []) more) ∙ account .way (one r a ∷ more);
-    is-read = read-then talk (one r a ∷ []) ∙ rw (account .is-read, read-one (one r a));
-    is-written = ap writtenOf (requests-then talk (one r a ∷ [])) ∙ written-then (requestsOf talk) (r ∷ []) ∙ rw (account .is-written, written-one r);
+    is-read = read-next talk (one r a) ∙ rw (account .is-read);
+    is-written = written-next talk (one r a) ∙ rw (account .is-written);
     is-ended = ended-then talk (one r a) ∙ rw (account .is-ended);
   }
 
@@ -136,28 +132,6 @@ argument-account : (a b : Answer) → Account (isNumber (heardCount a) 2 && same
 unfolding wayOf asksForAll readOf readBy writtenOf requestsOf m.written hasEnded
 argument-account a b = record { way = λ more. ap (λ (single : Bool). single && same (brought (heardWord 4 b)) allWord) (sym (number-two (heardCount a))); is-read = refl; is-written = refl; is-ended = rw (not-end-count a, not-end-word 4 b) }
 
--- A read that fits.
-FitsRead : ℕ → Answer → Type 0
-FitsRead most (Number k) = Unit {0}
-FitsRead most (Bytes l) = (1 ≤ length l) × (length l ≤ most)
-FitsRead most End = Unit {0}
-FitsRead most Done = Unit {0}
-FitsRead most Failed = Unit {0}
-
-fits-read : (most : ℕ) (a : Answer) → FitsRead most (heardRead most a)
-unfolding heardRead FitsRead
-fits-read most (Number k) = tt
-fits-read most (Bytes l) = by-bool (leb 1 (length l) && leb (length l) most)
-    (λ e. rw e (leb-true 1 (length l) (and-left (leb 1 (length l)) (leb (length l) most) e), leb-true (length l) most (and-right (leb 1 (length l)) (leb (length l) most) e)))
-    (λ e. rw e tt)
-fits-read most End = tt
-fits-read most Done = tt
-fits-read most Failed = tt
-
-by-refusal : {P : Type 0} (o : Option Refusal) → (o ≡ none → P) → ((x : Refusal) → o ≡ some x → P) → P
-by-refusal none a b = a refl
-by-refusal (some x) a b = b x refl
-
 follows-before : (ended more : Bool) (unread : List ℕ) → Follows (ended || more) unread → Follows ended unread
 follows-before ended more unread f t = f (or-left ended more t)
 
@@ -212,7 +186,7 @@ module _ (size room : ℕ) (enoughRoom : longestLine ≤ room) where
         (λ why e. rw e (record { all = all; read = n ∷ []; written = []; ended = false; account = account-then all [] [] false talk account (Read 1) (Bytes (n ∷ [])); whole = λ unread f. rw e }))
 
     opened-known : (x : Answer) → FitsRead 1 x → Known (opened all x) (then x)
-    unfolding opened FitsRead Known readBy brought m.written isEnd listing
+    unfolding opened Known readBy brought m.written isEnd listing
     opened-known (Number k) fits = opened-failed (Number k) refl refl
     opened-known (Bytes []) fits = absurd (omega (arith, fits .0))
     opened-known (Bytes (n ∷ [])) fits = opened-begun n
@@ -238,7 +212,7 @@ module _ (size room : ℕ) (enoughRoom : longestLine ≤ room) where
         fails (b .all) (h .read) (h .written) (isEnd x) (after x) inputText (rw (none-read, append-nil (h .read)) at (account-after x)) (λ unread f. (records (b .all) (b .done) (b .run) (b .buffered ++ unread), owed (h .read) (h .written) b (h .going) unread)) (omega arith)
 
     filled-known : (x : Answer) → FitsRead most x → Known (filled room b x) (after x)
-    unfolding filled FitsRead Known brought isEnd mostToRead
+    unfolding filled Known brought isEnd mostToRead
     filled-known (Number k) fits = filled-failed (Number k) refl
     filled-known (Bytes l) fits =
         onward-known (record { all = b .all; done = b .done; run = b .run; buffered = b .buffered ++ l }) (h .read ++ l) (h .written) (after (Bytes l)) (account-after (Bytes l))
@@ -295,10 +269,6 @@ module _ (size room : ℕ) (enoughRoom : longestLine ≤ room) where
         whole = λ silent. still;
       })
 
-  error-text-after : (talk : List Exchange) (r : Request) (x : Answer) → errorTextOf (requestsOf (talk ++ (one r x ∷ []))) ≡ errorTextOf (requestsOf talk) ++ m.errorText r
-  unfolding requestsOf
-  error-text-after talk r x = ap errorTextOf (requests-then talk (one r x ∷ [])) ∙ error-text-then (requestsOf talk) (r ∷ []) ∙ ap (λ (l : List ℕ). errorTextOf (requestsOf talk) ++ l) (error-text-one r)
-
   failed-known : (text : List ℕ) (talk : List Exchange) → Known-failing text talk → (x : Answer) → Known stopped (talk ++ (one (Fail text) x ∷ []))
   unfolding Known readBy m.written m.errorText
   failed-known text talk h x = record {
@@ -308,7 +278,7 @@ module _ (size room : ℕ) (enoughRoom : longestLine ≤ room) where
     ended = h .ended || isEnd x;
     account = rw (append-nil (h .read), append-nil (h .written)) at (account-then (h .all) (h .read) (h .written) (h .ended) talk (h .account) (Fail text) x);
     front = λ unread f. h .front unread (follows-before (h .ended) (isEnd x) unread f);
-    whole = λ silent. absurd (omega (arith, h .says, ap length (sym (error-text-after talk (Fail text) x) ∙ silent), length-append (errorTextOf (requestsOf talk)) text));
+    whole = λ silent. absurd (omega (arith, h .says, ap length (sym (error-text-next talk (one (Fail text) x)) ∙ silent), length-append (errorTextOf (requestsOf talk)) text));
   }
 
   stopped-known : (talk : List Exchange) → Known-stopped talk → (x : Answer) → Known stopped (talk ++ (one Stop x ∷ []))
@@ -320,7 +290,7 @@ module _ (size room : ℕ) (enoughRoom : longestLine ≤ room) where
     ended = h .ended || isEnd x;
     account = rw (append-nil (h .read), append-nil (h .written)) at (account-then (h .all) (h .read) (h .written) (h .ended) talk (h .account) Stop x);
     front = λ unread f. h .front unread (follows-before (h .ended) (isEnd x) unread f);
-    whole = λ silent unread f. h .whole (sym (append-nil (errorTextOf (requestsOf talk))) ∙ sym (error-text-after talk Stop x) ∙ silent) unread (follows-before (h .ended) (isEnd x) unread f);
+    whole = λ silent unread f. h .whole (sym (append-nil (errorTextOf (requestsOf talk))) ∙ sym (error-text-next talk (one Stop x)) ∙ silent) unread (follows-before (h .ended) (isEnd x) unread f);
   }
 
   known-step : (s : State) (talk : List Exchange) (a : Answer) → Known s talk → Known (stepped (replaying size room) s a) (talk ++ (exchanged (replaying size room) s a ∷ []))
@@ -334,53 +304,17 @@ module _ (size room : ℕ) (enoughRoom : longestLine ≤ room) where
   known-step (failing text) talk a h = failed-known text talk h Done
   known-step stopped talk a h = stopped-known talk h Failed
 
-  -- What follows for the state that was reached.
-  isRead : Request → Bool
-  isRead Count = false
-  isRead (Argument i k) = false
-  isRead (Open path) = false
-  isRead (Read k) = true
-  isRead (Write text) = false
-  isRead (Say text) = false
-  isRead (Fail text) = false
-  isRead Stop = false
-
-  isStop : Request → Bool
-  isStop Count = false
-  isStop (Argument i k) = false
-  isStop (Open path) = false
-  isStop (Read k) = false
-  isStop (Write text) = false
-  isStop (Say text) = false
-  isStop (Fail text) = false
-  isStop Stop = true
-
-  readMost : Request → ℕ
-  readMost Count = 0
-  readMost (Argument i k) = 0
-  readMost (Open path) = 0
-  readMost (Read k) = k
-  readMost (Write text) = 0
-  readMost (Say text) = 0
-  readMost (Fail text) = 0
-  readMost Stop = 0
-
-  -- What was asked for, with the request that is not answered yet.
-  record Comes (s : State) (talk : List Exchange) : Type 0 where
-    so-far : (unread : List ℕ) → MayFollow talk unread → (rest : List ℕ) × (listing (wayOf talk) (readOf talk ++ unread) ≡ (writtenOf (requestsOf talk) ++ m.written (asks size s)) ++ rest)
-    before-reading : (most : ℕ) → asks size s ≡ Read most → writtenOf (requestsOf talk) ++ m.written (asks size s) ≡ linesOf (wayOf talk) (readOf talk)
-    at-the-stop : asks size s ≡ Stop → errorTextOf (requestsOf talk) ++ m.errorText (asks size s) ≡ [] → (unread : List ℕ) → MayFollow talk unread
-        → writtenOf (requestsOf talk) ++ m.written (asks size s) ≡ listing (wayOf talk) (readOf talk ++ unread)
-    no-further : (most : ℕ) → asks size s ≡ Read most
-        → (hasEnded talk ≡ false) × (goesOnAfter (wayOf talk) (readOf talk) ≡ true) × (length (readOf talk) + most ≤ 1 + 4 * mostRecords)
-
-  not-read : {P : Type 0} (r : Request) (most : ℕ) → isRead r ≡ false → r ≡ Read most → P
-  unfolding isRead
-  not-read r most f e = absurd (false≢true (sym f ∙ ap isRead e))
-
-  not-stop : {P : Type 0} (r : Request) → isStop r ≡ false → r ≡ Stop → P
-  unfolding isStop
-  not-stop r f e = absurd (false≢true (sym f ∙ ap isStop e))
+  -- What follows for the state that was reached. Two states ask to read.
+  asking : (P : State → Type 0) → ((all : Bool) → P (opening all)) → ((b : Between) → P (reading b)) → (s : State) (most : ℕ) → asks size s ≡ Read most → P s
+  unfolding asks
+  asking P first more starting most e = never (cc)
+  asking P first more (counted single) most e = never (cc)
+  asking P first more (opening all) most e = first all
+  asking P first more (reading b) most e = more b
+  asking P first more (printing b lines) most e = never (cc)
+  asking P first more (ending lines) most e = never (cc)
+  asking P first more (failing text) most e = never (cc)
+  asking P first more stopped most e = never (cc)
 
   module _ (all : Bool) (read written : List ℕ) (ended : Bool) (talk : List Exchange) (account : Account all read written ended talk) where
     way-now : wayOf talk ≡ all
@@ -393,93 +327,52 @@ module _ (size room : ℕ) (enoughRoom : longestLine ≤ room) where
     front-silent : Front all read written ended → (unread : List ℕ) → MayFollow talk unread → (rest : List ℕ) × (listing (wayOf talk) (readOf talk ++ unread) ≡ (writtenOf (requestsOf talk) ++ []) ++ rest)
     front-silent front = front-now [] (rw (append-nil written) front)
 
-  starting-comes : (talk : List Exchange) → talk ≡ [] → Comes starting talk
-  unfolding asks m.written readOf writtenOf requestsOf isRead isStop
-  starting-comes talk h = record {
-    so-far = λ unread f. rw h (listing (wayOf []) unread, refl);
-    before-reading = λ most e. not-read Count most refl e;
-    at-the-stop = λ e. not-stop Count refl e;
-    no-further = λ most e. not-read Count most refl e;
-  }
+  -- What was asked for, with the request that is not answered yet.
+  abbrev asked-of : State → List Exchange → List ℕ
+  asked-of s talk = writtenOf (requestsOf talk) ++ m.written (asks size s)
 
-  counted-comes : (single : Bool) (talk : List Exchange) (a : Answer) → talk ≡ one Count (heardCount a) ∷ [] → Comes (counted single) talk
-  unfolding asks m.written readOf readBy writtenOf requestsOf isRead isStop
-  counted-comes single talk a h = record {
-    so-far = λ unread f. rw h (listing (wayOf (one Count (heardCount a) ∷ [])) unread, refl);
-    before-reading = λ most e. not-read (Argument 1 4) most refl e;
-    at-the-stop = λ e. not-stop (Argument 1 4) refl e;
-    no-further = λ most e. not-read (Argument 1 4) most refl e;
-  }
+  front-known : (s : State) (talk : List Exchange) → Known s talk → (unread : List ℕ) → MayFollow talk unread → (rest : List ℕ) × (listing (wayOf talk) (readOf talk ++ unread) ≡ asked-of s talk ++ rest)
+  unfolding Known asks m.written readOf readBy writtenOf requestsOf
+  front-known starting talk h = λ unread f. rw h (listing (wayOf []) unread, refl)
+  front-known (counted single) talk h = λ unread f. rw (h .1) (listing (wayOf (one Count (heardCount (h .0)) ∷ [])) unread, refl)
+  front-known (opening all) talk h = front-silent all [] [] false talk h (λ unread f. (listing all unread, refl))
+  front-known (reading b) talk h =
+      front-silent (b .all) (h .read) (h .written) false talk (h .account) (λ unread f. (records (b .all) (b .done) (b .run) (b .buffered ++ unread), owed (h .read) (h .written) b (h .going) unread))
+  front-known (printing b lines) talk h =
+      front-now (b .all) (h .read) (h .written) false talk (h .account) lines (λ unread f. (records (b .all) (b .done) (b .run) (b .buffered ++ unread), owed (h .read) (h .written ++ lines) b (h .going) unread))
+  front-known (ending lines) talk h = front-now (h .all) (h .read) (h .written) (h .ended) talk (h .account) lines (whole-front (h .all) (h .read) (h .written ++ lines) (h .ended) (h .whole))
+  front-known (failing text) talk h = front-silent (h .all) (h .read) (h .written) (h .ended) talk (h .account) (h .front)
+  front-known stopped talk h = front-silent (h .all) (h .read) (h .written) (h .ended) talk (h .account) (h .front)
 
-  opening-comes : (all : Bool) (talk : List Exchange) → Account all [] [] false talk → Comes (opening all) talk
-  unfolding asks m.written isStop readMost linesOf goesOnAfter
-  opening-comes all talk account = record {
-    so-far = front-silent all [] [] false talk account (λ unread f. (listing all unread, refl));
-    before-reading = λ most e. rw (account .is-read, account .is-written);
-    at-the-stop = λ e. not-stop (Read 1) refl e;
-    no-further = λ most e. (account .is-ended, rw (account .is-read), omega (arith, ap length (account .is-read), ap readMost e));
-  }
+  lines-known : (s : State) (talk : List Exchange) → Known s talk → (most : ℕ) → asks size s ≡ Read most → asked-of s talk ≡ linesOf (wayOf talk) (readOf talk)
+  unfolding Known asks m.written linesOf
+  lines-known s talk h most e = asking (λ (x : State). Known x talk → asked-of x talk ≡ linesOf (wayOf talk) (readOf talk))
+      (λ all w. rw (w .is-read, w .is-written))
+      (λ b w. rw (way-now (b .all) (w .read) (w .written) false talk (w .account), w .account .is-read, w .account .is-written, append-nil (w .written)) (lines-so-far (w .read) (w .written) b (w .going) (w .few)))
+      s most e h
 
-  reading-comes : (b : Between) (talk : List Exchange) → Known-reading b talk → Comes (reading b) talk
-  unfolding asks m.written isStop readMost mostToRead
-  reading-comes b talk h = record {
-    so-far = front-silent (b .all) (h .read) (h .written) false talk (h .account) (λ unread f. (records (b .all) (b .done) (b .run) (b .buffered ++ unread), owed (h .read) (h .written) b (h .going) unread));
-    before-reading = λ most e. rw (way-now (b .all) (h .read) (h .written) false talk (h .account), h .account .is-read, h .account .is-written, append-nil (h .written)) (lines-so-far (h .read) (h .written) b (h .going) (h .few));
-    at-the-stop = λ e. not-stop (Read (mostToRead size b)) refl e;
-    no-further = λ most e. (
-      h .account .is-ended,
-      rw (way-now (b .all) (h .read) (h .written) false talk (h .account), h .account .is-read) (goes-on-after (h .read) (h .written) b (h .going) (h .few)),
-      omega (arith, ap length (h .account .is-read), ap readMost e, read-length (h .read) (h .written) b (h .going), h .going .less, h .few),
-    );
-  }
+  further-known : (s : State) (talk : List Exchange) → Known s talk → (most : ℕ) → asks size s ≡ Read most
+      → (hasEnded talk ≡ false) × (goesOnAfter (wayOf talk) (readOf talk) ≡ true) × (length (readOf talk) + most ≤ 1 + 4 * mostRecords)
+  unfolding Known asks mostToRead goesOnAfter
+  further-known s talk h most e = asking
+      (λ (x : State). Known x talk → asks size x ≡ Read most → (hasEnded talk ≡ false) × (goesOnAfter (wayOf talk) (readOf talk) ≡ true) × (length (readOf talk) + most ≤ 1 + 4 * mostRecords))
+      (λ all w f. (w .is-ended, rw (w .is-read), omega (arith, ap length (w .is-read), read-size 1 most f)))
+      (λ b w f. (
+        w .account .is-ended,
+        rw (way-now (b .all) (w .read) (w .written) false talk (w .account), w .account .is-read) (goes-on-after (w .read) (w .written) b (w .going) (w .few)),
+        omega (arith, ap length (w .account .is-read), read-size (mostToRead size b) most f, read-length (w .read) (w .written) b (w .going), w .going .less, w .few),
+      ))
+      s most e h e
 
-  printing-comes : (b : Between) (lines : List ℕ) (talk : List Exchange) → Known-printing b lines talk → Comes (printing b lines) talk
-  unfolding asks m.written isRead isStop
-  printing-comes b lines talk h = record {
-    so-far = front-now (b .all) (h .read) (h .written) false talk (h .account) lines (λ unread f. (records (b .all) (b .done) (b .run) (b .buffered ++ unread), owed (h .read) (h .written ++ lines) b (h .going) unread));
-    before-reading = λ most e. not-read (Write lines) most refl e;
-    at-the-stop = λ e. not-stop (Write lines) refl e;
-    no-further = λ most e. not-read (Write lines) most refl e;
-  }
-
-  ending-comes : (lines : List ℕ) (talk : List Exchange) → Known-ending lines talk → Comes (ending lines) talk
-  unfolding asks m.written isRead isStop
-  ending-comes lines talk h = record {
-    so-far = front-now (h .all) (h .read) (h .written) (h .ended) talk (h .account) lines (whole-front (h .all) (h .read) (h .written ++ lines) (h .ended) (h .whole));
-    before-reading = λ most e. not-read (Write lines) most refl e;
-    at-the-stop = λ e. not-stop (Write lines) refl e;
-    no-further = λ most e. not-read (Write lines) most refl e;
-  }
-
-  failing-comes : (text : List ℕ) (talk : List Exchange) → Known-failing text talk → Comes (failing text) talk
-  unfolding asks m.written isRead isStop
-  failing-comes text talk h = record {
-    so-far = front-silent (h .all) (h .read) (h .written) (h .ended) talk (h .account) (h .front);
-    before-reading = λ most e. not-read (Fail text) most refl e;
-    at-the-stop = λ e. not-stop (Fail text) refl e;
-    no-further = λ most e. not-read (Fail text) most refl e;
-  }
-
-  stopped-comes : (talk : List Exchange) → Known-stopped talk → Comes stopped talk
-  unfolding asks m.written m.errorText isRead
-  stopped-comes talk h = record {
-    so-far = front-silent (h .all) (h .read) (h .written) (h .ended) talk (h .account) (h .front);
-    before-reading = λ most e. not-read Stop most refl e;
-    at-the-stop = λ e silent unread f. rw (way-now (h .all) (h .read) (h .written) (h .ended) talk (h .account), h .account .is-read, h .account .is-written, append-nil (h .written))
-        (sym (h .whole (sym (append-nil (errorTextOf (requestsOf talk))) ∙ silent) unread (rw (h .account .is-ended) at f)));
-    no-further = λ most e. not-read Stop most refl e;
-  }
-
-  comes : (s : State) (talk : List Exchange) → Known s talk → Comes s talk
-  unfolding Known
-  comes starting talk h = starting-comes talk h
-  comes (counted single) talk h = counted-comes single talk (h .0) (h .1)
-  comes (opening all) talk h = opening-comes all talk h
-  comes (reading b) talk h = reading-comes b talk h
-  comes (printing b lines) talk h = printing-comes b lines talk h
-  comes (ending lines) talk h = ending-comes lines talk h
-  comes (failing text) talk h = failing-comes text talk h
-  comes stopped talk h = stopped-comes talk h
+  whole-known : (s : State) (talk : List Exchange) → Known s talk → asks size s ≡ Stop → errorTextOf (requestsOf talk) ++ m.errorText (asks size s) ≡ [] → (unread : List ℕ) → MayFollow talk unread
+      → asked-of s talk ≡ listing (wayOf talk) (readOf talk ++ unread)
+  unfolding Known asks m.written m.errorText
+  whole-known s talk h e = subst
+      (λ (x : State). Known x talk → errorTextOf (requestsOf talk) ++ m.errorText (asks size x) ≡ [] → (unread : List ℕ) → MayFollow talk unread → asked-of x talk ≡ listing (wayOf talk) (readOf talk ++ unread))
+      (sym (only-stopped size room s e))
+      (λ w silent unread f. rw (way-now (w .all) (w .read) (w .written) (w .ended) talk (w .account), w .account .is-read, w .account .is-written, append-nil (w .written))
+      (sym (w .whole (sym (append-nil (errorTextOf (requestsOf talk))) ∙ silent) unread (rw (w .account .is-ended) at f))))
+      h
 
   known-first : Known starting []
   unfolding Known
@@ -489,19 +382,13 @@ module _ (size room : ℕ) (enoughRoom : longestLine ≤ room) where
     abbrev machine : Machine State
     machine = replaying size room
 
-    abbrev all-account : Comes (stateAfter machine answers) (exchanges machine answers)
-    all-account = comes (stateAfter machine answers) (exchanges machine answers) (throughout machine Known known-step known-first answers)
-
-    error-text-is : errorTextOf (asked machine answers) ≡ errorTextOf (requestsOf (exchanges machine answers)) ++ m.errorText (asks size (stateAfter machine answers))
-    error-text-is =
-        ap errorTextOf (asked-is machine answers)
-        ∙ error-text-then (requestsOf (exchanges machine answers)) (asks size (stateAfter machine answers) ∷ [])
-        ∙ ap (λ (l : List ℕ). errorTextOf (requestsOf (exchanges machine answers)) ++ l) (error-text-one (asks size (stateAfter machine answers)))
+    abbrev known : Known (stateAfter machine answers) (exchanges machine answers)
+    known = throughout machine Known known-step known-first answers
 
     pub prints-the-listing : PrintsTheListing size room answers
     prints-the-listing = record {
-      so-far = rw (written-is machine answers) (all-account .so-far);
-      before-reading = rw (written-is machine answers) (all-account .before-reading);
-      at-the-stop = rw (written-is machine answers, error-text-is) (all-account .at-the-stop);
-      no-further = all-account .no-further;
+      so-far = rw (written-is machine answers) (front-known (stateAfter machine answers) (exchanges machine answers) known);
+      before-reading = rw (written-is machine answers) (lines-known (stateAfter machine answers) (exchanges machine answers) known);
+      at-the-stop = rw (written-is machine answers, error-text-is machine answers) (whole-known (stateAfter machine answers) (exchanges machine answers) known);
+      no-further = further-known (stateAfter machine answers) (exchanges machine answers) known;
     }

@@ -1,10 +1,10 @@
 -- The first byte: the start in place, and what was read.
 -- Assumes nothing.
-use Rattle.laws.specs.Basics.{_≡_, refl, sym, _∙_, ap, false, _&&_, List, [], _∷_, _++_, Option, none, some, ℕ, zero, suc, _+_, _-_, _*_, _≤_, _<_, min, arith, leb, length, getD, take, drop, length-take-le, leb-true, by-bool}
+use Rattle.laws.specs.Basics.{_≡_, refl, _∙_, ap, false, List, [], _∷_, _++_, none, some, ℕ, zero, suc, _+_, _-_, _*_, _≤_, min, arith, leb, length, getD, take, drop, length-take-le, leb-true, by-bool}
 use lib.Seq.{take-add}
 use Rattle.laws.specs.Truth.{and-no-right}
 use Rattle.model.specs.declared.{Run.Run, Refusal.Refusal, StartAnswer.StartAnswer}
-use Rattle.model.specs.{Words.ones, Refusals.startRefusal, Refusals.firstOf, Steps.startState}
+use Rattle.model.specs.{Words.ones, Refusals.startRefusal, Refusals.firstOf, Steps.startState, laws.Refusals.by-refusal}
 use Rattle.whole_runs.specs.{Outcomes.Outcome, Outcomes.startOutcome, Listing.mostRecords}
 use Rattle.words.specs.Layout.{stateSize}
 use Rattle.in_place.specs.Starting.{startRefusalIn, startOutcomeIn, StartsTheSame}
@@ -12,16 +12,6 @@ use Rattle.in_place.proofs.Judging.{starts-the-same}
 use Rattle.machine_replay.specs.declared.place.Place.{Place}
 use Rattle.machine_replay.specs.{Replaying.mostToRead, Standing.betweenIn, Standing.holding}
 use Rattle.model.specs.declared.StartAnswer.the-variants as start-answer
-
-by-refusal : {P : Type 0} (o : Option Refusal) → (o ≡ none → P) → ((x : Refusal) → o ≡ some x → P) → P
-by-refusal none a b = a refl
-by-refusal (some x) a b = b x refl
-
-started-not-refused : (w : Refusal) {P : Type 0} → start-answer.Started ≡ start-answer.Refused w → P
-started-not-refused w e = absurd (let z : _≡_ {A = ℕ} 0 1 = cc in omega arith)
-
-refusal-same : (w x : Refusal) → start-answer.Refused w ≡ start-answer.Refused x → w ≡ x
-refusal-same w x e = cc
 
 module _ (many n : ℕ) (whole : many ≡ stateSize) where
   same-start : startOutcomeIn many n ones ≡ startOutcome n ones
@@ -37,14 +27,14 @@ module _ (many n : ℕ) (whole : many ≡ stateSize) where
     pub start-refuses : (w : Refusal) → a ≡ start-answer.Refused w → startRefusal n ones ≡ some w
     unfolding startOutcome
     start-refuses w e = by-refusal (startRefusal n ones)
-        (λ h. started-not-refused w (sym (rw h at answer-same) ∙ e))
-        (λ x h. h ∙ ap some (sym (refusal-same w x (sym e ∙ (rw h at answer-same)))))
+        (λ h. let started = rw h at answer-same in cc)
+        (λ x h. let refused = rw h at answer-same in cc)
 
     pub start-none : a ≡ start-answer.Started → startRefusal n ones ≡ none
     unfolding startOutcome
     start-none e = by-refusal (startRefusal n ones)
         (λ h. h)
-        (λ x h. started-not-refused x (sym e ∙ (rw h at answer-same)))
+        (λ x h. let refused = rw h at answer-same in cc)
 
     pub start-run : (run : Run) → run ≡ startOutcomeIn many n ones .run → a ≡ start-answer.Started → run ≡ startState n ones
     unfolding startOutcome

@@ -1,8 +1,7 @@
 -- A step on lent lists: the state that stands in them, and that calls from a start led to its run.
 -- Assumes nothing.
-use Rattle.laws.specs.Basics.{_≡_, refl, _∙_, ap, subst, Bool, _&&_, List, Option, none, some, ℕ, _+_, _≤_, _<_, eqb, ltb, length, getD, le-leb, lt-leb, by-bool}
-use Rattle.model.specs.declared.Refusal.{Refusal}
-use Rattle.model.specs.{Words.ones, Refusals.startRefusal}
+use Rattle.laws.specs.Basics.{_≡_, refl, ap, subst, Bool, _&&_, List, ℕ, _+_, _≤_, _<_, eqb, ltb, length, getD, le-leb, lt-leb, by-bool}
+use Rattle.model.specs.{Words.ones, Refusals.startRefusal, laws.Refusals.by-refusal}
 use Rattle.whole_runs.specs.{Outcomes.startOutcome, WholeRuns.Reachable}
 use Rattle.whole_runs.proofs.WholeRuns.{reachable-start}
 use Rattle.library_replay.specs.Taken.{blockOutcome}
@@ -38,19 +37,12 @@ module _ (words memory input out : List ℕ) where
 
   -- Lists in which no state stands.
   module _ (none-stands : stateOf words memory input out ≡ stopped) where
-    pub stays : (size room : ℕ) (a : Answer) → stateOf words memory input out ≡ stepped (replaying size room) (stateOf words memory input out) a
-    unfolding stepped next
-    stays size room a = rw none-stands
-
-    pub asks-stop : (place size : ℕ) → Asks request.Stop place input out (asks size (stateOf words memory input out))
-    unfolding requestOf asks Placed GoesTo
-    asks-stop place size = record { stands = rw none-stands; inside = tt; there = tt }
+    pub stays : (size room place : ℕ) (a : Answer)
+        → (stateOf words memory input out ≡ stepped (replaying size room) (stateOf words memory input out) a) × Asks request.Stop place input out (asks size (stateOf words memory input out))
+    unfolding stepped next requestOf asks Placed GoesTo
+    stays size room place a = (rw none-stands, record { stands = rw none-stands; inside = tt; there = tt })
 
 -- Calls from a start lead on.
-by-refusal : {P : Type 0} (o : Option Refusal) → (o ≡ none → P) → ((x : Refusal) → o ≡ some x → P) → P
-by-refusal none a b = a refl
-by-refusal (some x) a b = b x refl
-
 begun-from-start : (all : Bool) (n : ℕ) → FromStart (begun all n (startRefusal n ones))
 unfolding begun FromStart startOutcome
 begun-from-start all n = by-refusal (startRefusal n ones)

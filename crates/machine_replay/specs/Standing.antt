@@ -100,8 +100,9 @@ FromStart (failing text) = Unit {0}
 FromStart stopped = Unit {0}
 
 -- A state that stands in its lists.
-abbrev pub Holds : Place → List ℕ → List ℕ → List ℕ → Type 0
-Holds p words input out = (enoughRoom (length words) (length input) (length out) ≡ true) × (inside p (length input) (length out) ≡ true)
+pub record Holds (p : Place) (words input out : List ℕ) : Type 0 where
+  pub room : enoughRoom (length words) (length input) (length out) ≡ true
+  pub there : inside p (length input) (length out) ≡ true
 
 -- The places of the bytes held, and of the records yet to take.
 pub record Lies (p : Place) (words input out : List ℕ) : Type 0 where

@@ -1,8 +1,8 @@
 -- Where an answer leads, by how it is taken; and what a read brings.
 -- Assumes nothing.
-use Rattle.laws.specs.Basics.{_≡_, ap, _&&_, List, ℕ, _≤_, leb, length, leb-true, by-bool}
+use Rattle.laws.specs.Basics.{_≡_, ap, _&&_, List, ℕ, _≤_, arith, leb, length, leb-true, by-bool}
 use Rattle.laws.specs.Truth.{and-left, and-right}
-use Rattle.machines.specs.Machines.{Answer, Number, Bytes, End, Done, Failed, Machine, heard, heardRead, stepped}
+use Rattle.machines.specs.Machines.{Read, Answer, Number, Bytes, End, Done, Failed, Machine, heard, heardRead, stepped}
 
 pub stepped-by : {S : Type 0} (m : Machine S) (s : S) (a x : Answer) → heard (m .ask s) a ≡ x → stepped m s a ≡ m .next s x
 unfolding stepped
@@ -25,3 +25,10 @@ fits-read most (Bytes l) = by-bool (leb 1 (length l) && leb (length l) most)
 fits-read most End = tt
 fits-read most Done = tt
 fits-read most Failed = tt
+
+-- What two different numbers or requests cannot be.
+pub never : {P : Type 0} → _≡_ {A = ℕ} 0 1 → P
+never e = absurd (omega arith)
+
+pub read-size : (m most : ℕ) → Read m ≡ Read most → m ≡ most
+read-size m most e = cc

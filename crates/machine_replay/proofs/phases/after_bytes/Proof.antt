@@ -1,6 +1,6 @@
 -- `machine_replay::phases::after_bytes` meets its contract.
 -- Assumes nothing.
-use Rattle.laws.specs.Basics.{_≡_, _∙_, needs}
+use Rattle.laws.specs.Basics.{_∙_, needs}
 use Rattle.machine_replay.specs.Ready.{comesTo, Lying}
 use Rattle.machine_replay.proofs.phases.after_bytes.Statement.{statement}
 use Rattle.machine_replay.proofs.phases.after_bytes.Tie as tie

@@ -1,6 +1,6 @@
 -- `machine_replay::phases::after_count` meets its contract.
 -- Assumes nothing.
-use Rattle.laws.specs.Basics.{_≡_, _∙_, ap, needs}
+use Rattle.laws.specs.Basics.{_∙_, ap, needs}
 use denote.Ref.{now}
 use Rattle.machine_replay.specs.Replaying.{counted}
 use Rattle.machine_replay.proofs.{Places.plain-counted, phases.after_count.Statement.statement}

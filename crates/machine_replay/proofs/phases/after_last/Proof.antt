@@ -1,6 +1,6 @@
 -- `machine_replay::phases::after_last` meets its contract.
 -- Assumes nothing.
-use Rattle.laws.specs.Basics.{_≡_, _∙_, arith, needs}
+use Rattle.laws.specs.Basics.{_∙_, arith, needs}
 use denote.Ref.{now}
 use Rattle.machine_replay.specs.Replaying.{wrote}
 use Rattle.machine_replay.proofs.{Places.text-stopped, phases.after_last.Statement.statement}

@@ -1,6 +1,6 @@
 -- `machine_replay::phases::after_word` meets its contract.
 -- Assumes nothing.
-use Rattle.laws.specs.Basics.{_≡_, sym, _∙_, ap, Bool, _&&_, _+_, _≤_, arith, length, needs}
+use Rattle.laws.specs.Basics.{sym, _∙_, ap, Bool, _&&_, _+_, _≤_, arith, length, needs}
 use denote.Ref.{now}
 use Rattle.laws.specs.Tests.{same}
 use Rattle.machines.specs.Machines.{Answer, brought}

@@ -1,6 +1,6 @@
 -- `machine_replay::phases::is_all` meets its contract.
 -- Assumes nothing.
-use Rattle.laws.specs.Basics.{_≡_, _∙_, _+_, _-_, _≤_, arith, length, needs}
+use Rattle.laws.specs.Basics.{_≡_, _+_, _-_, _≤_, arith, length, needs}
 use denote.Ref.{now}
 use Rattle.laws.specs.Tests.{same}
 use Rattle.machines.specs.{Machines.brought, Forms.takenOf, Forms.Between}

@@ -1,6 +1,6 @@
 -- `machine_replay::phases::ready_lines` meets its contract.
 -- Assumes nothing.
-use Rattle.laws.specs.Basics.{_≡_, _∙_, needs}
+use Rattle.laws.specs.Basics.{_∙_, needs}
 use denote.Ref.{now}
 use Rattle.machine_replay.specs.{Replaying.wrote, Ready.comesTo, Ready.Lying, Ready.linesState}
 use Rattle.machine_replay.proofs.{Places.lies-there, phases.ready_lines.Statement.statement}
@@ -11,7 +11,7 @@ unfolding comesTo Lying linesState wrote
 returns c =
     let s = c .before .before .before .before .before in
     let a = s .args in
-    (rw (c .before .is-done .ensures (a .p .buffered) (now (a .input)), c .if1 .taken), lies-there (a .p) (now (a .words)) (now (a .input)) (now (a .out)) (s .pre))
+    (rw (c .before .is-done .ensures (a .p .buffered) (now (a .input)), c .if1 .taken), lies-there (s .pre))
 
 returns-2 : tie.Need-returns-2
 unfolding comesTo Lying linesState wrote

@@ -1,6 +1,6 @@
 -- `machine_replay::phases::ready_read` meets its contract.
 -- Assumes nothing.
-use Rattle.laws.specs.Basics.{_≡_, sym, _∙_, ap, List, _++_, ℕ, _+_, _-_, _≤_, _<_, arith, length, take, drop, length-take-le, needs}
+use Rattle.laws.specs.Basics.{_≡_, sym, _∙_, ap, List, ℕ, _+_, _-_, _≤_, _<_, arith, length, take, drop, length-take-le, needs}
 use denote.Ref.{now}
 use Rattle.whole_runs.specs.Listing.{records}
 use Rattle.words.specs.Layout.{runOf}
@@ -8,7 +8,7 @@ use Rattle.machines.specs.{Machines.heardRead, Forms.answerOf, Forms.takenOf}
 use Rattle.machine_replay.specs.declared.place.Place.{Place}
 use Rattle.machine_replay.specs.Replaying.{Between, ending, mostToRead, onward, filled}
 use Rattle.machine_replay.specs.{Standing.Lies, Standing.betweenIn, Standing.holding, Ready.comesTo, Ready.Lying, Ready.readState}
-use Rattle.machine_replay.proofs.{Places.Inside, Places.inside-out, Places.enough-input, Places.enough-out, Places.text-ending, Texts.front-text}
+use Rattle.machine_replay.proofs.{Places.Inside, Places.inside-out, Places.enough-input, Places.enough-out, Places.printed-ending}
 use Rattle.machine_replay.proofs.{Starts.most-same, Starts.more-buffered, phases.ready_read.Statement.statement}
 use Rattle.machines.specs.declared.heard.Taken as takens
 use Rattle.machines.specs.Forms as form
@@ -31,7 +31,7 @@ module _ (s : tie.Start) where
   between = betweenIn p words input
 
   in-lists : Inside p (length input) (length out)
-  in-lists = inside-out p (length input) (length out) (s .pre .0 .1)
+  in-lists = inside-out p (length input) (length out) (s .pre .0 .there)
 
   few-buffered : p .buffered < 4
   few-buffered = in-lists .front (λ e. omega (arith, s .pre .1)) .0
@@ -50,13 +50,13 @@ module _ (c : tie.After-read) where
   heard-as : (form : takens.Taken) → c .read .result ≡ form
       → heardRead (mostToRead (length (input start)) (between start)) (answerOf (start .args .answer) (p start .buffered) (input start)) ≡ takenOf form (p start .buffered) (input start)
   heard-as form e =
-      let fits : p start .buffered + (c .before .fill-to .result - p start .buffered) ≤ length (input start) = omega (arith, c .before .fill-to .ensures, in-lists start .few, few-buffered start, enough-input _ _ _ (start .pre .0 .0)) in
+      let fits : p start .buffered + (c .before .fill-to .result - p start .buffered) ≤ length (input start) = omega (arith, c .before .fill-to .ensures, in-lists start .few, few-buffered start, enough-input _ _ _ (start .pre .0 .room)) in
       rw (← most-is) (c .read .ensures .0 (p start .buffered) (input start) fits ∙ ap (λ (f : takens.Taken). takenOf f (p start .buffered) (input start)) e)
 
 sub-most : tie.Need-sub-most
 sub-most c =
     let s = c .before .before .before .before in
-    omega (arith, c .fill-to .ensures, few-buffered s, in-lists s .few, enough-input _ _ _ (s .pre .0 .0))
+    omega (arith, c .fill-to .ensures, few-buffered s, in-lists s .few, enough-input _ _ _ (s .pre .0 .room))
 
 with-more-requires : tie.Need-with-more-requires
 unfolding form.Between
@@ -72,7 +72,7 @@ slice-aggregate-end c =
 end-requires : tie.Need-end-requires
 end-requires c κs =
     let s = c .before .before .before .before .before .before .before .before .before in
-    (omega (arith, length-take-le (p s .buffered) (input s) (in-lists s .bytes), few-buffered s), enough-out _ _ _ (s .pre .0 .0))
+    (omega (arith, length-take-le (p s .buffered) (input s) (in-lists s .bytes), few-buffered s), enough-out _ _ _ (s .pre .0 .room))
 
 returns : tie.Need-returns
 unfolding form.Between holding comesTo Lying readState filled takenOf
@@ -83,9 +83,9 @@ returns c =
     let more = account .0 .0 in
     let few = (rw (account .1) at (c .before .before .before .before .read .ensures .1)) .1 in
     let lies : Lies (holding (p s) more) (words s) (input s) (out s) = record {
-      room = s .pre .0 .0;
+      room = s .pre .0 .room;
       few = in-lists s .few;
-      within = omega (arith, few, c .before .before .before .before .before .fill-to .ensures, few-buffered s, in-lists s .few, enough-input _ _ _ (s .pre .0 .0));
+      within = omega (arith, few, c .before .before .before .before .before .fill-to .ensures, few-buffered s, in-lists s .few, enough-input _ _ _ (s .pre .0 .room));
     } in (
       ap (λ (q : Place). onward room (betweenIn q (words s) (input s))) (c .with-more .ensures)
           ∙ ap (onward room) (more-buffered (p s) (words s) (input s) (at-front s) (in-lists s .bytes) more)
@@ -97,13 +97,9 @@ returns-2 : tie.Need-returns-2
 unfolding comesTo Lying readState filled takenOf betweenIn
 returns-2 c =
     let s = c .before .before .before .before .before .before .before .before .before .before .before .before .before in
-    let e = c .before .before .before .end in
-    let printed = e .ensures in
-    let then-out = e .last .1 .1 .0 in
-    let same = e .kept .1 .1 .0 in
+    let printed = c .before .before .before .end in
     let run = runOf (words s) in (
-      rw (c .with-text .ensures) (text-ending (e .result) (words s) (input s) then-out (rw same (s .pre .0 .0)) (omega (arith, printed .1, same))
-          ∙ ap ending (front-text (out s) _ then-out (e .result) (printed .0 (p s .all) run) (printed .1))
+      rw (c .with-text .ensures) (printed-ending (words s) (input s) (out s) _ (printed .last .1 .1 .0) (printed .result) (s .pre .0 .room) (printed .ensures .0 (p s .all) run) (printed .ensures .1) (printed .kept .1 .1 .0)
           ∙ ap (λ (k : ℕ). ending (records (p s .all) (p s .count) run (take (p s .buffered) (drop k (input s))))) (sym (at-front s))
           ∙ sym (ap (filled (length (out s)) (between s)) (heard-as (c .before .before .before .before .before .before .before .before) _ (c .before .before .before .before .before .before .enum-told .given .1)))),
       tt,

@@ -1,6 +1,6 @@
 -- `machine_replay::place::store` meets its contract.
 -- Assumes nothing.
-use Rattle.laws.specs.Basics.{_≡_, _∙_, _<_, arith, length, needs}
+use Rattle.laws.specs.Basics.{_<_, arith, length, needs}
 use denote.Ref.{now}
 use Rattle.machine_replay.proofs.{Places.stored, place.store.Statement.statement}
 use Rattle.machine_replay.proofs.place.store.Tie as tie

@@ -1,11 +1,10 @@
 -- `machine_replay::records::take` meets its contract.
 -- Assumes nothing.
-use Rattle.laws.specs.Basics.{_≡_, refl, _∙_, List, ℕ, _+_, _-_, arith, take, drop, needs, not-true, not-false}
+use Rattle.laws.specs.Basics.{_≡_, refl, List, ℕ, _+_, _-_, arith, needs, not-true, not-false}
 use denote.Ref.{now}
 use Rattle.library_replay.specs.declared.block.Progress.{Progress}
 use Rattle.machine_replay.specs.declared.place.Place.{Place}
-use Rattle.machine_replay.specs.Standing.{Blocked}
-use Rattle.machine_replay.proofs.Blocks.{waits, stops-refused, stops-last, prints, few-then, inside-block}
+use Rattle.machine_replay.proofs.Blocks.{Replayed, waits, stops-refused, stops-last, prints, few-then, inside-block}
 use Rattle.machine_replay.proofs.records.take.Statement.{statement}
 use Rattle.machine_replay.proofs.records.take.Tie as tie
 
@@ -35,26 +34,33 @@ module _ (c : tie.After-replay) where
   abbrev then-out : List ℕ
   then-out = c .replay .last .1 .1 .1 .1 .1 .0
 
-  blocked : Blocked (place .all) (place .count) words (take (place .buffered) (drop (place .from) input)) out made then-words then-out
-  blocked = let same : place .from + place .buffered - place .from ≡ place .buffered = omega arith in rw same at (c .replay .ensures)
+  replayed : Replayed place words input out made then-words then-out
+  replayed = record {
+    lies = start .pre .0;
+    blocked = let same : place .from + place .buffered - place .from ≡ place .buffered = omega arith in rw same at (c .replay .ensures);
+    same-words = c .replay .kept .0;
+    same-out = c .replay .kept .1 .1 .1 .1 .1 .0;
+  }
 
 returns : tie.Need-returns
-returns c = rw (c .before .before .wait .ensures .0) (waits (place (c .before .before .before .before .before .before .before .before .before)) (words (c .before .before .before .before .before .before .before .before .before)) (input (c .before .before .before .before .before .before .before .before .before)) (out (c .before .before .before .before .before .before .before .before .before)) (c .before .before .before .before .before .before .before .before .before .before .before .before .before .before .before .before .before .before .pre .0) (made (c .before .before .before .before .before .before .before .before .before)) (then-words (c .before .before .before .before .before .before .before .before .before)) (then-out (c .before .before .before .before .before .before .before .before .before)) (blocked (c .before .before .before .before .before .before .before .before .before)) (c .before .before .before .before .before .before .before .before .before .replay .kept .0) (c .before .before .before .before .before .before .before .before .before .replay .kept .1 .1 .1 .1 .1 .0) (c .before .before .before .before .if1 .taken) _ (c .before .before .wait .ensures .1) (c .before .before .wait .kept .1 .0))
+returns c =
+    let waited = c .before .before .wait in
+    rw (waited .ensures .0) (waits (replayed (c .before .before .before .before .before .before .before .before .before)) (c .before .before .before .before .if1 .taken) _ (waited .ensures .1) (waited .kept .1 .0))
 
 returns-2 : tie.Need-returns-2
-returns-2 c = rw (c .with-text .ensures) (stops-refused (place (c .before .before .before .before .before .before .before .before)) (words (c .before .before .before .before .before .before .before .before)) (input (c .before .before .before .before .before .before .before .before)) (out (c .before .before .before .before .before .before .before .before)) (c .before .before .before .before .before .before .before .before .before .before .before .before .before .before .before .before .before .pre .0) (made (c .before .before .before .before .before .before .before .before)) (then-words (c .before .before .before .before .before .before .before .before)) (then-out (c .before .before .before .before .before .before .before .before)) (blocked (c .before .before .before .before .before .before .before .before)) (c .before .before .before .before .before .before .before .before .replay .kept .0) (c .before .before .before .before .before .before .before .before .replay .kept .1 .1 .1 .1 .1 .0) (c .before .before .before .if1 .left) (not-true (made (c .before .before .before .before .before .before .before .before) .going) (c .before .if2 .taken)))
+returns-2 c = let r = c .before .before .before .before .before .before .before .before in rw (c .with-text .ensures) (stops-refused (replayed r) (c .before .before .before .if1 .left) (not-true (made r .going) (c .before .if2 .taken)))
 
 add-count : tie.Need-add-count
-add-count c = let few = few-then (place (c .before .before .before .before .before .before .before .before)) (words (c .before .before .before .before .before .before .before .before)) (input (c .before .before .before .before .before .before .before .before)) (out (c .before .before .before .before .before .before .before .before)) (c .before .before .before .before .before .before .before .before .before .before .before .before .before .before .before .before .before .pre .0) (made (c .before .before .before .before .before .before .before .before)) (then-words (c .before .before .before .before .before .before .before .before)) (then-out (c .before .before .before .before .before .before .before .before)) (blocked (c .before .before .before .before .before .before .before .before)) (c .before .before .before .before .before .before .before .before .replay .kept .0) (c .before .before .before .before .before .before .before .before .replay .kept .1 .1 .1 .1 .1 .0) in search needs
+add-count c = let few = few-then (replayed (c .before .before .before .before .before .before .before .before)) in search needs
 
 returns-3 : tie.Need-returns-3
-returns-3 c = rw (c .with-text2 .ensures) (stops-last (place (c .before .before .before .before .before .before .before .before .before .before)) (words (c .before .before .before .before .before .before .before .before .before .before)) (input (c .before .before .before .before .before .before .before .before .before .before)) (out (c .before .before .before .before .before .before .before .before .before .before)) (c .before .before .before .before .before .before .before .before .before .before .before .before .before .before .before .before .before .before .before .pre .0) (made (c .before .before .before .before .before .before .before .before .before .before)) (then-words (c .before .before .before .before .before .before .before .before .before .before)) (then-out (c .before .before .before .before .before .before .before .before .before .before)) (blocked (c .before .before .before .before .before .before .before .before .before .before)) (c .before .before .before .before .before .before .before .before .before .before .replay .kept .0) (c .before .before .before .before .before .before .before .before .before .before .replay .kept .1 .1 .1 .1 .1 .0) (c .before .before .before .before .before .if1 .left) (c .before .if3 .taken))
+returns-3 c = rw (c .with-text2 .ensures) (stops-last (replayed (c .before .before .before .before .before .before .before .before .before .before)) (c .before .before .before .before .before .if1 .left) (c .before .if3 .taken))
 
 sub-t25 : tie.Need-sub-t25
-sub-t25 c = let fits = inside-block (place (c .before .before .before .before .before .before .before .before .before .before)) (words (c .before .before .before .before .before .before .before .before .before .before)) (input (c .before .before .before .before .before .before .before .before .before .before)) (out (c .before .before .before .before .before .before .before .before .before .before)) (c .before .before .before .before .before .before .before .before .before .before .before .before .before .before .before .before .before .before .before .pre .0) (made (c .before .before .before .before .before .before .before .before .before .before)) (then-words (c .before .before .before .before .before .before .before .before .before .before)) (then-out (c .before .before .before .before .before .before .before .before .before .before)) (blocked (c .before .before .before .before .before .before .before .before .before .before)) (c .before .before .before .before .before .before .before .before .before .before .replay .kept .0) (c .before .before .before .before .before .before .before .before .before .before .replay .kept .1 .1 .1 .1 .1 .0) in search needs
+sub-t25 c = let fits = inside-block (replayed (c .before .before .before .before .before .before .before .before .before .before)) in search needs
 
 returns-4 : tie.Need-returns-4
-returns-4 c = prints (place (c .before .before .before .before .before .before .before .before .before .before)) (words (c .before .before .before .before .before .before .before .before .before .before)) (input (c .before .before .before .before .before .before .before .before .before .before)) (out (c .before .before .before .before .before .before .before .before .before .before)) (c .before .before .before .before .before .before .before .before .before .before .before .before .before .before .before .before .before .before .before .pre .0) (made (c .before .before .before .before .before .before .before .before .before .before)) (then-words (c .before .before .before .before .before .before .before .before .before .before)) (then-out (c .before .before .before .before .before .before .before .before .before .before)) (blocked (c .before .before .before .before .before .before .before .before .before .before)) (c .before .before .before .before .before .before .before .before .before .before .replay .kept .0) (c .before .before .before .before .before .before .before .before .before .before .replay .kept .1 .1 .1 .1 .1 .0) (c .before .before .before .before .before .if1 .left) _ refl refl refl refl refl refl (not-false (made (c .before .before .before .before .before .before .before .before .before .before) .going) (c .before .before .before .if2 .left)) (c .before .if3 .left)
+returns-4 c = let r = c .before .before .before .before .before .before .before .before .before .before in prints (replayed r) (c .before .before .before .before .before .if1 .left) _ refl refl refl refl refl refl (not-false (made r .going) (c .before .before .before .if2 .left)) (c .before .if3 .left)
 
 pub take-spec : {M : Type 1} → statement M
 take-spec =

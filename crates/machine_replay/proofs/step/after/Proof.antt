@@ -19,8 +19,8 @@ after-bytes-requires c κs =
     let s = c .before .before .before .before .before .before .before in (
       s .pre .0,
       λ e. by-eq (s .args .p .phase) 3
-          (λ three. rw (is-reading (s .args .p) (s .args .words .now) (s .args .input .now) (s .args .out .now) (s .pre .0) three) at (s .pre .1 e))
-          (λ ne. rw (is-printing (s .args .p) (s .args .words .now) (s .args .input .now) (s .args .out .now) (s .pre .0) (is-four (s .args .p .phase) (c .before .before .before .if1 .taken) ne)) at (s .pre .1 e)),
+          (λ three. rw (is-reading (s .pre .0) three) at (s .pre .1 e))
+          (λ ne. rw (is-printing (s .pre .0) (is-four (s .args .p .phase) (c .before .before .before .if1 .taken) ne)) at (s .pre .1 e)),
     )
 
 returns : tie.Need-returns
@@ -28,42 +28,42 @@ unfolding stepped next asks heard bytesState readState linesState
 returns c =
     let s = c .before .before .before .before .before .before .before .before .before .before .before .before .before .before in
     by-eq (s .args .p .phase) 3
-    (λ three. rw (is-reading (s .args .p) (s .args .words .now) (s .args .input .now) (s .args .out .now) (s .pre .0) three) (rw (eq-eqb (s .args .p .phase) 3 three) at (c .before .before .before .before .before .before .after-bytes .ensures)))
-    (λ ne. rw (is-printing (s .args .p) (s .args .words .now) (s .args .input .now) (s .args .out .now) (s .pre .0) (is-four (s .args .p .phase) (c .before .before .before .before .before .before .before .before .before .before .if1 .taken) ne)) (rw (ne-eqb (s .args .p .phase) 3 ne) at (c .before .before .before .before .before .before .after-bytes .ensures)))
+    (λ three. rw (is-reading (s .pre .0) three) (rw (eq-eqb (s .args .p .phase) 3 three) at (c .before .before .before .before .before .before .after-bytes .ensures)))
+    (λ ne. rw (is-printing (s .pre .0) (is-four (s .args .p .phase) (c .before .before .before .before .before .before .before .before .before .before .if1 .taken) ne)) (rw (ne-eqb (s .args .p .phase) 3 ne) at (c .before .before .before .before .before .before .after-bytes .ensures)))
 
 after-word-requires : tie.Need-after-word-requires
 after-word-requires c κs =
     let s = c .before .before .before .before .before .before .before .before in
-    (s .pre .0 .0, in-lists (s .args .p) (s .args .words .now) (s .args .input .now) (s .args .out .now) (s .pre .0) .front (λ e. omega (arith, c .before .before .before .match .keys2)) .0)
+    (s .pre .0 .room, in-lists (s .pre .0) .front (λ e. omega (arith, c .before .before .before .match .keys2)) .0)
 
 after-first-requires : tie.Need-after-first-requires
 after-first-requires c κs =
     let s = c .before .before .before .before .before .before .before .before in
-    (s .pre .0 .0, in-lists (s .args .p) (s .args .words .now) (s .args .input .now) (s .args .out .now) (s .pre .0) .front (λ e. omega (arith, c .before .before .before .match .keys3)) .0)
+    (s .pre .0 .room, in-lists (s .pre .0) .front (λ e. omega (arith, c .before .before .before .match .keys3)) .0)
 
 returns-2 : tie.Need-returns-2
 unfolding stepped next asks heard
 returns-2 c =
     let s = c .before .before .before .before .before .before .before .before .before in
-    rw (is-starting (s .args .p) (s .args .words .now) (s .args .input .now) (s .args .out .now) (s .pre .0) (c .before .before .before .before .match .keys1)) (c .after-count .ensures)
+    rw (is-starting (s .pre .0) (c .before .before .before .before .match .keys1)) (c .after-count .ensures)
 
 returns-3 : tie.Need-returns-3
 unfolding stepped next asks heard
 returns-3 c =
     let s = c .before .before .before .before .before .before .before .before .before in
-    rw (is-counted (s .args .p) (s .args .words .now) (s .args .input .now) (s .args .out .now) (s .pre .0) (c .before .before .before .before .match .keys2)) (c .after-word .ensures)
+    rw (is-counted (s .pre .0) (c .before .before .before .before .match .keys2)) (c .after-word .ensures)
 
 returns-4 : tie.Need-returns-4
 unfolding stepped next asks heard
 returns-4 c =
     let s = c .before .before .before .before .before .before .before .before .before .before .before .before .before in
-    rw (is-opening (s .args .p) (s .args .words .now) (s .args .input .now) (s .args .out .now) (s .pre .0) (c .before .before .before .before .before .before .before .before .match .keys3)) (c .before .before .before .before .after-first .ensures)
+    rw (is-opening (s .pre .0) (c .before .before .before .before .before .before .before .before .match .keys3)) (c .before .before .before .before .after-first .ensures)
 
 returns-5 : tie.Need-returns-5
 unfolding stepped next asks heard
 returns-5 c =
     let s = c .before .before .before .before .before .before .before .before .before .before .before in
-    rw (is-ending (s .args .p) (s .args .words .now) (s .args .input .now) (s .args .out .now) (s .pre .0) (c .before .before .before .before .before .before .match .keys4)) (c .before .before .after-last .ensures)
+    rw (is-ending (s .pre .0) (c .before .before .before .before .before .before .match .keys4)) (c .before .before .after-last .ensures)
 
 returns-6 : tie.Need-returns-6
 unfolding stepped next asks heard
@@ -71,10 +71,10 @@ returns-6 c =
     let s = c .before .before .before .before .before .before in
     let others = c .before .match .rest in
     let neither = or-none (eqb (s .args .p .phase) 3) (eqb (s .args .p .phase) 4) (c .before .before .if1 .left) in
-    let ends = text-stopped 0 (s .args .words .now) (s .args .input .now) (s .args .out .now) (s .pre .0 .0) (omega arith) in
+    let ends = text-stopped 0 (s .args .words .now) (s .args .input .now) (s .args .out .now) (s .pre .0 .room) (omega arith) in
     rw (c .with-text .ensures) (by-eq (s .args .p .phase) 6
-    (λ e. rw (is-failing (s .args .p) (s .args .words .now) (s .args .input .now) (s .args .out .now) (s .pre .0) e) ends)
-    (λ ne. rw (is-stopped (s .args .p) (s .args .words .now) (s .args .input .now) (s .args .out .now) (s .pre .0) (others .0 .0 .0 .1) (others .0 .0 .1) (others .0 .1) (eqb-false (s .args .p .phase) 3 (neither .0)) (eqb-false (s .args .p .phase) 4 (neither .1)) (others .1) ne) ends))
+    (λ e. rw (is-failing (s .pre .0) e) ends)
+    (λ ne. rw (is-stopped (s .pre .0) (others .0 .0 .0 .1) (others .0 .0 .1) (others .0 .1) (eqb-false (s .args .p .phase) 3 (neither .0)) (eqb-false (s .args .p .phase) 4 (neither .1)) (others .1) ne) ends))
 
 pub after-spec : {M : Type 1} → statement M
 after-spec =

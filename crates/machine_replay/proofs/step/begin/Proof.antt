@@ -1,6 +1,6 @@
 -- `machine_replay::step::begin` meets its contract.
 -- Assumes nothing.
-use Rattle.laws.specs.Basics.{_≡_, sym, _∙_, arith, needs}
+use Rattle.laws.specs.Basics.{sym, _∙_, arith, needs}
 use denote.Ref.{now}
 use Rattle.machines.specs.Forms.{requestOf, Placed, GoesTo}
 use Rattle.machine_replay.specs.{Replaying.asks}

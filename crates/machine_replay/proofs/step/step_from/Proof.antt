@@ -4,7 +4,7 @@ use Rattle.laws.specs.Basics.{_≡_, refl, sym, _∙_, arith, needs, not-true, 
 use Rattle.machine_replay.specs.declared.place.Place.{Place}
 use Rattle.machine_replay.specs.Standing.{Holds, stateIn, stateOf}
 use Rattle.machine_replay.proofs.{Places.narrow-stopped, Places.outside-stopped, step.step_from.Statement.statement}
-use Rattle.machine_replay.proofs.Steps.{state-of, stepped-there, asks-there, too-short, stays, asks-stop}
+use Rattle.machine_replay.proofs.Steps.{state-of, stepped-there, asks-there, too-short, stays}
 use Rattle.machine_replay.proofs.step.step_from.Tie as tie
 
 -- Where a state stands in the lists.
@@ -16,28 +16,28 @@ module _ (c : tie.Else3) where
   place = c .before .before .load .result
 
   holds : Holds place (start .args .words .now) (start .args .input .now) (start .args .out .now)
-  holds = (sym (c .before .before .before .before .before .is-room-enough .ensures) ∙ not-false (c .before .before .before .before .before .is-room-enough .result) (c .before .before .before .before .if2 .left), sym (c .before .is-inside .ensures) ∙ not-false (c .before .is-inside .result) (c .if3 .left))
+  holds = record { room = sym (c .before .before .before .before .before .is-room-enough .ensures) ∙ not-false (c .before .before .before .before .before .is-room-enough .result) (c .before .before .before .before .if2 .left); there = sym (c .before .is-inside .ensures) ∙ not-false (c .before .is-inside .result) (c .if3 .left) }
 
   stands : stateOf (start .args .words .now) (start .args .memory .now) (start .args .input .now) (start .args .out .now) ≡ stateIn place (start .args .words .now) (start .args .input .now) (start .args .out .now)
   stands = state-of (start .args .words .now) (start .args .memory .now) (start .args .input .now) (start .args .out .now) (c .before .before .before .before .before .before .if1 .left) place (c .before .before .load .ensures)
 
 returns : tie.Need-returns
 returns c = let a = c .before .before .before .before .before .args in let ended = too-short (a .words .now) (a .memory .now) (a .input .now) (a .out .now) (c .if1 .taken) in
-    (stays (a .words .now) (a .memory .now) (a .input .now) (a .out .now) ended _ _ _, asks-stop (a .words .now) (a .memory .now) (a .input .now) (a .out .now) ended _ _)
+    stays (a .words .now) (a .memory .now) (a .input .now) (a .out .now) ended _ _ _ _
 
 returns-2 : tie.Need-returns-2
 returns-2 c = let a = c .before .before .before .before .before .before .before .args in let ended = state-of (a .words .now) (a .memory .now) (a .input .now) (a .out .now) (c .before .before .if1 .left) _ refl ∙ narrow-stopped _ (a .words .now) (a .input .now) (a .out .now) (sym (c .before .is-room-enough .ensures) ∙ not-true (c .before .is-room-enough .result) (c .if2 .taken)) in
-    (stays (a .words .now) (a .memory .now) (a .input .now) (a .out .now) ended _ _ _, asks-stop (a .words .now) (a .memory .now) (a .input .now) (a .out .now) ended _ _)
+    stays (a .words .now) (a .memory .now) (a .input .now) (a .out .now) ended _ _ _ _
 
 returns-3 : tie.Need-returns-3
 returns-3 c = let a = c .before .before .before .before .before .before .before .before .before .before .before .args in let ended = state-of (a .words .now) (a .memory .now) (a .input .now) (a .out .now) (c .before .before .before .before .before .before .if1 .left) (c .before .before .load .result) (c .before .before .load .ensures) ∙ outside-stopped (c .before .before .load .result) (a .words .now) (a .input .now) (a .out .now) (sym (c .before .is-inside .ensures) ∙ not-true (c .before .is-inside .result) (c .if3 .taken)) in
-    (stays (a .words .now) (a .memory .now) (a .input .now) (a .out .now) ended _ _ _, asks-stop (a .words .now) (a .memory .now) (a .input .now) (a .out .now) ended _ _)
+    stays (a .words .now) (a .memory .now) (a .input .now) (a .out .now) ended _ _ _ _
 
 after-requires : tie.Need-after-requires
 after-requires c κs = (holds (c .before .before .before), λ e. rw (stands (c .before .before .before)) at (c .before .before .before .before .before .before .before .before .before .before .before .before .before .before .pre e))
 
 request-of-requires : tie.Need-request-of-requires
-request-of-requires c κs = rw (c .before .before .before .before .before .before .before .before .before .before .before .before .before .after .kept .1 .0, c .before .before .before .before .before .before .before .before .before .before .before .before .before .after .kept .1 .1 .0, c .before .before .before .before .before .before .before .before .before .before .before .before .before .after .kept .1 .1 .1 .0) (holds (c .before .before .before .before .before .before .before .before .before .before .before .before .before .before .before .before .before) .0)
+request-of-requires c κs = rw (c .before .before .before .before .before .before .before .before .before .before .before .before .before .after .kept .1 .0, c .before .before .before .before .before .before .before .before .before .before .before .before .before .after .kept .1 .1 .0, c .before .before .before .before .before .before .before .before .before .before .before .before .before .after .kept .1 .1 .1 .0) (holds (c .before .before .before .before .before .before .before .before .before .before .before .before .before .before .before .before .before) .room)
 
 returns-4 : tie.Need-returns-4
 returns-4 c = let q = sym (c .before .before .before .before .before .before .store .ensures) in let then = state-of (c .before .before .before .before .before .before .before .before .before .before .before .before .before .before .after .last .1 .0) (c .before .before .before .before .before .before .store .last .0) (c .before .before .before .before .before .before .before .before .before .before .before .before .before .before .after .last .1 .1 .0) (c .before .before .before .before .before .before .before .before .before .before .before .before .before .before .after .last .1 .1 .1 .0) (omega (arith, c .before .before .before .before .before .before .store .kept .0, c .before .before .before .before .before .before .before .before .before .before .before .before .before .before .before .before .before .before .before .before .before .before .before .before .if1 .left)) (c .before .before .before .before .before .before .before .before .before .before .before .before .before .before .after .result) q in
