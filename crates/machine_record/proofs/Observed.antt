@@ -1,10 +1,10 @@
 -- Where the machine stands after a list of answers, by what was asked and answered.
 -- Assumes nothing.
-use Rattle.laws.specs.Basics.{_≡_, refl, sym, _∙_, ap, true, false, List, [], _∷_, _++_, append-nil, append-assoc, ℕ, _+_, _<_, arith, eqb, ltb, eqb-true, le-ltb, ltb-true, by-bool}
+use Rattle.laws.specs.Basics.{_≡_, refl, sym, _∙_, ap, true, false, List, [], _∷_, _++_, append-nil, append-assoc, ℕ, _+_, _≤_, _<_, arith, eqb, ltb, length, eqb-true, le-ltb, ltb-true, by-bool}
 use Rattle.whole_runs.specs.Listing.{mostRecords}
 use Rattle.machines.specs.programs.Numbers.{numberIn}
-use Rattle.machines.specs.Machines.{Count, Argument, Read, Write, Say, Fail, Stop, Answer, Number, Bytes, End, Done, Failed, Exchange, heard, stepped, stateAfter, exchanges, written, errorText, writtenOf, errorTextOf, brought, readBy, readOf, requestsOf}
-use Rattle.machines.proofs.{Leading.FitsRead, Leading.fits-read, Runs.throughout, Runs.read-next, Runs.written-next, Runs.error-text-next}
+use Rattle.machines.specs.Machines.{Count, Argument, Read, Write, Say, Fail, Stop, Answer, Number, Bytes, End, Done, Failed, Exchange, heard, stepped, exchanged, stateAfter, exchanges, written, errorText, writtenOf, errorTextOf, brought, readBy, readOf, requestsOf}
+use Rattle.machines.proofs.{Answers.by-count, Answers.by-word, Answers.by-read, Answers.by-done, Runs.throughout, Runs.read-next, Runs.written-next, Runs.error-text-next}
 use Rattle.machine_record.specs.Recorded.{longEnough, startNumber, recordedTrace, refusedLines, leftOver}
 use Rattle.machine_record.specs.{Records.bytesOf, Records.lineOf, Records.standingAfter, Records.textsAfter, Records.bytesAfter, Records.linesAfter, Promised.wordsIn, Promised.sizeGiven, Promised.sizeAsked}
 use Rattle.machine_record.specs.Machine.{Position, State, counting, naming, beginning, writing, reporting, reading, ending, failing, stopped, machine, ask, next, mostToRead, toRead, toReport, toWrite, toEnd, counted, sized, begun as machine-begun, beginsWith, blockTaken, longestWord, largestBuffer}
@@ -12,7 +12,7 @@ use Rattle.machine_record.proofs.Starts.{first, trace-is, lines-are}
 use Rattle.machine_record.proofs.Parts.{standing-append, left-append, texts-append}
 
 -- The size of the buffer is settled, whatever is asked from here on.
-abbrev Settled : ℕ → List Exchange → Type 0
+abbrev pub Settled : ℕ → List Exchange → Type 0
 Settled size talk = (more : List Exchange) → sizeAsked (talk ++ more) ≡ size
 
 -- All that was written and reported.
@@ -193,14 +193,6 @@ refused-start size n talk e h w brings o wrong =
     let nothing : recordedTrace size (n ∷ []) ≡ [] = rw wrong refl in
     (size, settled-more talk e size h, written-next talk e ∙ ap (λ (x : List ℕ). wrote talk ++ x) o ∙ append-nil (wrote talk) ∙ w .1 ∙ sym nothing ∙ ap (recordedTrace size) (sym now-read))
 
--- An answer as it is taken fits what was asked for.
-abbrev pub Fits : State → Answer → Type 0
-Fits s b = (most : ℕ) → ask s ≡ Read most → FitsRead most b
-
-pub fits : (s : State) (a : Answer) → Fits s (heard (ask s) a)
-unfolding heard
-fits s a most e = rw e (fits-read most a)
-
 -- The first two answers.
 settled-words : (e : Exchange) → eqb (wordsIn (e .answer)) 2 ≡ false → Settled longEnough (e ∷ [])
 unfolding sizeAsked
@@ -254,6 +246,13 @@ stands-begun size n talk h w = by-bool (eqb (startNumber size n) 0)
     (λ t. rw t (at-start size n talk (record { request = Read 1; answer = Bytes (n ∷ []) }) h w refl refl refl t))
     (λ t. rw t (refused-start size n talk (record { request = Read 1; answer = Bytes (n ∷ []) }) h w refl refl t))
 
+stands-first : (size : ℕ) (talk : List Exchange) → Settled size talk → Nothing talk → (l : List ℕ) → 1 ≤ length l → length l ≤ 1
+    → Stands (beginsWith size l) (talk ++ (record { request = Read 1; answer = Bytes l } ∷ []))
+unfolding beginsWith
+stands-first size talk h w [] some few = absurd (omega (arith, some))
+stands-first size talk h w (n ∷ []) some few = stands-begun size n talk h w
+stands-first size talk h w (n ∷ k ∷ l) some few = absurd (omega (arith, few))
+
 over-begun : (size : ℕ) (talk : List Exchange) (b : Answer) → brought b ≡ [] → Settled size talk → Nothing talk → Over (talk ++ (record { request = Read 1; answer = b } ∷ []))
 unfolding readBy written
 over-begun size talk b e h w = over-silent talk (record { request = Read 1; answer = b }) (none-over size talk h w) e refl
@@ -267,43 +266,28 @@ over-write : (p : Position) (talk : List Exchange) (out lines : List ℕ) (b : A
 unfolding readBy written
 over-write p talk out lines b w = over-more talk (record { request = Write out; answer = b }) (w .size) (w .settled) refl (w .all-written)
 
-kept-next : (s : State) (talk : List Exchange) (b : Answer) → Fits s b → Stands s talk → Stands (next s b) (talk ++ (record { request = ask s; answer = b } ∷ []))
-unfolding ask next beginsWith blockTaken brought readBy written errorText wordsIn
-kept-next counting talk (Number words) fit h = rw h (stands-counted words)
-kept-next counting talk (Bytes l) fit h = rw h (over-early (Bytes l) refl)
-kept-next counting talk End fit h = rw h (over-early End refl)
-kept-next counting talk Done fit h = rw h (over-early Done refl)
-kept-next counting talk Failed fit h = rw h (over-early Failed refl)
-kept-next naming talk (Bytes word) fit h = stands-sized (h .0) talk word (h .1) (h .2) (h .3)
-kept-next naming talk (Number x) fit h = over-asked (h .0) talk (Number x) (h .1) (h .2) (h .3)
-kept-next naming talk End fit h = over-asked (h .0) talk End (h .1) (h .2) (h .3)
-kept-next naming talk Done fit h = over-asked (h .0) talk Done (h .1) (h .2) (h .3)
-kept-next naming talk Failed fit h = over-asked (h .0) talk Failed (h .1) (h .2) (h .3)
-kept-next (beginning size) talk (Bytes []) fit h = absurd (omega (arith, fit 1 refl))
-kept-next (beginning size) talk (Bytes (n ∷ [])) fit h = stands-begun size n talk (h .0) (h .1)
-kept-next (beginning size) talk (Bytes (n ∷ k ∷ l)) fit h = absurd (omega (arith, fit 1 refl))
-kept-next (beginning size) talk End fit h = over-begun size talk End refl (h .0) (h .1)
-kept-next (beginning size) talk (Number x) fit h = over-begun size talk (Number x) refl (h .0) (h .1)
-kept-next (beginning size) talk Done fit h = over-begun size talk Done refl (h .0) (h .1)
-kept-next (beginning size) talk Failed fit h = over-begun size talk Failed refl (h .0) (h .1)
-kept-next (writing out lines p) talk Done fit h =
-    to-report lines p _ (at-more talk (record { request = Write out; answer = Done }) p out lines [] lines h refl (append-nil out) refl)
-kept-next (writing out lines p) talk (Number x) fit h = over-write p talk out lines (Number x) h
-kept-next (writing out lines p) talk (Bytes l) fit h = over-write p talk out lines (Bytes l) h
-kept-next (writing out lines p) talk End fit h = over-write p talk out lines End h
-kept-next (writing out lines p) talk Failed fit h = over-write p talk out lines Failed h
-kept-next (reporting lines p) talk b fit h = to-read p _ (at-more talk (record { request = Say lines; answer = b }) p [] lines [] [] h refl refl (append-nil lines))
-kept-next (reading p) talk (Bytes m) fit h =
-    to-write _ _ _ _ (at-block p talk (record { request = Read (mostToRead p); answer = Bytes m }) m (h .0) refl refl refl)
-kept-next (reading p) talk End fit h = to-end _ _ (over-read p talk (mostToRead p) End refl (h .0))
-kept-next (reading p) talk (Number x) fit h = over-read p talk (mostToRead p) (Number x) refl (h .0)
-kept-next (reading p) talk Done fit h = over-read p talk (mostToRead p) Done refl (h .0)
-kept-next (reading p) talk Failed fit h = over-read p talk (mostToRead p) Failed refl (h .0)
-kept-next (ending text) talk b fit h = over-silent talk (record { request = Say text; answer = b }) h refl refl
-kept-next (failing text) talk b fit h = over-silent talk (record { request = Fail text; answer = b }) h refl refl
-kept-next stopped talk b fit h = over-silent talk (record { request = Stop; answer = b }) h refl refl
+kept-next : (s : State) (talk : List Exchange) (a : Answer) → Stands s talk → Stands (stepped machine s a) (talk ++ (exchanged machine s a ∷ []))
+unfolding stepped ask heard next blockTaken brought readBy written errorText wordsIn
+kept-next counting talk a h = rw h (by-count (λ (b : Answer). Stands (next counting b) (counted-one b)) (over-early Failed refl) stands-counted a)
+kept-next naming talk a h =
+    by-word (λ (b : Answer). Stands (next naming b) (talk ++ (record { request = Argument 1 longestWord; answer = b } ∷ [])))
+    (over-asked (h .0) talk Failed (h .1) (h .2) (h .3)) longestWord (λ word few. stands-sized (h .0) talk word (h .1) (h .2) (h .3)) a
+kept-next (beginning size) talk a h =
+    by-read (λ (b : Answer). Stands (next (beginning size) b) (talk ++ (record { request = Read 1; answer = b } ∷ [])))
+    (over-begun size talk Failed refl (h .0) (h .1)) 1 (stands-first size talk (h .0) (h .1)) (over-begun size talk End refl (h .0) (h .1)) a
+kept-next (writing out lines p) talk a h =
+    by-done (λ (b : Answer). Stands (next (writing out lines p) b) (talk ++ (record { request = Write out; answer = b } ∷ [])))
+    (over-write p talk out lines Failed h) (to-report lines p _ (at-more talk (record { request = Write out; answer = Done }) p out lines [] lines h refl (append-nil out) refl)) a
+kept-next (reporting lines p) talk a h = to-read p _ (at-more talk (record { request = Say lines; answer = Done }) p [] lines [] [] h refl refl (append-nil lines))
+kept-next (reading p) talk a h =
+    by-read (λ (b : Answer). Stands (next (reading p) b) (talk ++ (record { request = Read (mostToRead p); answer = b } ∷ [])))
+    (over-read p talk (mostToRead p) Failed refl (h .0)) (mostToRead p)
+    (λ m some few. to-write _ _ _ _ (at-block p talk (record { request = Read (mostToRead p); answer = Bytes m }) m (h .0) refl refl refl))
+    (to-end _ _ (over-read p talk (mostToRead p) End refl (h .0))) a
+kept-next (ending text) talk a h = over-silent talk (record { request = Say text; answer = Done }) h refl refl
+kept-next (failing text) talk a h = over-silent talk (record { request = Fail text; answer = Done }) h refl refl
+kept-next stopped talk a h = over-silent talk (record { request = Stop; answer = Failed }) h refl refl
 
 -- So after every list of answers.
 pub stands : (answers : List Answer) → Stands (stateAfter machine answers) (exchanges machine answers)
-unfolding stepped
-stands answers = throughout machine Stands (λ s talk a h. kept-next s talk (heard (ask s) a) (fits s a) h) refl answers
+stands answers = throughout machine Stands kept-next refl answers

@@ -7,11 +7,8 @@ use Rattle.machines.proofs.{Leading.never, Leading.read-size, Runs.written-is, 
 use Rattle.machine_record.specs.Recorded.{startNumber, recordedTrace, refusedLine, refusedLines, leftOver, endLine, lastLine}
 use Rattle.machine_record.specs.{Records.Standing, Records.standingAfter, Promised.sizeAsked, Promised.RecordsItsInput}
 use Rattle.machine_record.specs.Machine.{Position, State, counting, naming, beginning, writing, reporting, reading, ending, failing, stopped, machine, ask, next, mostToRead, toEnd, begun, beginsWith, inputName, outputName}
-use Rattle.machine_record.proofs.{Parts.left-few, Parts.counted, Parts.done-after, Starts.first, Observed.At, Observed.Stands, Observed.stands}
+use Rattle.machine_record.proofs.{Parts.left-few, Parts.counted, Parts.done-after, Starts.first, Observed.Settled, Observed.At, Observed.Stands, Observed.stands}
 use Rattle.machine_record.proofs.Ranks.{rank, no-rank, counts, machine-ends}
-
-abbrev Settled : ℕ → List Exchange → Type 0
-Settled size talk = (more : List Exchange) → sizeAsked (talk ++ more) ≡ size
 
 size-is : (size : ℕ) (talk : List Exchange) → Settled size talk → size ≡ sizeAsked talk
 size-is size talk h = sym (h []) ∙ ap sizeAsked (append-nil talk)

@@ -3,11 +3,11 @@
 use Rattle.laws.specs.Basics.{_≡_, refl, _∙_, ap, List, [], _∷_, _++_, ℕ, _+_, _-_, _*_, _≤_, _<_, arith, eqb, ltb, length, length-append, ltb-true, ltb-false, by-bool}
 use Rattle.whole_runs.specs.Listing.{mostRecords}
 use Rattle.machines.specs.programs.Numbers.{numberIn}
-use Rattle.machines.specs.Machines.{Stop, Answer, Number, Bytes, End, Done, Failed, Exchange, Ends, heard, stepped, brought, readBy, readOf, exchanges, stateAfter}
-use Rattle.machines.proofs.{Runs.throughout, Runs.read-next}
+use Rattle.machines.specs.Machines.{Stop, Answer, Bytes, Exchange, Ends, heard, stepped, exchanged, brought, readBy, readOf, exchanges, stateAfter}
+use Rattle.machines.proofs.{Answers.by-count, Answers.by-word, Answers.by-read, Answers.by-done, Runs.throughout, Runs.read-next}
 use Rattle.machine_record.specs.{Recorded.startNumber, Recorded.endLine, Recorded.leftOver, Records.standingAfter, Records.bytesAfter, Records.linesAfter}
-use Rattle.machine_record.specs.Machine.{Position, State, counting, naming, beginning, writing, reporting, reading, ending, failing, stopped, machine, ask, next, mostToRead, toRead, toReport, toWrite, toEnd, counted, sized, begun, beginsWith, blockTaken, largestBuffer}
-use Rattle.machine_record.proofs.{Parts.counted as all-counted, Parts.done-after, Observed.Fits, Observed.fits}
+use Rattle.machine_record.specs.Machine.{Position, State, counting, naming, beginning, writing, reporting, reading, ending, failing, stopped, machine, ask, next, mostToRead, toRead, toReport, toWrite, toEnd, counted, sized, begun, beginsWith, blockTaken, largestBuffer, longestWord}
+use Rattle.machine_record.proofs.{Parts.counted as all-counted, Parts.done-after}
 
 -- How many bytes may still be read, and how many answers come at most before the next that brings bytes.
 unfoldable pub bytesLeft : Position → ℕ
@@ -81,43 +81,30 @@ block-left p m some few =
 abbrev Nearer : State → Answer → Type 0
 Nearer s b = (rank (next s b) + 1 ≤ rank s + 3 * length (readBy (ask s) b)) × (unread (next s b) + length (readBy (ask s) b) ≤ unread s)
 
-pub nearer : (s : State) (b : Answer) → Fits s b → 1 ≤ rank s → Nearer s b
-unfolding rank unread ask next beginsWith blockTaken readBy brought
-nearer counting (Number words) fit h = omega (arith, counted-within words)
-nearer counting (Bytes l) fit h = omega arith
-nearer counting End fit h = omega arith
-nearer counting Done fit h = omega arith
-nearer counting Failed fit h = omega arith
-nearer naming (Bytes word) fit h = omega (arith, sized-within (numberIn word))
-nearer naming (Number x) fit h = omega arith
-nearer naming End fit h = omega arith
-nearer naming Done fit h = omega arith
-nearer naming Failed fit h = omega arith
-nearer (beginning size) (Bytes []) fit h = absurd (omega (arith, fit 1 refl))
-nearer (beginning size) (Bytes (n ∷ [])) fit h = omega (arith, begun-within size n)
-nearer (beginning size) (Bytes (n ∷ k ∷ l)) fit h = absurd (omega (arith, fit 1 refl))
-nearer (beginning size) End fit h = omega arith
-nearer (beginning size) (Number x) fit h = omega arith
-nearer (beginning size) Done fit h = omega arith
-nearer (beginning size) Failed fit h = omega arith
-nearer (writing out lines p) Done fit h = omega (arith, report-within lines p)
-nearer (writing out lines p) (Number x) fit h = omega arith
-nearer (writing out lines p) (Bytes l) fit h = omega arith
-nearer (writing out lines p) End fit h = omega arith
-nearer (writing out lines p) Failed fit h = omega arith
-nearer (reporting lines p) b fit h = omega (arith, read-within p)
-nearer (reading p) (Bytes m) fit h =
+first-nearer : (size : ℕ) (l : List ℕ) → 1 ≤ length l → length l ≤ 1 → Nearer (beginning size) (Bytes l)
+unfolding rank unread ask next beginsWith readBy brought
+first-nearer size [] some few = absurd (omega (arith, some))
+first-nearer size (n ∷ []) some few = omega (arith, begun-within size n)
+first-nearer size (n ∷ k ∷ l) some few = absurd (omega (arith, few))
+
+block-nearer : (p : Position) (m : List ℕ) → 1 ≤ length m → length m ≤ mostToRead p → Nearer (reading p) (Bytes m)
+unfolding rank unread ask next blockTaken readBy brought
+block-nearer p m some few =
     let block = p .rest ++ m in
     let w = write-within (bytesAfter (p .standing) block) (linesAfter (p .standing) block) (record { standing = standingAfter (p .standing) block; rest = leftOver block }) in
-    let few = fit (mostToRead p) refl in
-    omega (arith, w, few, block-left p m (few .0) (few .1))
-nearer (reading p) End fit h = omega (arith, end-within (endLine (p .standing .done) (p .rest)))
-nearer (reading p) (Number x) fit h = omega arith
-nearer (reading p) Done fit h = omega arith
-nearer (reading p) Failed fit h = omega arith
-nearer (ending text) b fit h = omega arith
-nearer (failing text) b fit h = omega arith
-nearer stopped b fit h = absurd (omega (arith, h))
+    omega (arith, w, some, block-left p m some few)
+
+pub nearer : (s : State) (a : Answer) → 1 ≤ rank s → Nearer s (heard (ask s) a)
+unfolding rank unread ask heard next readBy brought
+nearer counting a h = by-count (Nearer counting) (omega arith) (λ words. omega (arith, counted-within words)) a
+nearer naming a h = by-word (Nearer naming) (omega arith) longestWord (λ word few. omega (arith, sized-within (numberIn word))) a
+nearer (beginning size) a h = by-read (Nearer (beginning size)) (omega arith) 1 (first-nearer size) (omega arith) a
+nearer (writing out lines p) a h = by-done (Nearer (writing out lines p)) (omega arith) (omega (arith, report-within lines p)) a
+nearer (reporting lines p) a h = omega (arith, read-within p)
+nearer (reading p) a h = by-read (Nearer (reading p)) (omega arith) (mostToRead p) (block-nearer p) (omega (arith, end-within (endLine (p .standing .done) (p .rest)))) a
+nearer (ending text) a h = omega arith
+nearer (failing text) a h = omega arith
+nearer stopped a h = absurd (omega (arith, h))
 
 -- A machine that has stopped: no answer brings it nearer, and it asks for nothing.
 is-stopped : (s : State) → rank s < 1 → s ≡ stopped
@@ -150,18 +137,17 @@ Counts s talk = 1 ≤ rank s → length talk + rank s ≤ 4 + 3 * length (readOf
 length-read : (talk : List Exchange) (e : Exchange) → length (readOf (talk ++ (e ∷ []))) ≡ length (readOf talk) + length (readBy (e .request) (e .answer))
 length-read talk e = ap (λ (x : List ℕ). length x) (read-next talk e) ∙ length-append (readOf talk) (readBy (e .request) (e .answer))
 
-counts-next : (s : State) (talk : List Exchange) (b : Answer) → Fits s b → Counts s talk → Counts (next s b) (talk ++ (record { request = ask s; answer = b } ∷ []))
-counts-next s talk b fit h = by-bool (ltb (rank s) 1)
-    (λ t. λ k. absurd (omega (arith, k, still s b (ltb-true (rank s) 1 t))))
-    (λ t. λ k.
-    let e : Exchange = record { request = ask s; answer = b } in
-    let some = ltb-false (rank s) 1 t in
-    let w = nearer s b fit some in
-    omega (arith, h some, w .0, length-append talk (e ∷ []), length-read talk e))
+counts-next : (s : State) (talk : List Exchange) (a : Answer) → Counts s talk → Counts (stepped machine s a) (talk ++ (exchanged machine s a ∷ []))
+unfolding stepped
+counts-next s talk a h =
+    let e = exchanged machine s a in
+    by-bool (ltb (rank s) 1)
+    (λ t. λ k. absurd (omega (arith, k, still s (e .answer) (ltb-true (rank s) 1 t))))
+    (λ t. λ k. let some = ltb-false (rank s) 1 t in omega (arith, h some, nearer s a some .0, length-append talk (e ∷ []), length-read talk e))
 
 pub counts : (answers : List Answer) → Counts (stateAfter machine answers) (exchanges machine answers)
-unfolding stepped rank readOf
-counts answers = throughout machine Counts (λ s talk a h. counts-next s talk (heard (ask s) a) (fits s a) h) (λ k. omega arith) answers
+unfolding rank readOf
+counts answers = throughout machine Counts counts-next (λ k. omega arith) answers
 
 -- And a number falls with each answer.
 stops-again : (s : State) (b : Answer) → ask s ≡ Stop → ask (next s b) ≡ Stop
@@ -180,6 +166,6 @@ pub machine-ends : Ends machine
 unfolding stepped
 machine-ends = record {
   left = λ s. rank s + 3 * unread s;
-  falls = λ s a h. let w = nearer s (heard (ask s) a) (fits s a) (some-rank s h) in omega (arith, w .0, w .1);
+  falls = λ s a h. let w = nearer s a (some-rank s h) in omega (arith, w .0, w .1);
   stays = λ s a e. stops-again s (heard (ask s) a) e;
 }

@@ -1,12 +1,13 @@
 -- What is lent stands for a state, before and after a step.
 -- Assumes nothing.
-use Rattle.laws.specs.Basics.{_≡_, refl, sym, ap, subst, Bool, true, false, not, _&&_, List, ℕ, _-_, _*_, _≤_, min, arith, eqb, leb, length, take, length-take-le, eqb-true, leb-true, by-bool}
+use Rattle.laws.specs.Basics.{_≡_, refl, sym, ap, subst, true, false, _&&_, List, ℕ, _-_, _*_, _≤_, min, arith, eqb, leb, length, take, length-take-le, eqb-true, leb-true, by-bool}
 use Rattle.laws.specs.Truth.{and-left, and-right}
 use Rattle.whole_runs.specs.Listing.{mostRecords}
 use Rattle.machines.specs.Machines.{Read, Answer, stepped}
 use Rattle.machines.specs.Forms.{Asks, requestOf, Placed, GoesTo, answerOf}
+use Rattle.machines.proofs.Driving.{stands-as, still-stands}
 use Rattle.machine_record.specs.declared.marks.Marks.{Marks}
-use Rattle.machine_record.specs.{Machine.State, Machine.machine, Machine.ask, Machine.next, Machine.mostToRead, Machine.blockBytes, Played.blockLines}
+use Rattle.machine_record.specs.{Machine.State, Machine.stopped, Machine.machine, Machine.ask, Machine.next, Machine.mostToRead, Machine.blockBytes, Played.blockLines}
 use Rattle.machine_record.specs.Lent.{hasRoom, marksOf, inBounds, positionOf, stateIn, isState, stateOf, placeOf, asksFor, StandsFor, Arrives}
 use Rattle.machines.specs.declared.Request as requests
 use Rattle.machines.specs.declared.Request.the-variants as request
@@ -93,8 +94,8 @@ module _ (m : Marks) (words input out lines : List ℕ) (b : Bounded m (length o
 -- What stands for no state has stopped, and stays so.
 pub not-state : (memory words input out lines : List ℕ) (a : Answer) → isState (length memory) (marksOf memory) (length words) (length input) (length out) (length lines) ≡ false
     → StandsFor memory words input out lines request.Stop (stepped machine (stateOf memory words input out lines) a)
-unfolding stateOf stepped next ask requestOf Placed GoesTo
-not-state memory words input out lines a h = rw h (record { state = rw h refl; asks = record { stands = refl; inside = tt; there = tt } })
+unfolding stateOf stepped next ask
+not-state memory words input out lines a h = still-stands machine (stateOf memory words input out lines) stopped (placeOf memory) input out a (rw h) refl refl
 
 pub no-room : (memory : ℕ) (m : Marks) (words input out lines : ℕ) → hasRoom memory words input out lines ≡ false → isState memory m words input out lines ≡ false
 unfolding isState
@@ -109,16 +110,15 @@ unfolding marksOf
 place-kept memory m e = ap (λ (x : Marks). x .kept) e
 
 -- The numbers of a state are put.
-pub put-stands : (memory words input out lines : List ℕ) (m : Marks) (s : State) → hasRoom (length memory) (length words) (length input) (length out) (length lines) ≡ true → marksOf memory ≡ m
-    → Arrives m words input out lines s → StandsFor memory words input out lines (asksFor m) s
+pub put-stands : (memory words input out lines : List ℕ) (m : Marks) (r : requests.Request) (s : State) → hasRoom (length memory) (length words) (length input) (length out) (length lines) ≡ true → marksOf memory ≡ m → Arrives m words input out lines s → r ≡ asksFor m
+    → StandsFor memory words input out lines r s
 unfolding stateOf isState
-put-stands memory words input out lines m s room is w =
+put-stands memory words input out lines m r s room is w e =
     let b = bounded m (length out) (w .bounds) in
-    let r = enoughRoom _ _ _ _ _ room in
-    let there = place-kept memory m is in
+    let long = enoughRoom _ _ _ _ _ room .input-room in
     record {
       state = rw (room, is, w .bounds) (w .state);
-      asks = rw there (subst (λ (x : State). Asks (asksFor m) (m .kept) input out (ask x)) (w .state) (asks m words input out lines b (r .input-room)));
+      asks = rw (place-kept memory m is, e) (subst (λ (x : State). Asks (asksFor m) (m .kept) input out (ask x)) (w .state) (asks m words input out lines b long));
     }
 
 -- The state before a step.
@@ -126,14 +126,6 @@ pub state-is : (memory words input out lines : List ℕ) (m : Marks) → hasRoom
     → stateOf memory words input out lines ≡ stateIn m words input out lines
 unfolding stateOf isState
 state-is memory words input out lines m room is inside = rw (room, ← is, inside) refl
-
-pub negated : (v : Bool) → not v ≡ true → v ≡ false
-negated true h = sym h
-negated false h = refl
-
-pub affirmed : (v : Bool) → not v ≡ false → v ≡ true
-affirmed true h = refl
-affirmed false h = sym h
 
 pub room-kept : (m w i o l m′ w′ i′ o′ l′ : ℕ) → m′ ≡ m → w′ ≡ w → i′ ≡ i → o′ ≡ o → l′ ≡ l → hasRoom m w i o l ≡ true → hasRoom m′ w′ i′ o′ l′ ≡ true
 room-kept m w i o l m′ w′ i′ o′ l′ a b c d e h = rw (a, b, c, d, e) h
@@ -144,13 +136,6 @@ pub step-stands : (memory words input out lines memory′ words′ input′ out�
     → Arrives m′ words′ input′ out′ lines′ (stepped machine (stateIn m words input out lines) (answerOf a (m .kept) input)) → r ≡ asksFor m′
     → StandsFor memory′ words′ input′ out′ lines′ r (stepped machine (stateOf memory words input out lines) (answerOf a (placeOf memory) input))
 step-stands memory words input out lines memory′ words′ input′ out′ lines′ m m′ r a room is inside room′ is′ w e =
-    let same : stepped machine (stateIn m words input out lines) (answerOf a (m .kept) input) ≡ stepped machine (stateOf memory words input out lines) (answerOf a (placeOf memory) input) =
-    λ j. stepped machine (sym (state-is memory words input out lines m room is inside) j) (answerOf a (sym (place-kept memory m (sym is)) j) input) in
-    subst (λ (s : State). StandsFor memory′ words′ input′ out′ lines′ r s) same
-    (subst (λ (x : requests.Request). StandsFor memory′ words′ input′ out′ lines′ x (stepped machine (stateIn m words input out lines) (answerOf a (m .kept) input))) (sym e)
-    (put-stands memory′ words′ input′ out′ lines′ m′ _ room′ is′ w))
-
-pub begin-stands : (memory words input out lines : List ℕ) (m : Marks) (r : requests.Request) (s : State) → hasRoom (length memory) (length words) (length input) (length out) (length lines) ≡ true
-    → marksOf memory ≡ m → Arrives m words input out lines s → r ≡ asksFor m → StandsFor memory words input out lines r s
-begin-stands memory words input out lines m r s room is w e =
-    subst (λ (x : requests.Request). StandsFor memory words input out lines x s) (sym e) (put-stands memory words input out lines m s room is w)
+    let same : stepped machine (stateOf memory words input out lines) (answerOf a (placeOf memory) input) ≡ stepped machine (stateIn m words input out lines) (answerOf a (m .kept) input) =
+    λ j. stepped machine (state-is memory words input out lines m room is inside j) (answerOf a (place-kept memory m (sym is) j) input) in
+    stands-as machine same (put-stands memory′ words′ input′ out′ lines′ m′ r _ room′ is′ w e)

@@ -3,11 +3,11 @@
 -- Assumes nothing.
 use Rattle.laws.specs.Basics.{_≡_, Bool, true, _&&_, List, ℕ, _-_, _*_, min, eqb, leb, length, getD, take, pick}
 use Rattle.words.specs.Layout.{runOf, stateSize}
-use Rattle.machines.specs.Forms.{Asks}
+use Rattle.machines.specs.Forms.{Stands}
 use Rattle.whole_runs.specs.Listing.{mostRecords}
 use Rattle.machine_record.specs.declared.marks.Marks.{Marks}
 use Rattle.machine_record.specs.Played.{blockLines}
-use Rattle.machine_record.specs.Machine.{Position, State, counting, naming, beginning, writing, reporting, reading, ending, failing, stopped, ask, longestWord, blockBytes}
+use Rattle.machine_record.specs.Machine.{Position, State, counting, naming, beginning, writing, reporting, reading, ending, failing, stopped, machine, longestWord, blockBytes}
 use Rattle.machines.specs.declared.Request as requests
 use Rattle.machines.specs.declared.Request.the-variants as request
 
@@ -78,9 +78,8 @@ asksFor m =
     request.Stop)))))))
 
 -- What is lent stands for a state, and the request is what the machine asks for there.
-pub record StandsFor (memory words input out lines : List ℕ) (r : requests.Request) (s : State) : Type 0 where
-  pub state : stateOf memory words input out lines ≡ s
-  pub asks : Asks r (placeOf memory) input out (ask s)
+abbrev pub StandsFor : List ℕ → List ℕ → List ℕ → List ℕ → List ℕ → requests.Request → State → Type 0
+StandsFor memory words input out lines r s = Stands machine (stateOf memory words input out lines) (placeOf memory) input out r s
 
 -- The numbers, with the words and buffers, stand for a state.
 pub record Arrives (m : Marks) (words input out lines : List ℕ) (s : State) : Type 0 where

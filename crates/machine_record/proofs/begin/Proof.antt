@@ -1,7 +1,7 @@
 -- `machine_record::begin` meets its contract. Assumes nothing.
 use Rattle.laws.specs.Basics.{refl, arith, needs}
 use Rattle.machine_record.specs.Lent.{stateIn}
-use Rattle.machine_record.proofs.{Arriving.arrives-at, Stepping.enoughRoom, Stepping.room-kept, Stepping.begin-stands, begin.Statement.statement}
+use Rattle.machine_record.proofs.{Arriving.arrives-at, Stepping.enoughRoom, Stepping.room-kept, Stepping.put-stands, begin.Statement.statement}
 use Rattle.machine_record.proofs.begin.Tie as tie
 
 put-requires : tie.Need-put-requires
@@ -12,7 +12,7 @@ request-requires c κs = rw (c .before .before .before .before .at .ensures) (om
 
 returns : tie.Need-returns
 unfolding stateIn
-returns c = begin-stands _ _ _ _ _ _ _ _ (room-kept _ _ _ _ _ _ _ _ _ _ (c .before .before .before .put .kept .0) refl refl refl refl (c .before .before .before .before .before .before .before .before .before .before .before .pre)) (c .before .before .before .put .ensures) (rw (c .before .before .before .before .before .at .ensures) (arrives-at _ _ _ 1 0 _ (omega arith))) (c .request .ensures)
+returns c = put-stands _ _ _ _ _ _ _ _ (room-kept _ _ _ _ _ _ _ _ _ _ (c .before .before .before .put .kept .0) refl refl refl refl (c .before .before .before .before .before .before .before .before .before .before .before .pre)) (c .before .before .before .put .ensures) (rw (c .before .before .before .before .before .at .ensures) (arrives-at _ _ _ 1 0 _ (omega arith))) (c .request .ensures)
 
 pub begin-spec : {M : Type 1} → statement M
 begin-spec = tie.close (tie.spec (λ c κs. search needs) put-requires request-requires (λ c. search needs) returns)
