@@ -5,8 +5,8 @@ use Rattle.model.specs.{Words.ones, Refusals.startRefusal, laws.Refusals.by-ref
 use Rattle.whole_runs.specs.Listing.{mostRecords}
 use Rattle.library_replay.specs.Taken.{outcomeOf, blockOutcome, BlocksGoOn}
 use Rattle.library_replay.proofs.Onward.{blocks-go-on}
-use Rattle.machines.specs.Machines.{Stop, Answer, Number, Bytes, End, Done, Failed, Ends, stepped, heard, heardRead, heardDone}
-use Rattle.machines.proofs.Leading.{FitsRead, fits-read}
+use Rattle.machines.specs.Machines.{Stop, Answer, Ends, stepped, heard}
+use Rattle.machines.proofs.Answers.{by-read, by-done}
 use Rattle.machine_replay.specs.Replaying.{Between, State, starting, counted, opening, reading, printing, ending, failing, stopped, mostToRead, asks, taking, onward, begun, opened, filled, wrote, next, replaying}
 
 -- How many bytes it may still read, three for each of them, and those that it has read and not taken.
@@ -28,14 +28,6 @@ module _ (size room : ℕ) where
   unfolding left bytesLeft begun
   begun-falls all n = by-refusal (startRefusal n ones) (λ e. rw e (omega arith)) (λ why e. rw e (omega arith))
 
-  opened-falls : (all : Bool) (a : Answer) → left (opened all a) < 12 * mostRecords + 5
-  unfolding left opened
-  opened-falls all (Bytes l) = begun-falls all (getD l 0 0)
-  opened-falls all (Number k) = omega arith
-  opened-falls all End = omega arith
-  opened-falls all Done = omega arith
-  opened-falls all Failed = omega arith
-
   onward-falls : (b : Between) → left (onward room b) < bytesLeft b + 4
   unfolding left bytesLeft onward taking blockOutcome outcomeOf BlocksGoOn
   onward-falls b =
@@ -52,30 +44,14 @@ module _ (size room : ℕ) where
   unfolding mostToRead bytesLeft
   more-falls b l one most = omega (arith, onward-falls (record { all = b .all; done = b .done; run = b .run; buffered = b .buffered ++ l }), length-append (b .buffered) l)
 
-  filled-falls : (b : Between) (a : Answer) → FitsRead (mostToRead size b) a → left (filled room b a) < bytesLeft b + 3
-  unfolding left filled
-  filled-falls b (Number k) fits = omega arith
-  filled-falls b (Bytes l) fits = more-falls b l (fits .0) (fits .1)
-  filled-falls b End fits = omega arith
-  filled-falls b Done fits = omega arith
-  filled-falls b Failed fits = omega arith
-
-  wrote-falls : (k : ℕ) (s : State) (a : Answer) → 1 < k → left s < k → left (wrote s a) < k
-  unfolding left wrote
-  wrote-falls k s Done h g = g
-  wrote-falls k s (Number n) h g = h
-  wrote-falls k s (Bytes l) h g = h
-  wrote-falls k s End h g = h
-  wrote-falls k s Failed h g = h
-
   pub next-falls : (s : State) (a : Answer) → (asks size s ≡ Stop → ⊥) → left (stepped (replaying size room) s a) < left s
-  unfolding stepped next asks heard left
+  unfolding stepped next asks heard left opened filled wrote
   next-falls starting a on = omega arith
   next-falls (counted single) a on = omega arith
-  next-falls (opening all) a on = opened-falls all (heardRead 1 a)
-  next-falls (reading b) a on = filled-falls b (heardRead (mostToRead size b) a) (fits-read (mostToRead size b) a)
-  next-falls (printing b lines) a on = wrote-falls (bytesLeft b + 4) (onward room b) (heardDone a) (omega arith) (onward-falls b)
-  next-falls (ending lines) a on = wrote-falls 2 stopped (heardDone a) (omega arith) (omega arith)
+  next-falls (opening all) a on = by-read (λ (x : Answer). left (opened all x) < 12 * mostRecords + 5) (omega arith) 1 (λ l some few. begun-falls all (getD l 0 0)) (omega arith) a
+  next-falls (reading b) a on = by-read (λ (x : Answer). left (filled room b x) < bytesLeft b + 3) (omega arith) (mostToRead size b) (more-falls b) (omega arith) a
+  next-falls (printing b lines) a on = by-done (λ (x : Answer). left (wrote (onward room b) x) < bytesLeft b + 4) (omega arith) (onward-falls b) a
+  next-falls (ending lines) a on = by-done (λ (x : Answer). left (wrote stopped x) < 2) (omega arith) (omega arith) a
   next-falls (failing text) a on = omega arith
   next-falls stopped a on = absurd (on refl)
 

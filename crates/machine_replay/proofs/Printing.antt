@@ -1,17 +1,17 @@
 -- What the replay program asks to be written is the listing of what it read, over every list of answers.
 -- Assumes nothing.
 use Rattle.laws.specs.Basics.{_≡_, refl, sym, _∙_, ap, subst, Bool, true, false, _&&_, _||_, List, [], _∷_, _++_, append-nil, append-assoc, ℕ, _+_, _*_, _≤_, _<_, arith, eqb, ltb, leb, length, length-append, eqb-true, lt-ltb, ltb-true, le-leb, leb-true, leb-false, by-bool}
-use Rattle.laws.specs.{Truth.and-left, Truth.and-right, Truth.or-left, Tests.same}
+use Rattle.laws.specs.{Truth.and-left, Truth.and-right, Truth.or-left, Tests.same, Tests.some-of}
 use Rattle.model.specs.{Words.ones, Refusals.startRefusal, laws.Refusals.by-refusal}
 use Rattle.whole_runs.specs.Listing.{mostRecords, asksForAll, records, started, listing}
 use Rattle.listing.specs.Lines.{longestLine}
 use Rattle.library_replay.specs.Taken.{BlockOutcome, mayTake, outcomeOf, blockOutcome, Within, BlocksGoOn}
 use Rattle.library_replay.proofs.Onward.{blocks-go-on}
-use Rattle.machines.specs.Machines.{Request, Count, Argument, Read, Write, Fail, Stop, Answer, Number, Bytes, End, Done, Failed, Machine, Exchange, stepped, exchanged, stateAfter, exchanges, writtenOf, errorTextOf, readBy, readOf, requestsOf, brought, isNumber, heard, heardRead, heardDone, heardCount, heardWord}
-use Rattle.machines.proofs.Runs.{throughout, written-is, error-text-is, read-next, written-next, error-text-next}
-use Rattle.machines.proofs.Leading.{never, read-size, FitsRead, fits-read}
+use Rattle.machines.specs.Machines.{Request, Count, Argument, Read, Write, Fail, Stop, Answer, Bytes, End, Done, Failed, Machine, Exchange, stepped, exchanged, stateAfter, exchanges, writtenOf, errorTextOf, readBy, readOf, requestsOf, brought, isNumber, isEnd, endMet, heard, heardRead, heardDone, heardCount, heardWord}
+use Rattle.machines.proofs.Runs.{throughout, written-is, error-text-is, read-next, written-next, error-text-next, end-next}
+use Rattle.machines.proofs.{Answers.by-count, Answers.by-word, Answers.by-read, Answers.by-done, Leading.never, Leading.read-size}
 use Rattle.machine_replay.specs.Replaying.{Between, State, starting, counted, opening, reading, printing, ending, failing, stopped, allWord, inputText, outputText, mostToRead, asks, taking, onward, begun, opened, filled, wrote, next, replaying}
-use Rattle.machine_replay.specs.Printing.{numberOf, wayOf, isEnd, hasEnded, linesOf, goesOnAfter, MayFollow, PrintsTheListing}
+use Rattle.machine_replay.specs.Printing.{numberOf, wayOf, linesOf, goesOnAfter, MayFollow, PrintsTheListing}
 use Rattle.machine_replay.proofs.Ending.{only-stopped}
 use Rattle.machine_replay.proofs.Going.{Going, begun-going, read-length, owed, going-filled, going-taken, owed-last, buffered-length, lines-so-far, goes-on-after}
 use Rattle.machines.specs.Machines as m
@@ -21,15 +21,10 @@ record Account (all : Bool) (read written : List ℕ) (ended : Bool) (talk : Lis
   way : (more : List Exchange) → wayOf (talk ++ more) ≡ all
   is-read : readOf talk ≡ read
   is-written : writtenOf (requestsOf talk) ≡ written
-  is-ended : hasEnded talk ≡ ended
+  is-ended : endMet talk ≡ ended
 
 abbrev one : Request → Answer → Exchange
 one r a = record { request = r; answer = a }
-
-ended-then : (l : List Exchange) (e : Exchange) → hasEnded (l ++ (e ∷ [])) ≡ (hasEnded l || isEnd (e .answer))
-unfolding hasEnded
-ended-then [] e = by-bool (isEnd (e .answer)) (λ h. rw h) (λ h. rw h)
-ended-then (x ∷ l) e = by-bool (isEnd (x .answer)) (λ h. rw h) (λ h. rw h (ended-then l e))
 
 module _ (all : Bool) (read written : List ℕ) (ended : Bool) (talk : List Exchange) (account : Account all read written ended talk) where
   account-then : (r : Request) (a : Answer) → Account all (read ++ readBy r a) (written ++ m.written r) (ended || isEnd a) (talk ++ (one r a ∷ []))
@@ -37,7 +32,7 @@ module _ (all : Bool) (read written : List ℕ) (ended : Bool) (talk : List Exch
     way = λ more. ap wayOf (append-assoc talk (one r a ∷ []) more) ∙ account .way (one r a ∷ more);
     is-read = read-next talk (one r a) ∙ rw (account .is-read);
     is-written = written-next talk (one r a) ∙ rw (account .is-written);
-    is-ended = ended-then talk (one r a) ∙ rw (account .is-ended);
+    is-ended = end-next talk (one r a) ∙ rw (account .is-ended);
   }
 
 -- Bytes may follow until the input has ended.
@@ -104,33 +99,21 @@ Known (failing text) talk = Known-failing text talk
 Known stopped talk = Known-stopped talk
 
 not-end-count : (a : Answer) → isEnd (heardCount a) ≡ false
-unfolding isEnd heardCount
-not-end-count (Number k) = refl
-not-end-count (Bytes l) = refl
-not-end-count End = refl
-not-end-count Done = refl
-not-end-count Failed = refl
+unfolding isEnd
+not-end-count a = by-count (λ (x : Answer). isEnd x ≡ false) refl (λ n. refl) a
 
 not-end-word : (most : ℕ) (a : Answer) → isEnd (heardWord most a) ≡ false
-unfolding isEnd heardWord
-not-end-word most (Number k) = refl
-not-end-word most (Bytes l) = by-bool (leb (length l) most) (λ e. rw e) (λ e. rw e)
-not-end-word most End = refl
-not-end-word most Done = refl
-not-end-word most Failed = refl
+unfolding isEnd
+not-end-word most a = by-word (λ (x : Answer). isEnd x ≡ false) refl most (λ l few. refl) a
 
-number-two : (a : Answer) → isNumber a 2 ≡ eqb (numberOf a) 2
+number-two : (a : Answer) → isNumber (heardCount a) 2 ≡ eqb (numberOf (heardCount a)) 2
 unfolding isNumber numberOf
-number-two (Number n) = refl
-number-two (Bytes l) = refl
-number-two End = refl
-number-two Done = refl
-number-two Failed = refl
+number-two a = by-count (λ (x : Answer). isNumber x 2 ≡ eqb (numberOf x) 2) refl (λ n. refl) a
 
 -- Both arguments are heard.
 argument-account : (a b : Answer) → Account (isNumber (heardCount a) 2 && same (brought (heardWord 4 b)) allWord) [] [] false (one Count (heardCount a) ∷ one (Argument 1 4) (heardWord 4 b) ∷ [])
-unfolding wayOf asksForAll readOf readBy writtenOf requestsOf m.written hasEnded
-argument-account a b = record { way = λ more. ap (λ (single : Bool). single && same (brought (heardWord 4 b)) allWord) (sym (number-two (heardCount a))); is-read = refl; is-written = refl; is-ended = rw (not-end-count a, not-end-word 4 b) }
+unfolding wayOf asksForAll readOf readBy writtenOf requestsOf m.written endMet some-of
+argument-account a b = record { way = λ more. ap (λ (single : Bool). single && same (brought (heardWord 4 b)) allWord) (sym (number-two a)); is-read = refl; is-written = refl; is-ended = rw (not-end-count a, not-end-word 4 b) }
 
 follows-before : (ended more : Bool) (unread : List ℕ) → Follows (ended || more) unread → Follows ended unread
 follows-before ended more unread f t = f (or-left ended more t)
@@ -174,10 +157,9 @@ module _ (size room : ℕ) (enoughRoom : longestLine ≤ room) where
     abbrev then : Answer → List Exchange
     then x = talk ++ (one (Read 1) x ∷ [])
 
-    opened-failed : (x : Answer) → brought x ≡ [] → isEnd x ≡ false → Known (failing inputText) (then x)
-    unfolding readBy m.written
-    opened-failed x none-read not-end =
-        fails all [] [] false (then x) inputText (rw (none-read, not-end) at (account-then all [] [] false talk account (Read 1) x)) (λ unread f. (listing all unread, refl)) (omega arith)
+    opened-failed : Known (failing inputText) (then Failed)
+    unfolding readBy brought m.written isEnd
+    opened-failed = fails all [] [] false (then Failed) inputText (account-then all [] [] false talk account (Read 1) Failed) (λ unread f. (listing all unread, refl)) (omega arith)
 
     opened-begun : (n : ℕ) → Known (begun all n (startRefusal n ones)) (then (Bytes (n ∷ [])))
     unfolding Known begun readBy brought m.written isEnd listing started
@@ -185,15 +167,17 @@ module _ (size room : ℕ) (enoughRoom : longestLine ≤ room) where
         (λ ok. rw ok (record { read = n ∷ []; written = []; account = account-then all [] [] false talk account (Read 1) (Bytes (n ∷ [])); going = begun-going all n ok; few = omega arith }))
         (λ why e. rw e (record { all = all; read = n ∷ []; written = []; ended = false; account = account-then all [] [] false talk account (Read 1) (Bytes (n ∷ [])); whole = λ unread f. rw e }))
 
-    opened-known : (x : Answer) → FitsRead 1 x → Known (opened all x) (then x)
+    opened-byte : (l : List ℕ) → 1 ≤ length l → length l ≤ 1 → Known (opened all (Bytes l)) (then (Bytes l))
+    unfolding opened
+    opened-byte [] some few = absurd (omega (arith, some))
+    opened-byte (n ∷ []) some few = opened-begun n
+    opened-byte (n ∷ y ∷ l) some few = absurd (omega (arith, few))
+
+    opened-known : (a : Answer) → Known (opened all (heardRead 1 a)) (then (heardRead 1 a))
     unfolding opened Known readBy brought m.written isEnd listing
-    opened-known (Number k) fits = opened-failed (Number k) refl refl
-    opened-known (Bytes []) fits = absurd (omega (arith, fits .0))
-    opened-known (Bytes (n ∷ [])) fits = opened-begun n
-    opened-known (Bytes (n ∷ y ∷ l)) fits = absurd (omega (arith, fits .1))
-    opened-known End fits = record { all = all; read = []; written = []; ended = true; account = account-then all [] [] false talk account (Read 1) End; whole = λ unread f. rw (f refl) }
-    opened-known Done fits = opened-failed Done refl refl
-    opened-known Failed fits = opened-failed Failed refl refl
+    opened-known a = by-read (λ (x : Answer). Known (opened all x) (then x)) opened-failed 1 opened-byte
+        (record { all = all; read = []; written = []; ended = true; account = account-then all [] [] false talk account (Read 1) End; whole = λ unread f. rw (f refl) })
+        a
 
   -- The next bytes.
   module _ (b : Between) (talk : List Exchange) (h : Known-reading b talk) where
@@ -207,17 +191,21 @@ module _ (size room : ℕ) (enoughRoom : longestLine ≤ room) where
     unfolding readBy m.written
     account-after x = rw (append-nil (h .written)) at (account-then (b .all) (h .read) (h .written) false talk (h .account) (Read most) x)
 
-    filled-failed : (x : Answer) → brought x ≡ [] → Known (failing inputText) (after x)
-    filled-failed x none-read =
-        fails (b .all) (h .read) (h .written) (isEnd x) (after x) inputText (rw (none-read, append-nil (h .read)) at (account-after x)) (λ unread f. (records (b .all) (b .done) (b .run) (b .buffered ++ unread), owed (h .read) (h .written) b (h .going) unread)) (omega arith)
+    filled-failed : Known (failing inputText) (after Failed)
+    unfolding brought
+    filled-failed =
+        fails (b .all) (h .read) (h .written) (isEnd Failed) (after Failed) inputText (rw (append-nil (h .read)) at (account-after Failed))
+        (λ unread f. (records (b .all) (b .done) (b .run) (b .buffered ++ unread), owed (h .read) (h .written) b (h .going) unread)) (omega arith)
 
-    filled-known : (x : Answer) → FitsRead most x → Known (filled room b x) (after x)
-    unfolding filled Known brought isEnd mostToRead
-    filled-known (Number k) fits = filled-failed (Number k) refl
-    filled-known (Bytes l) fits =
+    filled-more : (l : List ℕ) → 1 ≤ length l → length l ≤ most → Known (filled room b (Bytes l)) (after (Bytes l))
+    unfolding filled brought isEnd mostToRead
+    filled-more l some few =
         onward-known (record { all = b .all; done = b .done; run = b .run; buffered = b .buffered ++ l }) (h .read ++ l) (h .written) (after (Bytes l)) (account-after (Bytes l))
-        (going-filled (h .read) (h .written) b (h .going) l (omega (arith, fits .0, fits .1, buffered-length (h .read) (h .written) b (h .going), h .going .less)))
-    filled-known End fits = record {
+        (going-filled (h .read) (h .written) b (h .going) l (omega (arith, some, few, buffered-length (h .read) (h .written) b (h .going), h .going .less)))
+
+    filled-end : Known (filled room b End) (after End)
+    unfolding filled Known brought isEnd
+    filled-end = record {
       all = b .all;
       read = h .read;
       written = h .written;
@@ -225,8 +213,10 @@ module _ (size room : ℕ) (enoughRoom : longestLine ≤ room) where
       account = rw (append-nil (h .read)) at (account-after End);
       whole = λ unread f. rw (f refl) (owed (h .read) (h .written) b (h .going) [] ∙ ap (λ (l : List ℕ). h .written ++ records (b .all) (b .done) (b .run) l) (append-nil (b .buffered)));
     }
-    filled-known Done fits = filled-failed Done refl
-    filled-known Failed fits = filled-failed Failed refl
+
+    filled-known : (a : Answer) → Known (filled room b (heardRead most a)) (after (heardRead most a))
+    unfolding filled
+    filled-known a = by-read (λ (x : Answer). Known (filled room b x) (after x)) filled-failed most filled-more filled-end a
 
   -- Lines are written.
   module _ (all : Bool) (read written lines : List ℕ) (ended : Bool) (talk : List Exchange) (account : Account all read written ended talk) where
@@ -234,31 +224,29 @@ module _ (size room : ℕ) (enoughRoom : longestLine ≤ room) where
     unfolding readBy m.written
     account-written x = rw (append-nil read) at (account-then all read written ended talk account (Write lines) x)
 
-    wrote-failed : (x : Answer) → Front all read (written ++ lines) ended → Known (failing outputText) (talk ++ (one (Write lines) x ∷ []))
-    wrote-failed x front =
-        fails all read (written ++ lines) (ended || isEnd x) (talk ++ (one (Write lines) x ∷ [])) outputText (account-written x) (λ unread f. front unread (follows-before ended (isEnd x) unread f)) (omega arith)
+    wrote-failed : Front all read (written ++ lines) ended → Known (failing outputText) (talk ++ (one (Write lines) Failed ∷ []))
+    wrote-failed front =
+        fails all read (written ++ lines) (ended || isEnd Failed) (talk ++ (one (Write lines) Failed ∷ [])) outputText (account-written Failed)
+        (λ unread f. front unread (follows-before ended (isEnd Failed) unread f)) (omega arith)
 
-    wrote-known : (s : State) (x : Answer) → Front all read (written ++ lines) ended → Known s (talk ++ (one (Write lines) Done ∷ [])) → Known (wrote s x) (talk ++ (one (Write lines) x ∷ []))
+    wrote-known : (s : State) (a : Answer) → Front all read (written ++ lines) ended → Known s (talk ++ (one (Write lines) Done ∷ []))
+        → Known (wrote s (heardDone a)) (talk ++ (one (Write lines) (heardDone a) ∷ []))
     unfolding wrote
-    wrote-known s Done front h = h
-    wrote-known s (Number k) front h = wrote-failed (Number k) front
-    wrote-known s (Bytes l) front h = wrote-failed (Bytes l) front
-    wrote-known s End front h = wrote-failed End front
-    wrote-known s Failed front h = wrote-failed Failed front
+    wrote-known s a front h = by-done (λ (x : Answer). Known (wrote s x) (talk ++ (one (Write lines) x ∷ []))) (wrote-failed front) h a
 
-  printed-known : (b : Between) (lines : List ℕ) (talk : List Exchange) → Known-printing b lines talk → (x : Answer) → Known (wrote (onward room b) x) (talk ++ (one (Write lines) x ∷ []))
+  printed-known : (b : Between) (lines : List ℕ) (talk : List Exchange) → Known-printing b lines talk → (a : Answer) → Known (wrote (onward room b) (heardDone a)) (talk ++ (one (Write lines) (heardDone a) ∷ []))
   unfolding isEnd
-  printed-known b lines talk h x =
-      wrote-known (b .all) (h .read) (h .written) lines false talk (h .account) (onward room b) x
+  printed-known b lines talk h a =
+      wrote-known (b .all) (h .read) (h .written) lines false talk (h .account) (onward room b) a
       (λ unread f. (records (b .all) (b .done) (b .run) (b .buffered ++ unread), owed (h .read) (h .written ++ lines) b (h .going) unread))
       (onward-known b (h .read) (h .written ++ lines) (talk ++ (one (Write lines) Done ∷ [])) (account-written (b .all) (h .read) (h .written) lines false talk (h .account) Done) (h .going))
 
-  ended-known : (lines : List ℕ) (talk : List Exchange) → Known-ending lines talk → (x : Answer) → Known (wrote stopped x) (talk ++ (one (Write lines) x ∷ []))
+  ended-known : (lines : List ℕ) (talk : List Exchange) → Known-ending lines talk → (a : Answer) → Known (wrote stopped (heardDone a)) (talk ++ (one (Write lines) (heardDone a) ∷ []))
   unfolding Known
-  ended-known lines talk h x =
+  ended-known lines talk h a =
       let all-lines = h .written ++ lines in
       let still : Whole (h .all) (h .read) (h .written ++ lines) (h .ended || isEnd Done) = λ unread f. h .whole unread (follows-before (h .ended) (isEnd Done) unread f) in
-      wrote-known (h .all) (h .read) (h .written) lines (h .ended) talk (h .account) stopped x (whole-front (h .all) (h .read) all-lines (h .ended) (h .whole))
+      wrote-known (h .all) (h .read) (h .written) lines (h .ended) talk (h .account) stopped a (whole-front (h .all) (h .read) all-lines (h .ended) (h .whole))
       (record {
         all = h .all;
         read = h .read;
@@ -297,10 +285,10 @@ module _ (size room : ℕ) (enoughRoom : longestLine ≤ room) where
   unfolding stepped next asks heard Known
   known-step starting talk a h = (a, rw h, refl)
   known-step (counted single) talk a h = rw (h .1, h .2) (argument-account (h .0) a)
-  known-step (opening all) talk a h = opened-known all talk h (heardRead 1 a) (fits-read 1 a)
-  known-step (reading b) talk a h = filled-known b talk h (heardRead (mostToRead size b) a) (fits-read (mostToRead size b) a)
-  known-step (printing b lines) talk a h = printed-known b lines talk h (heardDone a)
-  known-step (ending lines) talk a h = ended-known lines talk h (heardDone a)
+  known-step (opening all) talk a h = opened-known all talk h a
+  known-step (reading b) talk a h = filled-known b talk h a
+  known-step (printing b lines) talk a h = printed-known b lines talk h a
+  known-step (ending lines) talk a h = ended-known lines talk h a
   known-step (failing text) talk a h = failed-known text talk h Done
   known-step stopped talk a h = stopped-known talk h Failed
 
@@ -352,10 +340,10 @@ module _ (size room : ℕ) (enoughRoom : longestLine ≤ room) where
       s most e h
 
   further-known : (s : State) (talk : List Exchange) → Known s talk → (most : ℕ) → asks size s ≡ Read most
-      → (hasEnded talk ≡ false) × (goesOnAfter (wayOf talk) (readOf talk) ≡ true) × (length (readOf talk) + most ≤ 1 + 4 * mostRecords)
+      → (endMet talk ≡ false) × (goesOnAfter (wayOf talk) (readOf talk) ≡ true) × (length (readOf talk) + most ≤ 1 + 4 * mostRecords)
   unfolding Known asks mostToRead goesOnAfter
   further-known s talk h most e = asking
-      (λ (x : State). Known x talk → asks size x ≡ Read most → (hasEnded talk ≡ false) × (goesOnAfter (wayOf talk) (readOf talk) ≡ true) × (length (readOf talk) + most ≤ 1 + 4 * mostRecords))
+      (λ (x : State). Known x talk → asks size x ≡ Read most → (endMet talk ≡ false) × (goesOnAfter (wayOf talk) (readOf talk) ≡ true) × (length (readOf talk) + most ≤ 1 + 4 * mostRecords))
       (λ all w f. (w .is-ended, rw (w .is-read), omega (arith, ap length (w .is-read), read-size 1 most f)))
       (λ b w f. (
         w .account .is-ended,

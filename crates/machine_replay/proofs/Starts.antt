@@ -1,7 +1,7 @@
 -- The first byte: the start in place, and what was read.
 -- Assumes nothing.
-use Rattle.laws.specs.Basics.{_≡_, refl, _∙_, ap, false, List, [], _∷_, _++_, none, some, ℕ, zero, suc, _+_, _-_, _*_, _≤_, min, arith, leb, length, getD, take, drop, length-take-le, leb-true, by-bool}
-use lib.Seq.{take-add}
+use Rattle.laws.specs.Basics.{_≡_, refl, _∙_, ap, false, List, _++_, none, some, ℕ, _+_, _-_, _*_, _≤_, min, arith, leb, length, getD, take, drop, length-take-le, leb-true, by-bool}
+use lib.Seq.{take-add, getD-take, getD-drop}
 use Rattle.laws.specs.Truth.{and-no-right}
 use Rattle.model.specs.declared.{Run.Run, Refusal.Refusal, StartAnswer.StartAnswer}
 use Rattle.model.specs.{Words.ones, Refusals.startRefusal, Refusals.firstOf, Steps.startState, laws.Refusals.by-refusal}
@@ -44,18 +44,7 @@ module _ (many n : ℕ) (whole : many ≡ stateSize) where
 
 -- The byte that was read.
 pub first-byte : (k at : ℕ) (l : List ℕ) → 1 ≤ k → getD (take k (drop at l)) 0 0 ≡ getD l at 0
-first-byte k zero l h = first-of k l h
-  where
-    first-of : (k : ℕ) (l : List ℕ) → 1 ≤ k → getD (take k l) 0 0 ≡ getD l 0 0
-    first-of zero l h = absurd (omega arith)
-    first-of (suc k) [] h = refl
-    first-of (suc k) (x ∷ l) h = refl
-first-byte k (suc at) [] h = nothing-of k
-  where
-    nothing-of : (k : ℕ) → _≡_ {A = ℕ} (getD (take k []) 0 0) 0
-    nothing-of zero = refl
-    nothing-of (suc k) = refl
-first-byte k (suc at) (x ∷ l) h = first-byte k at l h
+first-byte k at l h = getD-take k (drop at l) 0 0 h ∙ getD-drop at l 0 0 ∙ ap (λ (j : ℕ). getD l j 0) {x = at + 0} {y = at} (omega arith)
 
 -- The bytes that are read after those that are held at the front.
 module _ (p : Place) (words input : List ℕ) (front : p .from ≡ 0) (fits : p .buffered ≤ length input) where

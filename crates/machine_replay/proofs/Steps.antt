@@ -6,10 +6,11 @@ use Rattle.whole_runs.specs.{Outcomes.startOutcome, WholeRuns.Reachable}
 use Rattle.whole_runs.proofs.WholeRuns.{reachable-start}
 use Rattle.library_replay.specs.Taken.{blockOutcome}
 use Rattle.library_replay.proofs.Iterations.{block-reachable}
-use Rattle.machines.specs.Machines.{Answer, Number, Bytes, End, Done, Failed, stepped, heard}
+use Rattle.machines.specs.Machines.{Answer, stepped, heard}
+use Rattle.machines.proofs.Answers.{by-read, by-done}
 use Rattle.machines.specs.Forms.{requestOf, answerOf, Placed, GoesTo, Asks}
 use Rattle.machine_replay.specs.declared.place.Place.{Place}
-use Rattle.machine_replay.specs.Replaying.{Between, State, starting, counted, opening, reading, printing, ending, failing, stopped, asks, taking, onward, begun, opened, filled, wrote, next, replaying}
+use Rattle.machine_replay.specs.Replaying.{Between, State, starting, counted, opening, reading, printing, ending, failing, stopped, mostToRead, asks, taking, onward, begun, opened, filled, wrote, next, replaying}
 use Rattle.machine_replay.specs.Standing.{placeIn, placeOf, stateIn, stateOf, FromStart}
 use Rattle.machines.specs.declared.Answer as answers
 use Rattle.machines.specs.declared.Request as requests
@@ -59,41 +60,13 @@ onward-from-start room b v =
     (λ g. rw (e, g) (block-reachable (b .run) v (b .all) (b .done) (b .buffered) room (o .run) refl))
     (λ g. rw (e, g) tt))
 
-opened-from-start : (all : Bool) (a : Answer) → FromStart (opened all a)
-unfolding opened FromStart
-opened-from-start all (Bytes l) = begun-from-start all (getD l 0 0)
-opened-from-start all End = tt
-opened-from-start all (Number k) = tt
-opened-from-start all Done = tt
-opened-from-start all Failed = tt
-
-filled-from-start : (room : ℕ) (b : Between) (a : Answer) → Reachable (b .run) → FromStart (filled room b a)
-unfolding filled FromStart
-filled-from-start room b (Bytes l) v = onward-from-start room _ v
-filled-from-start room b End v = tt
-filled-from-start room b (Number k) v = tt
-filled-from-start room b Done v = tt
-filled-from-start room b Failed v = tt
-
-wrote-from-start : (then : State) (a : Answer) → FromStart then → FromStart (wrote then a)
-unfolding wrote FromStart
-wrote-from-start then Done v = v
-wrote-from-start then (Number k) v = tt
-wrote-from-start then (Bytes l) v = tt
-wrote-from-start then End v = tt
-wrote-from-start then Failed v = tt
-
-next-from-start : (room : ℕ) (s : State) (a : Answer) → FromStart s → FromStart (next room s a)
-unfolding next FromStart
-next-from-start room starting a v = tt
-next-from-start room (counted single) a v = tt
-next-from-start room (opening all) a v = opened-from-start all a
-next-from-start room (reading b) a v = filled-from-start room b a v
-next-from-start room (printing b lines) a v = wrote-from-start (onward room b) a (onward-from-start room b v)
-next-from-start room (ending lines) a v = wrote-from-start stopped a tt
-next-from-start room (failing text) a v = tt
-next-from-start room stopped a v = tt
-
 pub from-start-on : (size room : ℕ) (s : State) (a : Answer) → FromStart s → FromStart (stepped (replaying size room) s a)
-unfolding stepped
-from-start-on size room s a v = next-from-start room s (heard (asks size s) a) v
+unfolding stepped next asks heard FromStart opened filled wrote
+from-start-on size room starting a v = tt
+from-start-on size room (counted single) a v = tt
+from-start-on size room (opening all) a v = by-read (λ (x : Answer). FromStart (opened all x)) tt 1 (λ l some few. begun-from-start all (getD l 0 0)) tt a
+from-start-on size room (reading b) a v = by-read (λ (x : Answer). FromStart (filled room b x)) tt (mostToRead size b) (λ l some few. onward-from-start room _ v) tt a
+from-start-on size room (printing b lines) a v = by-done (λ (x : Answer). FromStart (wrote (onward room b) x)) tt (onward-from-start room b v) a
+from-start-on size room (ending lines) a v = by-done (λ (x : Answer). FromStart (wrote stopped x)) tt tt a
+from-start-on size room (failing text) a v = tt
+from-start-on size room stopped a v = tt

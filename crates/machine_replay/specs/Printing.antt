@@ -1,10 +1,10 @@
 -- What the replay program asks to be written, over every list of answers of the system: the listing of what it read, as far as it read.
 -- Assumes nothing.
-use Rattle.laws.specs.Basics.{_≡_, Bool, true, false, _&&_, _||_, List, [], _∷_, _++_, Option, none, some, ℕ, _+_, _*_, _/_, _≤_, length, take}
+use Rattle.laws.specs.Basics.{_≡_, Bool, true, false, _&&_, List, [], _∷_, _++_, Option, none, some, ℕ, _+_, _*_, _/_, _≤_, length, take}
 use Rattle.model.specs.declared.Refusal.{Refusal}
 use Rattle.model.specs.{Words.ones, Refusals.startRefusal, Steps.startState}
 use Rattle.whole_runs.specs.Listing.{mostRecords, asksForAll, goesOnAfterAll, listing}
-use Rattle.machines.specs.Machines.{Request, Read, Stop, Answer, Number, Bytes, End, Done, Failed, Machine, Exchange, brought, stateAfter, exchanges, asked, writtenOf, errorTextOf, readOf}
+use Rattle.machines.specs.Machines.{Request, Read, Stop, Answer, Number, Bytes, End, Done, Failed, Machine, Exchange, endMet, brought, stateAfter, exchanges, asked, writtenOf, errorTextOf, readOf}
 use Rattle.machine_replay.specs.Replaying.{State, replaying}
 
 -- How many words the program was started with, its own name among them.
@@ -20,18 +20,6 @@ unfoldable pub wayOf : List Exchange → Bool
 wayOf [] = false
 wayOf (e ∷ []) = false
 wayOf (e ∷ f ∷ talk) = asksForAll (numberOf (e .answer)) (brought (f .answer))
-
--- Whether the system answered that the input has no more bytes.
-unfoldable pub isEnd : Answer → Bool
-isEnd (Number k) = false
-isEnd (Bytes l) = false
-isEnd End = true
-isEnd Done = false
-isEnd Failed = false
-
-unfoldable pub hasEnded : List Exchange → Bool
-hasEnded [] = false
-hasEnded (e ∷ talk) = isEnd (e .answer) || hasEnded talk
 
 -- The lines of all records of which every byte was read: left-over bytes are not judged yet.
 unfoldable pub linesOf : Bool → List ℕ → List ℕ
@@ -49,7 +37,7 @@ goesOnAfter all (n ∷ l) = isStart (startRefusal n ones) && goesOnAfterAll all 
 
 -- Bytes that may follow those that were read: any, until the input has ended.
 abbrev pub MayFollow : List Exchange → List ℕ → Type 0
-MayFollow talk unread = hasEnded talk ≡ true → unread ≡ []
+MayFollow talk unread = endMet talk ≡ true → unread ≡ []
 
 -- Over every list of answers. `asked` has the request that is not answered yet.
 module _ (size room : ℕ) (answers : List Answer) where
@@ -73,4 +61,4 @@ module _ (size room : ℕ) (answers : List Answer) where
     -- Where it stops and no failure was reported, the whole listing is written, whatever may follow.
     pub at-the-stop : request ≡ Stop → errorTextOf (asked machine answers) ≡ [] → (unread : List ℕ) → MayFollow talk unread → written ≡ listing (wayOf talk) (readOf talk ++ unread)
     -- It asks to read nothing past the end, a refusal that stops it, or record 1,000,000,000.
-    pub no-further : (most : ℕ) → request ≡ Read most → (hasEnded talk ≡ false) × (goesOnAfter (wayOf talk) (readOf talk) ≡ true) × (length (readOf talk) + most ≤ 1 + 4 * mostRecords)
+    pub no-further : (most : ℕ) → request ≡ Read most → (endMet talk ≡ false) × (goesOnAfter (wayOf talk) (readOf talk) ≡ true) × (length (readOf talk) + most ≤ 1 + 4 * mostRecords)
