@@ -1,9 +1,9 @@
 -- The caller's members of a line: the call on a list of 16 entries answers as that on the lent one, and what is then written of it.
 -- Assumes nothing.
-use Rattle.laws.specs.Basics.{_≡_, refl, sym, _∙_, ap, Bool, true, false, false≢true, List, [], Option, none, some, ℕ, _≤_, _<_, arith, ltb, length, getD, replicate, sets, lt-ltb, le-ltb, ltb-true, ltb-false, pick, by-bool}
+use Rattle.laws.specs.Basics.{_≡_, refl, sym, _∙_, ap, Bool, true, List, [], Option, none, some, ℕ, _≤_, _<_, arith, ltb, length, getD, replicate, sets, lt-ltb, le-ltb, ltb-true, ltb-false, pick, by-bool}
 use Rattle.laws.specs.{Below.below-written, Choice.pick-same, Lists.table, Loops.setBelow, Loops.below-at, Loops.below-above, Loops.below-length}
 use Rattle.laws.specs.Tables.{table-is}
-use Rattle.model.specs.declared.{Run.Run, Refusal.Refusal, Refusal.the-variants.UnsoundState, LineAnswer.LineAnswer}
+use Rattle.model.specs.declared.{Run.Run, Refusal.Refusal, LineAnswer.LineAnswer}
 use Rattle.model.specs.declared.LineAnswer.the-variants.{Refused, Written}
 use Rattle.model.specs.{Sound.sound, Steps.lineOf, Steps.member, Refusals.firstOf, Refusals.lineRefusal, laws.Sound.sound-state}
 use Rattle.whole_runs.specs.Outcomes.{Outcome, judged, lineOutcome}
@@ -12,27 +12,14 @@ use Rattle.theory_roles.specs.declared.Caller.{Caller}
 use Rattle.theory_roles.specs.Console.{entitled, shown}
 use Rattle.theory_roles.proofs.Shown.{shown-same}
 
--- An answer is not both.
-isWritten : LineAnswer → Bool
-isWritten (Refused r) = false
-isWritten Written = true
-
-never : {P : Type 0} (r : Refusal) → Written ≡ Refused r → P
-unfolding isWritten
-never r e = absurd (false≢true (sym (ap isWritten e)))
-
 -- By the refusal, if there is one.
 answered-none : (o : Option Refusal) → Written ≡ judged o (λ r. Refused r) Written → o ≡ none
 answered-none none e = refl
-answered-none (some r) e = never r e
+answered-none (some r) e = cc
 
 answered-some : (o : Option Refusal) (r : Refusal) → Refused r ≡ judged o (λ w. Refused w) Written → o ≡ some r
-answered-some none r e = never r (sym e)
-answered-some (some w) r e = ap (λ (a : LineAnswer). some (whyOf a)) (sym e)
-  where
-    whyOf : LineAnswer → Refusal
-    whyOf (Refused x) = x
-    whyOf Written = w
+answered-some none r e = cc
+answered-some (some w) r e = cc
 
 -- A list with the first n places written one by one, of those that pass: what is written of them all, at those places.
 module _ (n : ℕ) (t : ℕ → Bool) (m : ℕ → ℕ) (whole lent : List ℕ) (long : n ≤ length whole) (long′ : n ≤ length lent) where
@@ -96,7 +83,7 @@ module _ (c : Caller) (s : Run) (F : ℕ) (lent : List ℕ) (long : s .count ≤
   line-refused r e = rw (sym same-refusal ∙ answered-some (lineRefusal s F own-list) r (e ∙ as-judged own-list)) (refl, sym (shown-same c (s .count) lent))
 
   pub written-sound : Written ≡ lineOutcome s F own-list .answer → sound s ≡ true
-  written-sound e = by-bool (sound s) (λ h. h) (λ h. never UnsoundState (e ∙ sym (line-unsound s h F own-list .1 .0)))
+  written-sound e = by-bool (sound s) (λ h. h) (λ h. let refused = e ∙ sym (line-unsound s h F own-list .1 .0) in cc)
 
   -- Written: the same answer, and the caller's members.
   pub line-written : (whole out : List ℕ) → Written ≡ lineOutcome s F own-list .answer → whole ≡ lineOutcome s F own-list .line

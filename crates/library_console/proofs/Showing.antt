@@ -1,6 +1,6 @@
 -- What is shown of words: a line, by the cases of who asks, and the counts, which are refused with 2 or 3 or written.
 -- Assumes nothing.
-use Rattle.laws.specs.Basics.{_≡_, refl, sym, _∙_, ap, Bool, true, false, not, List, [], ℕ, _+_, _≤_, _<_, arith, ltb, length, sets, by-bool}
+use Rattle.laws.specs.Basics.{_≡_, refl, sym, _∙_, ap, Bool, true, false, not, List, [], ℕ, _+_, _<_, arith, ltb, length, sets, pick, by-bool}
 use Rattle.laws.specs.{Tables.table-same}
 use Rattle.model.specs.declared.{Run.Run, Refusal.the-variants.Denied, Refusal.the-variants.UnsoundState, Refusal.the-variants.ListTooShort}
 use Rattle.model.specs.declared.{LineAnswer.LineAnswer, LineAnswer.the-variants.Refused, LineAnswer.the-variants.Written}
@@ -13,7 +13,7 @@ use Rattle.theory_roles.specs.declared.{Role.Role, Caller.Caller, Operation.the
 use Rattle.theory_roles.specs.Console.{may, denied, denial, shown, consoleLine, consoleCounts, countsRefusal, keptCounts}
 use Rattle.library_console.specs.declared.{denied.Claim.Claim, denied.Claim.the-variants.Unknown, denied.Claim.the-variants.As}
 use Rattle.library_console.specs.Asked.{claimOf, asked, deniedAs, lineAs, countsAs}
-use Rattle.library_console.proofs.Asking.{asked-denied, asked-made}
+use Rattle.library_console.proofs.Asking.{asked-by}
 
 -- The line of one role: what the table says of it.
 module _ (c : Caller) (s : Run) (F : ℕ) (lent : List ℕ) {b : Bool} (e : b ≡ may (c .role) Line) where
@@ -57,25 +57,24 @@ module _ (role owned : ℕ) (w lent : List ℕ) where
       (record { run = s; answer = Written; rose = 0; deleted = []; line = sets lent 0 (keptCounts s) })
 
   module _ {b : Bool} (e : b ≡ deniedAs (claimOf role) owned (λ c. denied c Counts)) where
-    pub counts-denied : b ≡ true → CountsAre (Refused Denied) lent
+    counts-by : countsAs role owned s lent ≡ pick b (denial (Refused Denied) s [] lent) counted
     unfolding countsAs consoleCounts
-    counts-denied t = rw (asked-denied owned (λ c. denied c Counts) (denial (Refused Denied) s [] lent) (λ c. counted) (claimOf role) e t) (refl, (refl, refl))
+    counts-by = asked-by owned (λ c. denied c Counts) (denial (Refused Denied) s [] lent) counted (claimOf role) e
 
-    made : b ≡ false → countsAs role owned s lent ≡ counted
-    unfolding countsAs consoleCounts
-    made t = asked-made owned (λ c. denied c Counts) (denial (Refused Denied) s [] lent) (λ c. counted) (claimOf role) _ (λ c. refl) e t
+    pub counts-denied : b ≡ true → CountsAre (Refused Denied) lent
+    counts-denied t = rw (counts-by, t) (refl, (refl, refl))
 
     pub counts-unsound : b ≡ false → sound s ≡ false → CountsAre (Refused UnsoundState) lent
     unfolding countsRefusal firstOf
-    counts-unsound t h = rw (made t, h) (refl, (refl, refl))
+    counts-unsound t h = rw (counts-by, t, h) (refl, (refl, refl))
 
     pub counts-short : b ≡ false → sound s ≡ true → ltb (length lent) (s .count) ≡ true → CountsAre (Refused ListTooShort) lent
     unfolding countsRefusal firstOf
-    counts-short t h short = rw (made t, h, short) (refl, (refl, refl))
+    counts-short t h short = rw (counts-by, t, h, short) (refl, (refl, refl))
 
     pub counts-written : b ≡ false → (h : sound s ≡ true) → ltb (length lent) (s .count) ≡ false → (out : List ℕ) → out ≡ sets lent 0 (wordsFrom w 16 (s .count)) → CountsAre Written out
     unfolding countsRefusal firstOf keptCounts
-    counts-written t h long out wrote = rw (made t, h, long) (refl, (refl, wrote ∙ ap (λ (l : List ℕ). sets lent 0 l) (table-same (s .count) _ _ many)))
+    counts-written t h long out wrote = rw (counts-by, t, h, long) (refl, (refl, wrote ∙ ap (λ (l : List ℕ). sets lent 0 l) (table-same (s .count) _ _ many)))
       where
         many : (p : ℕ) → p < s .count → word w (16 + p) ≡ length (process s p .kept)
         many p lt =

@@ -1,6 +1,6 @@
 -- `library_console::denied::is_denied` meets its contract: it is no role, or the table says no.
 -- Assumes nothing.
-use Rattle.laws.specs.Basics.{_≡_, refl, sym, _∙_, ap, not, needs}
+use Rattle.laws.specs.Basics.{refl, sym, ap, not, needs}
 use Rattle.theory_roles.specs.Console.{denied}
 use Rattle.library_console.specs.Asked.{deniedAs}
 use Rattle.library_console.proofs.denied.is_denied.Statement.{statement}

@@ -1,6 +1,6 @@
 -- `library_console::denied::is_fit` meets its contract, test by test.
 -- Assumes nothing.
-use Rattle.laws.specs.Basics.{_≡_, refl, sym, _∙_, Bool, true, false, _&&_, _||_, List, ℕ, _-_, _≤_, _<_, arith, length, needs, eq-eqb, ne-eqb, le-leb, lt-leb}
+use Rattle.laws.specs.Basics.{_≡_, refl, sym, _∙_, Bool, true, false, List, ℕ, _-_, _≤_, _<_, arith, length, needs, eq-eqb, ne-eqb, le-leb, lt-leb}
 use Rattle.words.specs.Layout.{stateSize, endOf, endFits, fits, messageIn, isMessage}
 use Rattle.library_console.proofs.denied.is_fit.Statement.{statement}
 use Rattle.library_console.proofs.denied.is_fit.Tie as tie

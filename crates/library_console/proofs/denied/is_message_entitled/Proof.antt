@@ -1,6 +1,6 @@
 -- `library_console::denied::is_message_entitled` meets its contract, by the cases of the role.
 -- Assumes nothing.
-use Rattle.laws.specs.Basics.{_≡_, _∙_, needs}
+use Rattle.laws.specs.Basics.{needs}
 use Rattle.words.specs.Layout.{runOf}
 use Rattle.model.specs.Steps.{found}
 use Rattle.theory_roles.specs.Console.{entitledMessageBy}

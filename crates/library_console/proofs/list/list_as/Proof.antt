@@ -1,6 +1,6 @@
 -- `library_console::list::list_as` meets its contract: the table says no, it is refused with 2 or 3, or what the caller's processes keep is written.
 -- Assumes nothing.
-use Rattle.laws.specs.Basics.{_≡_, sym, _∙_, _*_, _≤_, arith, needs, ltb-false}
+use Rattle.laws.specs.Basics.{sym, _∙_, arith, needs, ltb-false}
 use Rattle.words.specs.Layout.{runOf}
 use Rattle.words.proofs.ViewSound.{sound-words}
 use Rattle.whole_runs.proofs.Unsound.{is-sound, is-unsound}

@@ -1,6 +1,6 @@
 -- `library_console::list::write_list` meets its contract. The loop's invariant: what is listed of the processes passed is written.
 -- Assumes nothing.
-use Rattle.laws.specs.Basics.{_≡_, _∙_, _+_, _-_, _*_, _≤_, _<_, arith, length, needs}
+use Rattle.laws.specs.Basics.{_-_, _*_, _≤_, _<_, arith, length, needs}
 use Rattle.words.specs.Layout.{countOf}
 use Rattle.words.proofs.ViewSound.{sound-words}
 use Rattle.library_console.proofs.Listing.{Listing, none-listed, row-room, count-few, sum-few, one-listed, all-listed}

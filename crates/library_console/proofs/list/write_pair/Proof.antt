@@ -1,6 +1,6 @@
 -- `library_console::list::write_pair` meets its contract: two numbers, one after the other.
 -- Assumes nothing.
-use Rattle.laws.specs.Basics.{_≡_, refl, _∙_, ap, List, [], _∷_, ℕ, _+_, _<_, arith, set, length-set, sets, needs}
+use Rattle.laws.specs.Basics.{_≡_, refl, _∙_, ap, List, [], _∷_, ℕ, _+_, arith, set, length-set, sets, needs}
 use native.Mathlib.Numerals.{add-one}
 use Rattle.model.specs.declared.CheckpointIndex.{CheckpointIndex}
 use Rattle.words.specs.Layout.{word, indexAt, indexOf, checkpointIn}

@@ -1,6 +1,6 @@
 -- `library_console::list::write_part` meets its contract: the caller may not see the process, or all that it keeps is written.
 -- Assumes nothing.
-use Rattle.laws.specs.Basics.{_≡_, sym, _∙_, ap, _≤_, _<_, arith, needs, not-true, not-false}
+use Rattle.laws.specs.Basics.{sym, _∙_, ap, arith, needs, not-true, not-false}
 use Rattle.words.specs.Layout.{word}
 use Rattle.words.proofs.ViewSound.{sound-words}
 use Rattle.library_console.proofs.{Listing.unseen, Listing.seen, list.write_part.Statement.statement}

@@ -1,6 +1,6 @@
 -- `library_console::receivers::look_at` meets its contract: the place is not used, has the message, or has another one.
 -- Assumes nothing.
-use Rattle.laws.specs.Basics.{_≡_, sym, _∙_, _&&_, needs}
+use Rattle.laws.specs.Basics.{sym, _∙_, needs}
 use Rattle.library_console.proofs.Receiving.{room-for-one, one-unused, one-has, one-other, receiver-word}
 use Rattle.library_console.proofs.receivers.look_at.Statement.{statement}
 use Rattle.library_console.proofs.receivers.look_at.Tie as tie

@@ -1,6 +1,6 @@
 -- `library_console::receivers::receiver_in` meets its contract: number 0 where zeros are said to be under way, and what the search brought.
 -- Assumes nothing.
-use Rattle.laws.specs.Basics.{_≡_, _∙_, _&&_, _≤_, arith, needs}
+use Rattle.laws.specs.Basics.{arith, needs}
 use Rattle.words.proofs.View.{fits-size, fits-end, end-most}
 use Rattle.library_console.proofs.{Receiving.zeros-said, Receiving.as-searched, receivers.receiver_in.Statement.statement}
 use Rattle.library_console.proofs.receivers.receiver_in.Tie as tie

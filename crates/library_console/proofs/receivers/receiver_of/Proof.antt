@@ -1,6 +1,6 @@
 -- `library_console::receivers::receiver_of` meets its contract, by whether the words fit.
 -- Assumes nothing.
-use Rattle.laws.specs.Basics.{_≡_, sym, _∙_, ap, needs, not-true, not-false}
+use Rattle.laws.specs.Basics.{sym, _∙_, ap, needs, not-true, not-false}
 use Rattle.library_console.specs.Receivers.{receiverIs}
 use Rattle.library_console.proofs.{Receiving.found-in, Receiving.found-nothing, receivers.receiver_of.Statement.statement}
 use Rattle.library_console.proofs.receivers.receiver_of.Tie as tie

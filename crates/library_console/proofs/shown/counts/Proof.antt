@@ -1,6 +1,6 @@
 -- `library_console::shown::counts` meets its contract: it is denied, refused with 2 or 3, or how many each process keeps is written.
 -- Assumes nothing.
-use Rattle.laws.specs.Basics.{_≡_, sym, _∙_, ap, ℕ, arith, ltb, length, sets, needs, ltb-false}
+use Rattle.laws.specs.Basics.{sym, _∙_, ap, ℕ, arith, ltb, length, sets, needs, ltb-false}
 use Rattle.words.specs.Layout.{runOf}
 use Rattle.whole_runs.proofs.Unsound.{is-sound, is-unsound}
 use Rattle.words.proofs.{View.count-is, ViewSound.sound-words}

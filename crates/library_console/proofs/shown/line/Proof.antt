@@ -1,6 +1,6 @@
 -- `library_console::shown::line` meets its contract, by whether the number is a role's.
 -- Assumes nothing.
-use Rattle.laws.specs.Basics.{_≡_, _∙_, needs}
+use Rattle.laws.specs.Basics.{needs}
 use Rattle.words.specs.Layout.{runOf}
 use Rattle.library_console.proofs.{Showing.line-unknown, Showing.line-known, shown.line.Statement.statement}
 use Rattle.library_console.proofs.shown.line.Tie as tie

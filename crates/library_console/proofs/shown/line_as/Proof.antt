@@ -1,6 +1,6 @@
 -- `library_console::shown::line_as` meets its contract: the table says no, or the caller's members are written.
 -- Assumes nothing.
-use Rattle.laws.specs.Basics.{_≡_, _∙_, needs}
+use Rattle.laws.specs.Basics.{needs}
 use Rattle.words.specs.Layout.{runOf}
 use Rattle.library_console.proofs.{Showing.line-denied, Showing.line-made, shown.line_as.Statement.statement}
 use Rattle.library_console.proofs.shown.line_as.Tie as tie

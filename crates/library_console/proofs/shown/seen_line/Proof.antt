@@ -1,6 +1,6 @@
 -- `library_console::shown::seen_line` meets its contract: a lent list that is too short, a refused line, and the caller's members of the line.
 -- Assumes nothing.
-use Rattle.laws.specs.Basics.{_≡_, sym, _∙_, arith, needs}
+use Rattle.laws.specs.Basics.{sym, _∙_, arith, needs}
 use Rattle.words.specs.Layout.{runOf}
 use Rattle.model.specs.laws.Sound.{sound-state}
 use Rattle.theory_roles.specs.Console.{entitled}
