@@ -1,7 +1,7 @@
 -- The numbers of a state, and the states that they stand for.
 -- Assumes nothing.
-use Rattle.laws.specs.Basics.{_≡_, refl, sym, _∙_, ap, true, false, List, [], _∷_, ℕ, _+_, _-_, _≤_, _<_, arith, eqb, length, getD, take, length-take-le, eq-eqb, ne-eqb, lt-ltb, le-ltb, le-leb, by-bool}
-use lib.Seq.{length-sets}
+use Rattle.laws.specs.Basics.{_≡_, refl, sym, _∙_, ap, true, false, List, [], _∷_, ℕ, _+_, _≤_, _<_, arith, eqb, length, getD, take, length-take-le, eq-eqb, ne-eqb, lt-ltb, le-ltb, le-leb, by-bool}
+use lib.Seq.{length-sets, take-take}
 use Rattle.model.specs.declared.Run.{Run}
 use Rattle.model.specs.Refusals.{number}
 use Rattle.listing.specs.Printed.{Printed}
@@ -9,7 +9,7 @@ use Rattle.machines.proofs.programs.Texts.{front-text}
 use Rattle.words.specs.Layout.{runOf}
 use Rattle.machines.specs.Machines.{Answer, stepped}
 use Rattle.machine_console.specs.{Made.madeOn, Made.opened, Text.firstCall, Text.lineText, Text.callText, Text.refusedText, Text.refusedAt, Replied.Makes}
-use Rattle.machine_console.specs.Consoling.{mostCalls, Opening, Reading, Printing, Ending, Failing, Stopped, next, begun, called, onward, atEnd, furtherOn, consoling}
+use Rattle.machine_console.specs.Consoling.{mostCalls, State, Reading, Printing, Ending, Stopped, next, begun, called, onward, atEnd, furtherOn, consoling}
 use Rattle.machine_console.specs.{script.Script.callOf, Lent.mostDone, Lent.inBounds, Lent.betweenOf, Lent.stateIn, Lent.Arrives}
 use Rattle.machine_console.specs.declared.marks.Marks.{Marks}
 
@@ -21,28 +21,16 @@ pub printed-inside : (out text out′ : List ℕ) (size : ℕ) → size ≤ leng
 printed-inside out text out′ size h p = omega (arith, h, ap (λ (x : List ℕ). length x) (p .holds), length-sets out 0 text)
 
 module _ (words input : List ℕ) where
-  pub arrives-stopped : (out : List ℕ) → Arrives (record { phase = 0; done = 0; kept = 0; size = 0 }) words input out Stopped
-  unfolding stateIn mostDone
-  arrives-stopped out = record { bounds = bounds _ (length out) (omega arith) (omega arith) (omega arith); state = refl }
+  -- A phase in which nothing is counted.
+  pub arrives-at : (phase : ℕ) (out : List ℕ) → let m : Marks = record { phase = phase; done = 0; kept = 0; size = 0 } in Arrives m words input out (stateIn m words input out)
+  arrives-at phase out = record { bounds = bounds _ (length out) (omega arith) (omega arith) (omega arith); state = refl }
 
-  pub arrives-opening : (out : List ℕ) → Arrives (record { phase = 1; done = 0; kept = 0; size = 0 }) words input out Opening
-  unfolding stateIn mostDone
-  arrives-opening out = record { bounds = bounds _ (length out) (omega arith) (omega arith) (omega arith); state = refl }
-
-  pub arrives-ending : (out text out′ : List ℕ) (size : ℕ) → size ≤ length out → Printed out 0 text out′ size
-      → Arrives (record { phase = 4; done = 0; kept = 0; size = size }) words input out′ (Ending text)
-  unfolding stateIn mostDone
-  arrives-ending out text out′ size h p = record {
+  -- A phase that has a text and nothing else.
+  pub arrives-text : (phase : ℕ) (state : List ℕ → State) (out text out′ : List ℕ) (size : ℕ) → size ≤ length out → Printed out 0 text out′ size
+      → let m : Marks = record { phase = phase; done = 0; kept = 0; size = size } in stateIn m words input out′ ≡ state (take size out′) → Arrives m words input out′ (state text)
+  arrives-text phase state out text out′ size h p is = record {
     bounds = bounds _ (length out′) (omega arith) (omega arith) (printed-inside out text out′ size h p);
-    state = ap Ending (front-text out text out′ size p h);
-  }
-
-  pub arrives-failing : (out text out′ : List ℕ) (size : ℕ) → size ≤ length out → Printed out 0 text out′ size
-      → Arrives (record { phase = 5; done = 0; kept = 0; size = size }) words input out′ (Failing text)
-  unfolding stateIn mostDone
-  arrives-failing out text out′ size h p = record {
-    bounds = bounds _ (length out′) (omega arith) (omega arith) (printed-inside out text out′ size h p);
-    state = ap Failing (front-text out text out′ size p h);
+    state = is ∙ ap state (front-text out text out′ size p h);
   }
 
   -- The first state after the start.
@@ -95,24 +83,13 @@ module _ (words input : List ℕ) where
       let eight : buffered ≡ 8 = omega (arith, a, b) in
       rw (eight, length-take-le 8 input k) refl
 
--- A whole call is kept as it is.
-take-eight : (l : List ℕ) → 8 ≤ length l → take 8 (take 8 l) ≡ take 8 l
-take-eight (a ∷ b ∷ c ∷ d ∷ e ∷ f ∷ g ∷ h ∷ l) k = refl
-take-eight [] k = absurd (omega (arith, k))
-take-eight (a ∷ []) k = absurd (omega (arith, k))
-take-eight (a ∷ b ∷ []) k = absurd (omega (arith, k))
-take-eight (a ∷ b ∷ c ∷ []) k = absurd (omega (arith, k))
-take-eight (a ∷ b ∷ c ∷ d ∷ []) k = absurd (omega (arith, k))
-take-eight (a ∷ b ∷ c ∷ d ∷ e ∷ []) k = absurd (omega (arith, k))
-take-eight (a ∷ b ∷ c ∷ d ∷ e ∷ f ∷ []) k = absurd (omega (arith, k))
-take-eight (a ∷ b ∷ c ∷ d ∷ e ∷ f ∷ g ∷ []) k = absurd (omega (arith, k))
-
+-- A whole call is made.
 pub arrives-called : (done : ℕ) (words words′ input out′ bytes : List ℕ) (size : ℕ) → done < mostCalls → 8 ≤ length input → bytes ≡ take 8 input
     → Makes (runOf words) (done + 1) (callOf bytes) words′ out′ size
     → Arrives (record { phase = 3; done = done + 1; kept = 0; size = size }) words′ input out′ (called (record { done = done; run = runOf words; buffered = take 8 input }))
 unfolding stateIn mostDone called
 arrives-called done words words′ input out′ bytes size a k e makes =
-    let same : callOf bytes ≡ firstCall (take 8 input) = ap callOf (e ∙ sym (take-eight input k)) in
+    let same : callOf bytes ≡ firstCall (take 8 input) = ap callOf (e ∙ sym (take-take 8 8 input (omega arith))) in
     record {
       bounds = bounds _ (length out′) (omega (arith, a)) (omega arith) (makes .inside);
       state = λ j. Printing ((makes .line ∙ ap (callText (done + 1) (runOf words)) same) j) (record { done = done + 1; run = (makes .run ∙ ap (λ o. madeOn (runOf words) o .run) same) j; buffered = [] });

@@ -1,7 +1,8 @@
 -- The machine ends: a number falls with each answer.
 -- Assumes nothing.
-use Rattle.laws.specs.Basics.{_≡_, refl, _∙_, Bool, true, false, _&&_, List, [], _∷_, _++_, ℕ, _+_, _-_, _*_, _≤_, _<_, arith, eqb, ltb, leb, length, getD, length-append, ltb-true, leb-true, pick, by-bool}
-use Rattle.machines.specs.Machines.{Stop, Answer, Number, Bytes, End, Done, Failed, heard, heardRead, heardDone, stepped, Ends}
+use Rattle.laws.specs.Basics.{_≡_, refl, List, _++_, ℕ, _+_, _-_, _*_, _≤_, _<_, arith, eqb, ltb, length, getD, length-append, ltb-true, pick, by-bool}
+use Rattle.machines.specs.Machines.{Stop, Answer, heard, stepped, Ends}
+use Rattle.machines.proofs.Answers.{by-read, by-done}
 use Rattle.machine_console.specs.Text.{callSize, refusedAt}
 use Rattle.machine_console.specs.Consoling.{mostCalls, Between, State, Opening, Reading, Printing, Ending, Failing, Stopped, ask, next, begun, afterFirst, called, onward, atEnd, afterRead, furtherOn, afterWrite, consoling}
 
@@ -14,21 +15,9 @@ left (Ending line) = 2
 left (Failing name) = 1
 left Stopped = 0
 
-and-true : (a b : Bool) → a && b ≡ true → a ≡ true
-and-true true b e = refl
-and-true false b e = absurd (let z : _≡_ {A = ℕ} 0 1 = cc in omega arith)
-
 begun-falls : (n : ℕ) → left (begun n) < left Opening
 unfolding begun
 begun-falls n = by-bool (eqb (refusedAt n) 0) (λ e. rw e (omega arith)) (λ e. rw e (omega arith))
-
-first-falls : (a : Answer) → left (afterFirst (heardRead 1 a)) < left Opening
-unfolding heardRead afterFirst
-first-falls (Number n) = omega arith
-first-falls (Bytes l) = by-bool (leb 1 (length l) && leb (length l) 1) (λ e. rw e (begun-falls (getD l 0 0))) (λ e. rw e (omega arith))
-first-falls End = omega arith
-first-falls Done = omega arith
-first-falls Failed = omega arith
 
 called-falls : (b : Between) → left (called b) < 10 * (mostCalls - b .done) + 4
 unfolding called
@@ -49,38 +38,19 @@ end-falls : (b : Between) → left (atEnd b) < left (Reading b)
 unfolding atEnd
 end-falls b = by-bool (eqb (length (b .buffered)) 0) (λ e. rw e (omega arith)) (λ e. rw e (omega arith))
 
-read-falls : (b : Between) (most : ℕ) (a : Answer) → left (afterRead b (heardRead most a)) < left (Reading b)
-unfolding heardRead afterRead
-read-falls b most (Number n) = omega arith
-read-falls b most (Bytes more) =
-    by-bool (leb 1 (length more) && leb (length more) most)
-    (λ e. rw e (onward-falls b more (leb-true 1 (length more) (and-true _ _ e))))
-    (λ e. rw e (omega arith))
-read-falls b most End = end-falls b
-read-falls b most Done = omega arith
-read-falls b most Failed = omega arith
-
 further-falls : (line : List ℕ) (b : Between) → left (furtherOn b) < left (Printing line b)
 unfolding furtherOn
 further-falls line b = by-bool (ltb (b .done) mostCalls) (λ e. rw e (omega arith)) (λ e. rw e (omega arith))
-
-write-falls : (then : State) (most : ℕ) → left then < most → 1 < most → (a : Answer) → left (afterWrite then (heardDone a)) < most
-unfolding heardDone afterWrite
-write-falls then most h one (Number n) = one
-write-falls then most h one (Bytes l) = one
-write-falls then most h one End = one
-write-falls then most h one Done = h
-write-falls then most h one Failed = one
 
 printed-more : (line : List ℕ) (b : Between) → 1 < left (Printing line b)
 printed-more line b = by-bool (ltb (b .done) mostCalls) (λ e. rw e (omega arith)) (λ e. rw e (omega arith))
 
 pub falls : (s : State) (a : Answer) → (ask s ≡ Stop → ⊥) → left (stepped consoling s a) < left s
-unfolding stepped ask next heard
-falls Opening a h = first-falls a
-falls (Reading b) a h = read-falls b (callSize - length (b .buffered)) a
-falls (Printing line b) a h = write-falls (furtherOn b) (left (Printing line b)) (further-falls line b) (printed-more line b) a
-falls (Ending line) a h = write-falls Stopped 2 (omega arith) (omega arith) a
+unfolding stepped ask next heard afterFirst afterRead afterWrite
+falls Opening a h = by-read (λ (x : Answer). left (afterFirst x) < left Opening) (omega arith) 1 (λ l some few. begun-falls (getD l 0 0)) (omega arith) a
+falls (Reading b) a h = by-read (λ (x : Answer). left (afterRead b x) < left (Reading b)) (omega arith) (callSize - length (b .buffered)) (λ more some few. onward-falls b more some) (end-falls b) a
+falls (Printing line b) a h = by-done (λ (x : Answer). left (afterWrite (furtherOn b) x) < left (Printing line b)) (printed-more line b) (further-falls line b) a
+falls (Ending line) a h = by-done (λ (x : Answer). left (afterWrite Stopped x) < 2) (omega arith) (omega arith) a
 falls (Failing name) a h = omega arith
 falls Stopped a h = absurd (h refl)
 

@@ -1,6 +1,6 @@
 -- The lines of calls, one call more.
 -- Assumes nothing.
-use Rattle.laws.specs.Basics.{_≡_, refl, sym, _∙_, ap, List, [], _∷_, _++_, append-nil, append-assoc, ℕ, zero, suc, _+_, _-_, _*_, _/_, _%_, _≤_, _<_, arith, length, drop, length-drop}
+use Rattle.laws.specs.Basics.{_≡_, refl, sym, _∙_, ap, List, [], _∷_, _++_, append-nil, append-assoc, ℕ, zero, suc, _+_, _*_, _/_, _%_, _≤_, _<_, arith, length, drop, length-drop}
 use lib.Seq.{take-append-le, drop-append-le}
 use Rattle.model.specs.declared.Run.{Run}
 use Rattle.machine_console.specs.{Made.madeOn, Text.firstCall, Text.callText, Text.callLines, Text.runAfter}

@@ -1,6 +1,6 @@
 -- A call is made with the lists that are lent for it, and its line is at the front of the buffer.
 -- Assumes nothing.
-use Rattle.laws.specs.Basics.{_≡_, refl, _∙_, ap, Bool, List, [], _∷_, _++_, Option, none, some, ℕ, zero, suc, _+_, _-_, _*_, _≤_, arith, length, take, replicate, length-replicate, pick, by-bool}
+use Rattle.laws.specs.Basics.{_≡_, refl, _∙_, ap, Bool, List, [], _∷_, Option, none, some, ℕ, zero, suc, _-_, _*_, _≤_, arith, length, take, replicate, length-replicate, pick, by-bool}
 use lib.Seq.{length-sets}
 use Rattle.model.specs.declared.Run.{Run}
 use Rattle.model.specs.Refusals.{number}

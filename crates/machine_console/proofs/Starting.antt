@@ -1,6 +1,6 @@
 -- A start on words is the console's start with the block count 1 at each process.
 -- Assumes nothing.
-use Rattle.laws.specs.Basics.{_≡_, refl, sym, _∙_, ap, true, false, _&&_, List, [], ℕ, arith, eqb, length, eq-eqb, ne-eqb, pick, by-bool}
+use Rattle.laws.specs.Basics.{_≡_, refl, sym, _∙_, ap, true, false, List, ℕ, arith, eqb, length, eq-eqb, ne-eqb, pick, by-bool}
 use Rattle.model.specs.declared.{Refusal.the-variants.Denied, StartAnswer.StartAnswer}
 use Rattle.model.specs.{Words.ones}
 use Rattle.whole_runs.specs.{Outcomes.Outcome, Outcomes.Report, Outcomes.startReport, Calls.answered}

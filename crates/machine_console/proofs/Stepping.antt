@@ -1,11 +1,12 @@
 -- What is lent stands for a state, before and after a step.
 -- Assumes nothing.
-use Rattle.laws.specs.Basics.{_≡_, refl, sym, ap, subst, Bool, true, false, not, _&&_, List, ℕ, _-_, _*_, _≤_, arith, eqb, leb, length, take, length-take-le, eqb-true, leb-true, by-bool}
+use Rattle.laws.specs.Basics.{_≡_, refl, sym, ap, subst, true, false, _&&_, List, ℕ, _-_, _≤_, arith, eqb, leb, length, take, length-take-le, eqb-true, leb-true, by-bool}
 use Rattle.laws.specs.Truth.{and-left, and-right}
-use Rattle.machines.specs.Machines.{Request, Read, Stop, Answer, stepped}
+use Rattle.machines.specs.Machines.{Read, Answer, stepped}
 use Rattle.machines.specs.Forms.{Asks, requestOf, Placed, GoesTo, answerOf}
+use Rattle.machines.proofs.Driving.{stands-as, still-stands}
 use Rattle.machine_console.specs.declared.marks.Marks.{Marks}
-use Rattle.machine_console.specs.{Consoling.State, Consoling.consoling, Consoling.ask, Consoling.next, Text.callSize}
+use Rattle.machine_console.specs.{Consoling.State, Consoling.Stopped, Consoling.consoling, Consoling.ask, Consoling.next, Text.callSize}
 use Rattle.machine_console.specs.Replied.{longestLine}
 use Rattle.machine_console.specs.Lent.{hasRoom, marksOf, mostDone, inBounds, stateIn, isState, stateOf, placeOf, asksFor, StandsFor, Arrives}
 use Rattle.machines.specs.declared.Request as requests
@@ -74,8 +75,8 @@ module _ (m : Marks) (words input out : List ℕ) (b : Bounded m (length out)) (
 -- What stands for no state has stopped, and stays so.
 pub not-state : (memory words input out : List ℕ) (a : Answer) → isState (length memory) (marksOf memory) (length words) (length input) (length out) ≡ false
     → StandsFor memory words input out request.Stop (stepped consoling (stateOf memory words input out) a)
-unfolding stateOf stepped next ask requestOf Placed GoesTo
-not-state memory words input out a h = rw h (record { state = rw h refl; asks = record { stands = refl; inside = tt; there = tt } })
+unfolding stateOf stepped next ask
+not-state memory words input out a h = still-stands consoling (stateOf memory words input out) Stopped (placeOf memory) input out a (rw h) refl refl
 
 pub no-room : (memory : ℕ) (m : Marks) (words input out : ℕ) → hasRoom memory words input out ≡ false → isState memory m words input out ≡ false
 unfolding isState
@@ -90,16 +91,15 @@ unfolding marksOf
 place-kept memory m e = ap (λ (x : Marks). x .kept) e
 
 -- The numbers of a state are put.
-pub put-stands : (memory words input out : List ℕ) (m : Marks) (s : State) → hasRoom (length memory) (length words) (length input) (length out) ≡ true → marksOf memory ≡ m
-    → Arrives m words input out s → StandsFor memory words input out (asksFor m) s
+pub put-stands : (memory words input out : List ℕ) (m : Marks) (r : requests.Request) (s : State) → hasRoom (length memory) (length words) (length input) (length out) ≡ true → marksOf memory ≡ m → Arrives m words input out s → r ≡ asksFor m
+    → StandsFor memory words input out r s
 unfolding stateOf isState
-put-stands memory words input out m s room is w =
+put-stands memory words input out m r s room is w e =
     let b = bounded m (length out) (w .bounds) in
-    let r = enoughRoom _ _ _ _ room in
-    let there = place-kept memory m is in
+    let long = enoughRoom _ _ _ _ room .input-room in
     record {
       state = rw (room, is, w .bounds) (w .state);
-      asks = rw there (subst (λ (x : State). Asks (asksFor m) (m .kept) input out (ask x)) (w .state) (asks m words input out b (r .input-room)));
+      asks = rw (place-kept memory m is, e) (subst (λ (x : State). Asks (asksFor m) (m .kept) input out (ask x)) (w .state) (asks m words input out b long));
     }
 
 -- The state before a step.
@@ -107,14 +107,6 @@ pub state-is : (memory words input out : List ℕ) (m : Marks) → hasRoom (leng
     → stateOf memory words input out ≡ stateIn m words input out
 unfolding stateOf isState
 state-is memory words input out m room is inside = rw (room, ← is, inside) refl
-
-pub negated : (v : Bool) → not v ≡ true → v ≡ false
-negated true h = sym h
-negated false h = refl
-
-pub affirmed : (v : Bool) → not v ≡ false → v ≡ true
-affirmed true h = refl
-affirmed false h = sym h
 
 pub room-kept : (m w i o m′ w′ i′ o′ : ℕ) → m′ ≡ m → w′ ≡ w → i′ ≡ i → o′ ≡ o → hasRoom m w i o ≡ true → hasRoom m′ w′ i′ o′ ≡ true
 room-kept m w i o m′ w′ i′ o′ a b c d h = rw (a, b, c, d) h
@@ -125,13 +117,6 @@ pub step-stands : (memory words input out memory′ words′ input′ out′ : L
     → Arrives m′ words′ input′ out′ (stepped consoling (stateIn m words input out) (answerOf a (m .kept) input)) → r ≡ asksFor m′
     → StandsFor memory′ words′ input′ out′ r (stepped consoling (stateOf memory words input out) (answerOf a (placeOf memory) input))
 step-stands memory words input out memory′ words′ input′ out′ m m′ r a room is inside room′ is′ w e =
-    let same : stepped consoling (stateIn m words input out) (answerOf a (m .kept) input) ≡ stepped consoling (stateOf memory words input out) (answerOf a (placeOf memory) input) =
-    λ j. stepped consoling (sym (state-is memory words input out m room is inside) j) (answerOf a (sym (place-kept memory m (sym is)) j) input) in
-    subst (λ (s : State). StandsFor memory′ words′ input′ out′ r s) same
-    (subst (λ (x : requests.Request). StandsFor memory′ words′ input′ out′ x (stepped consoling (stateIn m words input out) (answerOf a (m .kept) input))) (sym e)
-    (put-stands memory′ words′ input′ out′ m′ _ room′ is′ w))
-
-pub begin-stands : (memory words input out : List ℕ) (m : Marks) (r : requests.Request) (s : State) → hasRoom (length memory) (length words) (length input) (length out) ≡ true
-    → marksOf memory ≡ m → Arrives m words input out s → r ≡ asksFor m → StandsFor memory words input out r s
-begin-stands memory words input out m r s room is w e =
-    subst (λ (x : requests.Request). StandsFor memory words input out x s) (sym e) (put-stands memory words input out m s room is w)
+    let same : stepped consoling (stateOf memory words input out) (answerOf a (placeOf memory) input) ≡ stepped consoling (stateIn m words input out) (answerOf a (m .kept) input) =
+    λ j. stepped consoling (state-is memory words input out m room is inside j) (answerOf a (place-kept memory m (sym is) j) input) in
+    stands-as consoling same (put-stands memory′ words′ input′ out′ m′ r _ room′ is′ w e)

@@ -2,9 +2,9 @@
 -- Assumes nothing.
 use Rattle.laws.specs.Basics.{_≡_, Bool, true, _&&_, List, ℕ, _-_, eqb, leb, length, getD, take, pick}
 use Rattle.words.specs.Layout.{runOf, stateSize}
-use Rattle.machines.specs.Forms.{Asks}
+use Rattle.machines.specs.Forms.{Stands}
 use Rattle.machine_console.specs.{Text.callSize, Replied.longestLine}
-use Rattle.machine_console.specs.Consoling.{mostCalls, Between, State, Opening, Reading, Printing, Ending, Failing, Stopped, ask}
+use Rattle.machine_console.specs.Consoling.{mostCalls, Between, State, Opening, Reading, Printing, Ending, Failing, Stopped, consoling}
 use Rattle.machine_console.specs.declared.marks.Marks.{Marks}
 use Rattle.machines.specs.declared.Request as requests
 use Rattle.machines.specs.declared.Request.the-variants as request
@@ -58,9 +58,8 @@ asksFor m =
     request.Stop))))
 
 -- What is lent stands for a state, and the request is what the machine asks for there.
-pub record StandsFor (memory words input out : List ℕ) (r : requests.Request) (s : State) : Type 0 where
-  pub state : stateOf memory words input out ≡ s
-  pub asks : Asks r (placeOf memory) input out (ask s)
+abbrev pub StandsFor : List ℕ → List ℕ → List ℕ → List ℕ → requests.Request → State → Type 0
+StandsFor memory words input out r s = Stands consoling (stateOf memory words input out) (placeOf memory) input out r s
 
 -- The numbers, with the words and buffers, stand for a state.
 pub record Arrives (m : Marks) (words input out : List ℕ) (s : State) : Type 0 where

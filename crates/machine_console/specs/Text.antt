@@ -1,7 +1,7 @@
 -- The facts of a script, one line a call, decimal, single spaces: the number of the call, from 1; 0 or the number of its refusal; if accepted, what the call answered and
 -- wrote.
 -- Assumes nothing.
-use Rattle.laws.specs.Basics.{List, [], _∷_, _++_, Option, none, some, ℕ, zero, suc, _+_, _*_, _/_, _%_, eqb, length, take, drop, pick}
+use Rattle.laws.specs.Basics.{List, [], _∷_, _++_, Option, none, some, ℕ, zero, suc, _+_, _/_, _%_, eqb, length, take, drop, pick}
 use Rattle.model.specs.declared.{Run.Run, Refusal.Refusal, Refusal.the-variants.NoFirstByte, Refusal.the-variants.LeftOverBytes}
 use Rattle.model.specs.Refusals.{number}
 use Rattle.whole_runs.specs.{Calls.Reply, Listing.decimal, Listing.space, Listing.lineFeed, Listing.valueText, Listing.deletionsText}

@@ -1,10 +1,18 @@
 -- `machine_console::calls::list` meets its contract. Assumes nothing.
-use Rattle.laws.specs.Basics.{needs}
-use Rattle.machine_console.proofs.{Replying.list-replies, calls.list.Statement.statement}
+use Rattle.laws.specs.Basics.{refl, needs}
+use Rattle.whole_runs.specs.Calls.{answered}
+use Rattle.theory_roles.specs.{declared.Operation.the-variants.List as Listing, Console.listReport, Runs.consoleAnswered}
+use Rattle.library_console.specs.Asked.{listAs}
+use Rattle.machine_console.specs.{Made.madeWith, Text.answerText}
+use Rattle.machine_console.proofs.{Replying.replies, calls.list.Statement.statement}
 use Rattle.machine_console.proofs.calls.list.Tie as tie
 
 returns : tie.Need-returns
-returns c = let a = c .before .before .before .before .before .before .before .args in let e = c .before .before .before .list .ensures in λ line. list-replies (a .role) (a .owned) (a .c) _ _ _ (c .before .before .before .before .before .before .before .pre) _ _ line _ (e .0) (e .1 .0) (e .1 .1) (c .of-list .ensures)
+unfolding listAs madeWith consoleAnswered answered answerText
+returns c = λ line.
+    let s = c .before .before .before .before .before .before .before in
+    let e = c .before .before .before .list .ensures in
+    replies listReport Listing (s .args .role) (s .args .owned) (s .args .c .caller) _ _ _ _ _ _ line (s .pre) (e .0) (e .1 .0) (c .of-list .ensures) (λ k n. rw (e .1 .1) refl)
 
 pub list-spec : {M : Type 1} → statement M
 list-spec = tie.close (tie.spec (λ c κs. search needs) (λ c κs. search needs) (λ c. search needs) returns)

@@ -6,26 +6,48 @@ use Rattle.machine_console.proofs.{Lists.few, Lists.cut-few, Lists.lent
 use Rattle.admissions.proofs.Room.{twice-square}
 use Rattle.machine_console.proofs.making.make_asked.Tie as tie
 
+-- No more than 16 processes, and so no more than 512 numbers of pairs.
+module _ (c : tie.After-processes) where
+  few16 : c .processes .result ≤ 16
+  few16 = omega (arith, c .processes .ensures, few (runOf (c .before .before .before .before .args .w .now)))
+
+  few512 : 2 * c .processes .result * c .processes .result ≤ 512
+  few512 = twice-square (c .processes .result) few16
+
 mul-cut : tie.Need-mul-cut
-mul-cut c = let few16 : c .processes .result ≤ 16 = omega (arith, c .processes .ensures, few (runOf (c .before .before .before .before .args .w .now))) in omega (arith, few16)
+mul-cut c = omega (arith, few16 c)
 
 mul-cut-2 : tie.Need-mul-cut-2
-mul-cut-2 c = let few16 : c .processes .result ≤ 16 = omega (arith, c .processes .ensures, few (runOf (c .before .before .before .before .args .w .now))) in omega (arith, twice-square (c .processes .result) few16)
+mul-cut-2 c = omega (arith, few512 c)
 
 array-borrow-prefix-pairs : tie.Need-array-borrow-prefix-pairs
-array-borrow-prefix-pairs c = let few16 : c .before .before .before .processes .result ≤ 16 = omega (arith, c .before .before .before .processes .ensures, few (runOf (c .before .before .before .before .before .before .before .args .w .now))) in cut-few (c .before .before .before .before .before .before .before .args .c .short) _ _ 512 (c .before .before .cut .ensures) (twice-square (c .before .before .before .processes .result) few16)
+array-borrow-prefix-pairs c = cut-few (c .before .before .before .before .before .before .before .args .c .short) _ _ 512 (c .before .before .cut .ensures) (few512 (c .before .before .before))
 
 slice-aggregate-make-with : tie.Need-slice-aggregate-make-with
-slice-aggregate-make-with c = let few16 : c .before .before .before .before .processes .result ≤ 16 = omega (arith, c .before .before .before .before .processes .ensures, few (runOf (c .before .before .before .before .before .before .before .before .args .w .now))) in sym (length-take-le (c .before .before .before .cut .result) (replicate 512 0) (cut-few (c .before .before .before .before .before .before .before .before .args .c .short) _ _ 512 (c .before .before .before .cut .ensures) (twice-square (c .before .before .before .before .processes .result) few16)))
+slice-aggregate-make-with c =
+    let cut = c .before .before .before .cut in
+    sym (length-take-le (cut .result) (replicate 512 0) (cut-few (c .before .before .before .before .before .before .before .before .args .c .short) _ _ 512 (cut .ensures) (few512 (c .before .before .before .before))))
 
 array-borrow-prefix-line : tie.Need-array-borrow-prefix-line
-array-borrow-prefix-line c = let few16 : c .before .before .before .before .processes .result ≤ 16 = omega (arith, c .before .before .before .before .processes .ensures, few (runOf (c .before .before .before .before .before .before .before .before .args .w .now))) in cut-few (c .before .before .before .before .before .before .before .before .args .c .short) _ _ 16 (c .before .before .cut2 .ensures) few16
+array-borrow-prefix-line c = cut-few (c .before .before .before .before .before .before .before .before .args .c .short) _ _ 16 (c .before .before .cut2 .ensures) (few16 (c .before .before .before .before))
 
 slice-aggregate-make-with-2 : tie.Need-slice-aggregate-make-with-2
-slice-aggregate-make-with-2 c = let few16 : c .before .before .before .before .before .processes .result ≤ 16 = omega (arith, c .before .before .before .before .before .processes .ensures, few (runOf (c .before .before .before .before .before .before .before .before .before .args .w .now))) in sym (length-take-le (c .before .before .before .cut2 .result) (replicate 16 0) (cut-few (c .before .before .before .before .before .before .before .before .before .args .c .short) _ _ 16 (c .before .before .before .cut2 .ensures) few16))
+slice-aggregate-make-with-2 c =
+    let cut = c .before .before .before .cut2 in
+    sym (length-take-le (cut .result) (replicate 16 0) (cut-few (c .before .before .before .before .before .before .before .before .before .args .c .short) _ _ 16 (cut .ensures) (few16 (c .before .before .before .before .before))))
 
 make-with-requires : tie.Need-make-with-requires
-make-with-requires c κs = let few16 : c .before .before .before .before .before .before .processes .result ≤ 16 = omega (arith, c .before .before .before .before .before .before .processes .ensures, few (runOf (c .before .before .before .before .before .before .before .before .before .before .args .w .now))) in (c .before .before .before .before .before .before .before .before .before .before .pre .0, c .before .before .before .before .before .before .processes .ensures, lent-is (c .before .before .before .before .before .before .before .before .before .before .args .c .short) _ 512 _ (twice-square (c .before .before .before .before .before .before .processes .result) few16) (c .before .before .before .before .before .cut .ensures) ∙ ap (λ (k : ℕ). lent (c .before .before .before .before .before .before .before .before .before .before .args .c .short) (2 * k * k)) (c .before .before .before .before .before .before .processes .ensures), lent-is (c .before .before .before .before .before .before .before .before .before .before .args .c .short) _ 16 _ few16 (c .before .before .before .before .cut2 .ensures) ∙ ap (lent (c .before .before .before .before .before .before .before .before .before .before .args .c .short)) (c .before .before .before .before .before .before .processes .ensures), c .before .before .before .before .before .before .before .before .before .before .pre .1)
+make-with-requires c κs =
+    let s = c .before .before .before .before .before .before .before .before .before .before in
+    let r = c .before .before .before .before .before .before in
+    let many = r .processes .ensures in
+    let short = s .args .c .short in (
+      s .pre .0,
+      many,
+      lent-is short _ 512 _ (few512 r) (c .before .before .before .before .before .cut .ensures) ∙ ap (λ (k : ℕ). lent short (2 * k * k)) many,
+      lent-is short _ 16 _ (few16 r) (c .before .before .before .before .cut2 .ensures) ∙ ap (lent short) many,
+      s .pre .1,
+    )
 
 pub make-asked-spec : {M : Type 1} → statement M
 make-asked-spec =
