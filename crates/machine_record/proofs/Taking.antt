@@ -41,27 +41,31 @@ nowhere b [] p q h = refl
 nowhere b (a ∷ x) p q h = absurd (omega (arith, h))
 
 -- One record at the place for it.
-module _ (s : Run) (t : Taken) (o : Option Event) (out : List ℕ) (s′ : Run) (out′ : List ℕ) (r : Played) (enoughRoom : t .size + 4 ≤ length out)
-    (place : ℕ) (there : place ≡ placeFor (t .left) (t .size) (length out)) (w : Plays s out place o s′ out′ r) where
+pub record PlayedAt (s : Run) (t : Taken) (o : Option Event) (out : List ℕ) (s′ : Run) (out′ : List ℕ) (r : Played) (place : ℕ) : Type 0 where
+  pub room : t .size + 4 ≤ length out
+  pub there : place ≡ placeFor (t .left) (t .size) (length out)
+  pub plays : Plays s out place o s′ out′ r
+
+module _ {s : Run} {t : Taken} {o : Option Event} {out : List ℕ} {s′ : Run} {out′ : List ℕ} {r : Played} {place : ℕ} (d : PlayedAt s t o out s′ out′ r place) where
   abbrev g : Standing
   g = standingOf s t
 
   at-end : ltb (t .left) 4 ≡ true → place ≡ length out
   unfolding placeFor
-  at-end h = there ∙ rw h refl
+  at-end h = d .there ∙ rw h refl
 
   here : ltb (t .left) 4 ≡ false → place ≡ t .size
   unfolding placeFor
-  here h = there ∙ rw h refl
+  here h = d .there ∙ rw h refl
 
   place-inside : place ≤ length out
-  place-inside = by-bool (ltb (t .left) 4) (λ h. omega (arith, at-end h)) (λ h. omega (arith, here h, enoughRoom))
+  place-inside = by-bool (ltb (t .left) 4) (λ h. omega (arith, at-end h)) (λ h. omega (arith, here h, d .room))
 
   same-test : ltb (length out - place) 4 ≡ ltb (length (lent (t .left)) - 0) 4
   unfolding lent
   same-test = by-bool (ltb (t .left) 4)
       (λ h. lt-ltb (length out - place) 4 (omega (arith, at-end h)) ∙ sym (lt-ltb (length (lent (t .left)) - 0) 4 (omega (arith, ltb-true (t .left) 4 h, length-replicate {A = ℕ} (t .left) 0))))
-      (λ h. le-ltb (length out - place) 4 (omega (arith, here h, enoughRoom)) ∙ sym (le-ltb (length (lent (t .left)) - 0) 4 (omega (arith, ltb-false (t .left) 4 h, length-replicate {A = ℕ} (t .left) 0))))
+      (λ h. le-ltb (length out - place) 4 (omega (arith, here h, d .room)) ∙ sym (le-ltb (length (lent (t .left)) - 0) 4 (omega (arith, ltb-false (t .left) 4 h, length-replicate {A = ℕ} (t .left) 0))))
 
   alike : SameLeft (tape s out place) (emptied g) (recordedIn (tape s out place) o) (taken g o)
   unfolding taken emptied
@@ -71,7 +75,7 @@ module _ (s : Run) (t : Taken) (o : Option Event) (out : List ℕ) (s′ : Run) 
   bytes = alike .bytes
 
   place-after : r .place ≡ place + length bytes
-  place-after = ap (λ (x : Tape). x .place) (w .left) ∙ alike .place
+  place-after = ap (λ (x : Tape). x .place) (d .plays .left) ∙ alike .place
 
   pub not-back : place ≤ r .place
   not-back = omega (arith, place-after)
@@ -104,10 +108,10 @@ module _ (s : Run) (t : Taken) (o : Option Event) (out : List ℕ) (s′ : Run) 
   one-taken lines lines′ pending printed short =
       let more : r .place - place ≡ length (bytesOf g o) = omega (arith, place-after, ap (λ (x : List ℕ). length x) bytes-are) in
       let gone : r .place - place ≡ taken g o .tape .place = omega (arith, place-after, alike .place-other) in
-      let summary : lineFor (t .done + 1) (r .refused) ≡ lineOf g o = ap (lineFor (t .done + 1)) (w .number ∙ ap (λ (y : Reply). y .report .refused) (alike .reply)) in
+      let summary : lineFor (t .done + 1) (r .refused) ≡ lineOf g o = ap (lineFor (t .done + 1)) (d .plays .number ∙ ap (λ (y : Reply). y .report .refused) (alike .reply)) in
       record {
-        standing = λ j. record { run = (ap (λ (x : Tape). x .run) (w .left) ∙ alike .run) j; left = t .left - gone j; done = t .done + 1 };
-        written = ap (λ (x : Tape). x .buffer) (w .left) ∙ alike .buffer ∙ written-there ∙ ap (sets out (t .size)) (sym bytes-are);
+        standing = λ j. record { run = (ap (λ (x : Tape). x .run) (d .plays .left) ∙ alike .run) j; left = t .left - gone j; done = t .done + 1 };
+        written = ap (λ (x : Tape). x .buffer) (d .plays .left) ∙ alike .buffer ∙ written-there ∙ ap (sets out (t .size)) (sym bytes-are);
         size = ap (λ (k : ℕ). t .size + k) more;
         few = omega (arith, at-most-four);
         reported = printed .holds ∙ ap (sets lines (t .pending)) summary;

@@ -40,19 +40,9 @@ pub const BLOCK_LINES: usize = LONGEST_LINE * (BLOCK_BYTES / 4);
 pub fn has_room(memory: usize, words: usize, input: usize, out: usize, lines: usize) -> bool
     ensures { λ r. ⌜ r ≡ hasRoom memory words input out lines ⌝ }
 {
-    if memory < 6 {
-        return false;
-    }
-    if words != WORDS {
-        return false;
-    }
-    if input < INPUT_SIZE {
-        return false;
-    }
-    if out < BLOCK_LINES {
-        return false;
-    }
-    BLOCK_LINES <= lines
+    (6 <= memory)
+        & ((words == WORDS)
+            & ((INPUT_SIZE <= input) & ((BLOCK_LINES <= out) & (BLOCK_LINES <= lines))))
 }
 
 // The first state.

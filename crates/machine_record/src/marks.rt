@@ -60,19 +60,9 @@ pub fn at(phase: u64, left: u64) -> Marks
 pub fn in_bounds(m: Marks, out: usize) -> bool
     ensures { λ r. ⌜ r ≡ inBounds m out ⌝ }
 {
-    if LONGEST_TRACE < m.left {
-        return false;
-    }
-    if MOST_RECORDS < m.done {
-        return false;
-    }
-    if 3 < m.kept {
-        return false;
-    }
-    if out < m.size {
-        return false;
-    }
-    m.pending <= BLOCK_LINES
+    (m.left <= LONGEST_TRACE)
+        & ((m.done <= MOST_RECORDS)
+            & ((m.kept <= 3) & ((m.size <= out) & (m.pending <= BLOCK_LINES))))
 }
 
 pub fn read(memory: &[u64]) -> Marks

@@ -13,19 +13,28 @@ abbrev μ-loop : tie.MeasureT-loop
 μ-loop w₀ left done block out₀ lines₀ t₀ at₀ w out lines t at = length block - at
 
 take-one-requires : tie.Need-take-one-requires Inv-loop μ-loop
-take-one-requires c κs = let i = c .before .before .before .before .before .loop .inv .0 in let p = c .before .before .before .before .before .before .before .before .before .before .pre in (omega (arith, i .size, i .out-length, i .inside, p .0, p .1, c .before .before .before .before .loop-test .taken), omega (arith, i .pending, i .lines-length, i .inside, p .0, p .2, c .before .before .before .before .loop-test .taken), omega (arith, i .count, i .inside, p .3), omega (arith, i .size, i .inside, p .0))
+take-one-requires c κs =
+    let i = c .before .before .before .before .before .loop .inv .0 in
+    let p = c .before .before .before .before .before .before .before .before .before .before .pre in
+    let more = c .before .before .before .before .loop-test .taken in
+    (omega (arith, i .size, i .out-length, i .inside, p .0, p .1, more), omega (arith, i .pending, i .lines-length, i .inside, p .0, p .2, more), omega (arith, i .count, i .inside, p .3), omega (arith, i .size, i .inside, p .0))
 
 loop-less : tie.Need-loop-less Inv-loop μ-loop
 loop-less c = omega (arith, c .before .before .before .before .before .before .before .before .before .before .before .before .loop .inv .0 .inside, c .before .before .before .before .before .before .before .before .before .before .before .loop-test .taken)
 
 loop-again : tie.Need-loop-again Inv-loop μ-loop
-loop-again c = let i = c .before .before .before .before .before .before .before .before .before .before .before .before .loop .inv .0 in
-    let p = c .before .before .before .before .before .before .before .before .before .before .before .before .before .before .before .before .before .pre in
-    let more : c .before .before .before .before .before .before .before .before .before .before .before .before .loop .at + 4 ≤ length (c .before .before .before .before .before .before .before .before .before .before .before .before .before .before .before .before .before .args .block .now) = omega (arith, i .inside, c .before .before .before .before .before .before .before .before .before .before .before .loop-test .taken) in (
-      one-more _ _ _ _ _ _ _ _ _ i more _ (event-at _ _ _ more (c .before .before .before .before .before .before .before .before .before .before .record-part .ensures)) _ _ _ _ (c .before .before .before .before .before .before .take-one .ensures)
-          (omega (arith, i .size, i .out-length, i .inside, p .0, p .1, c .before .before .before .before .before .before .before .before .before .before .before .loop-test .taken))
-          (omega (arith, i .pending, i .lines-length, i .inside, p .0, p .2, c .before .before .before .before .before .before .before .before .before .before .before .loop-test .taken)),
-      c .before .before .before .before .before .before .take-one .kept .0 ∙ c .before .before .before .before .before .before .before .before .before .before .before .before .loop .inv .1,
+loop-again c =
+    let loop = c .before .before .before .before .before .before .before .before .before .before .before .before .loop in
+    let i = loop .inv .0 in
+    let s = c .before .before .before .before .before .before .before .before .before .before .before .before .before .before .before .before .before in
+    let p = s .pre in
+    let four = c .before .before .before .before .before .before .before .before .before .before .before .loop-test .taken in
+    let one = c .before .before .before .before .before .before .take-one in
+    let more : loop .at + 4 ≤ length (s .args .block .now) = omega (arith, i .inside, four) in (
+      one-more _ _ _ _ _ _ _ _ _ i more _ (event-at _ _ _ more (c .before .before .before .before .before .before .before .before .before .before .record-part .ensures)) _ _ _ _ (one .ensures)
+          (omega (arith, i .size, i .out-length, i .inside, p .0, p .1, four))
+          (omega (arith, i .pending, i .lines-length, i .inside, p .0, p .2, four)),
+      one .kept .0 ∙ loop .inv .1,
     )
 
 returns : tie.Need-returns Inv-loop μ-loop

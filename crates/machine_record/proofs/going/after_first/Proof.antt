@@ -21,10 +21,10 @@ module _ (c : tie.After-read) where
       (c .read .ensures .0 (start .args .kept) (start .args .input .now) (omega (arith, start .pre .1, start .pre .2)) ∙ ap (λ (x : takens.Taken). takenOf x (start .args .kept) (start .args .input .now)) e)
 
 shared-slice-read-start : tie.Need-shared-slice-read-start
-shared-slice-read-start c = omega (arith, c .before .before .before .before .before .before .before .before .pre .1, c .before .before .before .before .before .before .before .before .pre .2)
+shared-slice-read-start c = let p = c .before .before .before .before .before .before .before .before .pre in omega (arith, p .1, p .2)
 
 start-requires : tie.Need-start-requires
-start-requires c κs = (c .before .before .before .before .before .before .before .before .before .pre .0, c .before .before .before .before .before .before .before .before .before .pre .3, c .before .before .before .before .before .before .before .before .before .pre .4)
+start-requires c κs = let p = c .before .before .before .before .before .before .before .before .before .pre in (p .0, p .3, p .4)
 
 end-refused-requires : tie.Need-end-refused-requires
 end-refused-requires c κs = omega (arith, c .before .before .before .before .before .before .before .pre .3)

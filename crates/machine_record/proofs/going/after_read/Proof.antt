@@ -25,14 +25,17 @@ module _ (c : tie.After-read) where
       (c .read .ensures .0 (m .kept) input (omega (arith, most, start .pre .2, start .pre .3)) ∙ ap (λ (x : takens.Taken). takenOf x (m .kept) input) e)
 
 most-to-read-requires : tie.Need-most-to-read-requires
-most-to-read-requires c κs = (c .before .before .before .before .pre .1, c .before .before .before .before .pre .2)
+most-to-read-requires c κs = let p = c .before .before .before .before .pre in (p .1, p .2)
 
 take-block-requires : tie.Need-take-block-requires
 unfolding Between
-take-block-requires c κs = let p = c .before .before .before .before .before .before .before .before .before .before .before .before .before .pre in let b = rw (c .before .before .before .before .before .taken .given .1) at (c .before .before .before .before .before .before .before .read .ensures .1) in (p .0, p .1, p .2, omega (arith, b .0, b .1, c .before .before .before .before .before .before .before .before .most-to-read .ensures), p .3, p .4, p .5)
+take-block-requires c κs =
+    let p = c .before .before .before .before .before .before .before .before .before .before .before .before .before .pre in
+    let b = rw (c .before .before .before .before .before .taken .given .1) at (c .before .before .before .before .before .before .before .read .ensures .1) in
+    (p .0, p .1, p .2, omega (arith, b .0, b .1, c .before .before .before .before .before .before .before .before .most-to-read .ensures), p .3, p .4, p .5)
 
 to-end-requires : tie.Need-to-end-requires
-to-end-requires c κs = (c .before .before .before .before .before .before .before .before .before .pre .1, c .before .before .before .before .before .before .before .before .before .pre .2, c .before .before .before .before .before .before .before .before .before .pre .4)
+to-end-requires c κs = let p = c .before .before .before .before .before .before .before .before .before .pre in (p .1, p .2, p .4)
 
 fail-requires : tie.Need-fail-requires
 fail-requires c κs = omega (arith, c .before .before .before .before .before .before .before .before .before .before .pre .4)

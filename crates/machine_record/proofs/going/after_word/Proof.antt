@@ -25,7 +25,10 @@ add-end c = let b = rw (c .before .taken .given .1) at (c .before .before .befor
 
 part-take-size-end : tie.Need-part-take-size-end
 unfolding Between
-part-take-size-end c = let b = rw (c .before .taken .given .1) at (c .before .before .before .word .ensures .1) in omega (arith, b .1, c .before .before .before .before .before .before .pre .0, c .before .before .before .before .before .before .pre .1)
+part-take-size-end c =
+    let b = rw (c .before .taken .given .1) at (c .before .before .before .word .ensures .1) in
+    let p = c .before .before .before .before .before .before .pre in
+    omega (arith, b .1, p .0, p .1)
 
 take-size-requires : tie.Need-take-size-requires
 take-size-requires c κs = c .before .before .before .before .before .before .before .before .pre .2

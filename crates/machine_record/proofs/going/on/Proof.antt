@@ -6,10 +6,10 @@ use Rattle.machine_record.specs.{Machine.next, Lent.stateIn}
 use Rattle.machine_record.proofs.going.on.Tie as tie
 
 after-word-requires : tie.Need-after-word-requires
-after-word-requires c κs = (c .before .before .before .before .before .before .before .pre .5, c .before .before .before .before .before .before .before .pre .2, c .before .before .before .before .before .before .before .pre .6)
+after-word-requires c κs = let p = c .before .before .before .before .before .before .before .pre in (p .5, p .2, p .6)
 
 after-first-requires : tie.Need-after-first-requires
-after-first-requires c κs = (c .before .before .before .before .before .before .before .before .pre .4, c .before .before .before .before .before .before .before .before .pre .5, c .before .before .before .before .before .before .before .before .pre .2, c .before .before .before .before .before .before .before .before .pre .6, c .before .before .before .before .before .before .before .before .pre .0)
+after-first-requires c κs = let p = c .before .before .before .before .before .before .before .before .pre in (p .4, p .5, p .2, p .6, p .0)
 
 after-write-requires : tie.Need-after-write-requires
 after-write-requires c κs = let p = c .before .before .before .before .before .before .before .pre in (p .0, p .1, p .2, p .3, p .7, p .6)

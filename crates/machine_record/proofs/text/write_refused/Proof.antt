@@ -10,7 +10,11 @@ write-number-requires : tie.Need-write-number-requires
 write-number-requires c κs = omega (arith, c .before .before .before .before .before .before .before .pre, c .before .before .before .write-word .ensures .next-place, c .before .before .before .write-word .kept .0, twenty-digits (c .before .before .before .before .before .before .before .args .number))
 
 write-figure-requires : tie.Need-write-figure-requires
-write-figure-requires c κs = omega (arith, c .before .before .before .before .before .before .before .before .before .before .before .before .pre, c .before .before .before .before .before .before .before .before .write-word .ensures .next-place, c .before .before .before .before .before .before .before .before .write-word .kept .0, c .before .before .before .before .write-number .ensures .next-place, c .before .before .before .before .write-number .kept .0, twenty-digits (c .before .before .before .before .before .before .before .before .before .before .before .before .args .number))
+write-figure-requires c κs =
+    let s = c .before .before .before .before .before .before .before .before .before .before .before .before in
+    let write-word = c .before .before .before .before .before .before .before .before .write-word in
+    let write-number = c .before .before .before .before .write-number in
+    omega (arith, s .pre, write-word .ensures .next-place, write-word .kept .0, write-number .ensures .next-place, write-number .kept .0, twenty-digits (s .args .number))
 
 returns : tie.Need-returns
 unfolding refusedLine figureText
