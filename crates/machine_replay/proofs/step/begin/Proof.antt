@@ -9,8 +9,12 @@ use Rattle.machine_replay.proofs.step.begin.Tie as tie
 
 returns : tie.Need-returns
 unfolding requestOf asks Placed GoesTo
-returns c = let a = c .before .before .before .before .before .before .before .before .before .args in let then-memory = c .before .before .store .last .0 in
-    let begins = state-of (now (a .words)) then-memory (now (a .input)) (now (a .out)) (omega (arith, c .before .before .store .kept .0, c .before .before .before .before .before .before .before .before .before .pre .0)) _ (sym (c .before .before .store .ensures ∙ c .before .before .before .before .with-text .ensures)) ∙ text-starting 0 (now (a .words)) (now (a .input)) (now (a .out)) (c .before .before .before .before .before .before .before .before .before .pre .1) (omega arith) in
+returns c =
+    let s = c .before .before .before .before .before .before .before .before .before in
+    let a = s .args in
+    let store = c .before .before .store in
+    let there = state-of (now (a .words)) (store .last .0) (now (a .input)) (now (a .out)) (omega (arith, store .kept .0, s .pre .0)) _ (sym (store .ensures ∙ c .before .before .before .before .with-text .ensures)) in
+    let begins = there ∙ text-starting 0 (now (a .words)) (now (a .input)) (now (a .out)) (s .pre .1) (omega arith) in
     (begins, record { stands = rw begins; inside = tt; there = tt })
 
 pub begin-spec : {M : Type 1} → statement M

@@ -22,28 +22,44 @@ module _ (c : tie.Else3) where
   stands = state-of (start .args .words .now) (start .args .memory .now) (start .args .input .now) (start .args .out .now) (c .before .before .before .before .before .before .if1 .left) place (c .before .before .load .ensures)
 
 returns : tie.Need-returns
-returns c = let a = c .before .before .before .before .before .args in let ended = too-short (a .words .now) (a .memory .now) (a .input .now) (a .out .now) (c .if1 .taken) in
-    stays (a .words .now) (a .memory .now) (a .input .now) (a .out .now) ended _ _ _ _
+returns c =
+    let a = c .before .before .before .before .before .args in
+    stays (a .words .now) (a .memory .now) (a .input .now) (a .out .now) (too-short (a .words .now) (a .memory .now) (a .input .now) (a .out .now) (c .if1 .taken)) _ _ _ _
 
 returns-2 : tie.Need-returns-2
-returns-2 c = let a = c .before .before .before .before .before .before .before .args in let ended = state-of (a .words .now) (a .memory .now) (a .input .now) (a .out .now) (c .before .before .if1 .left) _ refl ∙ narrow-stopped _ (a .words .now) (a .input .now) (a .out .now) (sym (c .before .is-room-enough .ensures) ∙ not-true (c .before .is-room-enough .result) (c .if2 .taken)) in
-    stays (a .words .now) (a .memory .now) (a .input .now) (a .out .now) ended _ _ _ _
+returns-2 c =
+    let a = c .before .before .before .before .before .before .before .args in
+    let tested = c .before .is-room-enough in
+    let narrow = narrow-stopped _ (a .words .now) (a .input .now) (a .out .now) (sym (tested .ensures) ∙ not-true (tested .result) (c .if2 .taken)) in
+    stays (a .words .now) (a .memory .now) (a .input .now) (a .out .now) (state-of (a .words .now) (a .memory .now) (a .input .now) (a .out .now) (c .before .before .if1 .left) _ refl ∙ narrow) _ _ _ _
 
 returns-3 : tie.Need-returns-3
-returns-3 c = let a = c .before .before .before .before .before .before .before .before .before .before .before .args in let ended = state-of (a .words .now) (a .memory .now) (a .input .now) (a .out .now) (c .before .before .before .before .before .before .if1 .left) (c .before .before .load .result) (c .before .before .load .ensures) ∙ outside-stopped (c .before .before .load .result) (a .words .now) (a .input .now) (a .out .now) (sym (c .before .is-inside .ensures) ∙ not-true (c .before .is-inside .result) (c .if3 .taken)) in
-    stays (a .words .now) (a .memory .now) (a .input .now) (a .out .now) ended _ _ _ _
+returns-3 c =
+    let a = c .before .before .before .before .before .before .before .before .before .before .before .args in
+    let tested = c .before .is-inside in
+    let load = c .before .before .load in
+    let outside = outside-stopped (load .result) (a .words .now) (a .input .now) (a .out .now) (sym (tested .ensures) ∙ not-true (tested .result) (c .if3 .taken)) in
+    let there = state-of (a .words .now) (a .memory .now) (a .input .now) (a .out .now) (c .before .before .before .before .before .before .if1 .left) (load .result) (load .ensures) in
+    stays (a .words .now) (a .memory .now) (a .input .now) (a .out .now) (there ∙ outside) _ _ _ _
 
 after-requires : tie.Need-after-requires
-after-requires c κs = (holds (c .before .before .before), λ e. rw (stands (c .before .before .before)) at (c .before .before .before .before .before .before .before .before .before .before .before .before .before .before .pre e))
+after-requires c κs = let r = c .before .before .before in (holds r, λ e. rw (stands r) at (start r .pre e))
 
 request-of-requires : tie.Need-request-of-requires
-request-of-requires c κs = rw (c .before .before .before .before .before .before .before .before .before .before .before .before .before .after .kept .1 .0, c .before .before .before .before .before .before .before .before .before .before .before .before .before .after .kept .1 .1 .0, c .before .before .before .before .before .before .before .before .before .before .before .before .before .after .kept .1 .1 .1 .0) (holds (c .before .before .before .before .before .before .before .before .before .before .before .before .before .before .before .before .before) .room)
+request-of-requires c κs = let same = c .before .before .before .before .before .before .before .before .before .before .before .before .before .after .kept in rw (same .1 .0, same .1 .1 .0, same .1 .1 .1 .0) (holds (c .before .before .before .before .before .before .before .before .before .before .before .before .before .before .before .before .before) .room)
 
 returns-4 : tie.Need-returns-4
-returns-4 c = let q = sym (c .before .before .before .before .before .before .store .ensures) in let then = state-of (c .before .before .before .before .before .before .before .before .before .before .before .before .before .before .after .last .1 .0) (c .before .before .before .before .before .before .store .last .0) (c .before .before .before .before .before .before .before .before .before .before .before .before .before .before .after .last .1 .1 .0) (c .before .before .before .before .before .before .before .before .before .before .before .before .before .before .after .last .1 .1 .1 .0) (omega (arith, c .before .before .before .before .before .before .store .kept .0, c .before .before .before .before .before .before .before .before .before .before .before .before .before .before .before .before .before .before .before .before .before .before .before .before .if1 .left)) (c .before .before .before .before .before .before .before .before .before .before .before .before .before .before .after .result) q in
-    let s = c .before .before .before .before .before .before .before .before .before .before .before .before .before .before .before .before .before .before .before .before .before .before .before .before .before .before .before .before .before in (
-      then ∙ c .before .before .before .before .before .before .before .before .before .before .before .before .before .before .after .ensures ∙ stepped-there (s .args .words .now) (s .args .memory .now) (s .args .input .now) (s .args .out .now) (c .before .before .before .before .before .before .before .before .before .before .before .before .before .before .before .before .before .before .before .before .load .result) (c .before .before .before .before .before .before .before .before .before .before .before .before .before .before .before .before .before .before .before .before .load .ensures) (stands (c .before .before .before .before .before .before .before .before .before .before .before .before .before .before .before .before .before .before)) _ _ (s .args .answer),
-      asks-there (c .before .before .before .before .before .before .before .before .before .before .before .before .before .before .after .last .1 .0) (c .before .before .before .before .before .before .store .last .0) (c .before .before .before .before .before .before .before .before .before .before .before .before .before .before .after .last .1 .1 .0) (c .before .before .before .before .before .before .before .before .before .before .before .before .before .before .after .last .1 .1 .1 .0) (c .before .before .before .before .before .before .before .before .before .before .before .before .before .before .after .result) q then _ _ (c .request-of .ensures),
+returns-4 c =
+    let after = c .before .before .before .before .before .before .before .before .before .before .before .before .before .before .after in
+    let words = after .last .1 .0 in
+    let input = after .last .1 .1 .0 in
+    let out = after .last .1 .1 .1 .0 in
+    let store = c .before .before .before .before .before .before .store in
+    let r = c .before .before .before .before .before .before .before .before .before .before .before .before .before .before .before .before .before .before in
+    let a = start r .args in
+    let then = state-of words (store .last .0) input out (omega (arith, store .kept .0, r .before .before .before .before .before .before .if1 .left)) (after .result) (sym (store .ensures)) in (
+      then ∙ after .ensures ∙ stepped-there (a .words .now) (a .memory .now) (a .input .now) (a .out .now) (place r) (r .before .before .load .ensures) (stands r) _ _ (a .answer),
+      asks-there words (store .last .0) input out (after .result) (sym (store .ensures)) then _ _ (c .request-of .ensures),
     )
 
 pub step-from-spec : {M : Type 1} → statement M
