@@ -38,16 +38,7 @@ pub const LONGEST_LINE: usize = 12000;
 pub fn has_room(memory: usize, words: usize, input: usize, out: usize) -> bool
     ensures { λ r. ⌜ r ≡ hasRoom memory words input out ⌝ }
 {
-    if memory < 4 {
-        return false;
-    }
-    if words != WORDS {
-        return false;
-    }
-    if input < CALL_SIZE {
-        return false;
-    }
-    LONGEST_LINE <= out
+    (4 <= memory) & ((words == WORDS) & ((CALL_SIZE <= input) & (LONGEST_LINE <= out)))
 }
 
 // The first state.

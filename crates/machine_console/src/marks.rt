@@ -54,13 +54,8 @@ fn most_done(phase: u64) -> u64
 pub fn in_bounds(m: Marks, out: usize) -> bool
     ensures { λ r. ⌜ r ≡ inBounds m out ⌝ }
 {
-    if most_done(m.phase) < m.done {
-        return false;
-    }
-    if 7 < m.kept {
-        return false;
-    }
-    m.size <= out
+    let most = most_done(m.phase);
+    (m.done <= most) & ((m.kept <= 7) & (m.size <= out))
 }
 
 pub fn read(memory: &[u64]) -> Marks

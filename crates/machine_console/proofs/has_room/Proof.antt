@@ -1,21 +1,9 @@
 -- `machine_console::has_room` meets its contract. Assumes nothing.
-use Rattle.laws.specs.Basics.{refl, eq-eqb, ne-eqb, le-leb, lt-leb}
+use Rattle.laws.specs.Basics.{refl}
 use Rattle.machine_console.specs.Lent.{hasRoom}
 use Rattle.machine_console.proofs.has_room.Statement.{statement}
 use Rattle.machine_console.proofs.has_room.Tie as tie
 
-returns-2 : tie.Need-returns-2
-unfolding hasRoom
-returns-2 c = rw (le-leb 4 (c .before .before .args .memory) (c .before .if1 .left), ne-eqb (c .before .before .args .words) 6464 (c .if2 .taken)) refl
-
-returns-3 : tie.Need-returns-3
-unfolding hasRoom
-returns-3 c = rw (le-leb 4 (c .before .before .before .args .memory) (c .before .before .if1 .left), eq-eqb (c .before .before .before .args .words) 6464 (c .before .if2 .left), lt-leb 8 (c .before .before .before .args .input) (c .if3 .taken)) refl
-
-returns-4 : tie.Need-returns-4
-unfolding hasRoom
-returns-4 c = rw (le-leb 4 (c .before .before .before .args .memory) (c .before .before .if1 .left), eq-eqb (c .before .before .before .args .words) 6464 (c .before .if2 .left), le-leb 8 (c .before .before .before .args .input) (c .if3 .left)) refl
-
 pub has-room-spec : {M : Type 1} → statement M
 unfolding hasRoom
-has-room-spec = tie.close (tie.spec (λ c. rw (lt-leb 4 (c .before .args .memory) (c .if1 .taken)) refl) returns-2 returns-3 returns-4)
+has-room-spec = tie.close (tie.spec (λ c. refl))

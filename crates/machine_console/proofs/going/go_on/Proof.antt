@@ -4,7 +4,9 @@ use Rattle.machine_console.proofs.{Arriving.onward-called, Arriving.arr
 use Rattle.machine_console.proofs.going.go_on.Tie as tie
 
 returns : tie.Need-returns
-returns c = led (onward-called _ _ (c .before .before .before .before .before .before .before .before .before .before .before .args .done) (c .before .before .before .before .before .before .before .before .before .before .before .args .buffered) (c .before .before .before .before .before .before .before .if1 .taken) (c .before .before .before .before .before .before .before .before .before .before .before .pre .1) (c .before .before .before .before .before .before .before .before .before .before .before .pre .3)) (c .before .before .before .before .make-call .ensures)
+returns c =
+    let s = c .before .before .before .before .before .before .before .before .before .before .before in
+    led (onward-called _ _ (s .args .done) (s .args .buffered) (c .before .before .before .before .before .before .before .if1 .taken) (s .pre .1) (s .pre .3)) (c .before .before .before .before .make-call .ensures)
 
 returns-2 : tie.Need-returns-2
 returns-2 c = arrives-more _ _ (c .before .before .before .before .args .done) (c .before .before .before .before .args .buffered) _ (c .before .before .before .before .pre .0) (omega (arith, c .if1 .left)) (omega (arith, c .before .before .before .before .pre .1, c .before .before .before .before .pre .3))

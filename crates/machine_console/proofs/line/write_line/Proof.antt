@@ -6,10 +6,20 @@ use Rattle.machine_console.proofs.{Parts.accepted-line, Parts.refused-a
 use Rattle.machine_console.proofs.line.write_line.Tie as tie
 
 returns : tie.Need-returns
-returns c = let a = c .before .before .before .before .before .before .before .before .before .args in (printed-as (refused-any (a .number) (a .r .summary .refused) (answerText (a .c .operation) (a .c .caller) (a .n) (replyOf (a .r) (a .pairs .now) (a .line .now))) (c .before .before .before .before .if1 .taken)) (c .before .before .write-refused .ensures .0), c .before .before .write-refused .ensures .1)
+returns c =
+    let write-refused = c .before .before .write-refused in
+    let a = c .before .before .before .before .before .before .before .before .before .args in
+    (printed-as (refused-any (a .number) (a .r .summary .refused) (answerText (a .c .operation) (a .c .caller) (a .n) (replyOf (a .r) (a .pairs .now) (a .line .now))) (c .before .before .before .before .if1 .taken)) (write-refused .ensures .0), write-refused .ensures .1)
 
 returns-2 : tie.Need-returns-2
-returns-2 c = let a = c .before .before .before .before .before .before .before .before .before .before .before .before .before .before .before .before .before .args in let answer = answerText (a .c .operation) (a .c .caller) (a .n) (replyOf (a .r) (a .pairs .now) (a .line .now)) in let none : a .r .summary .refused ≡ 0 = omega (arith, c .before .before .before .before .before .before .before .before .before .before .before .before .if1 .left) in (printed-as (ap (λ (x : ℕ). lineText (a .number) x answer) none ∙ accepted-line (a .number) answer) (then (then (c .before .before .before .before .before .before .before .before .before .before .write-numbers .ensures .0) (c .before .before .before .before .before .before .write-answer .ensures .0)) (c .before .before .write-byte .ensures)), omega (arith, c .before .before .before .before .before .before .before .before .before .before .write-numbers .ensures .1, c .before .before .before .before .before .before .write-answer .ensures .1, c .before .before .write-byte .ensures .next-place))
+returns-2 c =
+    let write-numbers = c .before .before .before .before .before .before .before .before .before .before .write-numbers in
+    let write-answer = c .before .before .before .before .before .before .write-answer in
+    let write-byte = c .before .before .write-byte in
+    let a = c .before .before .before .before .before .before .before .before .before .before .before .before .before .before .before .before .before .args in
+    let answer = answerText (a .c .operation) (a .c .caller) (a .n) (replyOf (a .r) (a .pairs .now) (a .line .now)) in
+    let none : a .r .summary .refused ≡ 0 = omega (arith, c .before .before .before .before .before .before .before .before .before .before .before .before .if1 .left) in
+    (printed-as (ap (λ (x : ℕ). lineText (a .number) x answer) none ∙ accepted-line (a .number) answer) (then (then (write-numbers .ensures .0) (write-answer .ensures .0)) (write-byte .ensures)), omega (arith, write-numbers .ensures .1, write-answer .ensures .1, write-byte .ensures .next-place))
 
 pub write-line-spec : {M : Type 1} → statement M
 write-line-spec =

@@ -12,10 +12,15 @@ returns-2 : tie.Need-returns-2
 returns-2 c = never-left-over (callOf (c .before .before .before .before .before .before .before .before .before .args .bytes)) (sym (eight-is (c .before .before .before .before .before .before .before .before .before .args .bytes)) ∙ sym (c .before .before .before .before .before .before .next-of .ensures) ∙ c .before .before .before .before .enum-told2 .given .1)
 
 returns-3 : tie.Need-returns-3
-returns-3 c = makes-none _ _ _ _ _ _ (malformed-none (callOf (c .before .before .before .before .before .before .before .before .before .args .bytes)) (sym (eight-is (c .before .before .before .before .before .before .before .before .before .args .bytes)) ∙ sym (c .before .before .before .before .before .before .next-of .ensures) ∙ c .before .before .before .before .enum-told3 .given .1)) (c .before .before .write-refused3 .ensures .0) (omega (arith, c .before .before .write-refused3 .ensures .1, c .before .before .before .before .before .before .before .before .before .pre .1))
+returns-3 c =
+    let s = c .before .before .before .before .before .before .before .before .before in
+    let write-refused3 = c .before .before .write-refused3 in
+    makes-none _ _ _ _ _ _ (malformed-none (callOf (s .args .bytes)) (sym (eight-is (s .args .bytes)) ∙ sym (c .before .before .before .before .before .before .next-of .ensures) ∙ c .before .before .before .before .enum-told3 .given .1)) (write-refused3 .ensures .0) (omega (arith, write-refused3 .ensures .1, s .pre .1))
 
 returns-4 : tie.Need-returns-4
-returns-4 c = rw (asks-some (callOf (c .before .before .before .before .before .before .before .before .before .before .before .before .before .args .bytes)) _ (sym (eight-is (c .before .before .before .before .before .before .before .before .before .before .before .before .before .args .bytes)) ∙ sym (c .before .before .before .before .before .before .before .before .before .before .next-of .ensures) ∙ c .before .before .before .before .before .before .before .before .read .given .1)) (c .before .before .before .before .make-asked .ensures)
+returns-4 c =
+    let s = c .before .before .before .before .before .before .before .before .before .before .before .before .before in
+    rw (asks-some (callOf (s .args .bytes)) _ (sym (eight-is (s .args .bytes)) ∙ sym (c .before .before .before .before .before .before .before .before .before .before .next-of .ensures) ∙ c .before .before .before .before .before .before .before .before .read .given .1)) (c .before .before .before .before .make-asked .ensures)
 
 pub make-spec : {M : Type 1} → statement M
 make-spec =

@@ -20,7 +20,11 @@ write-value-requires : tie.Need-write-value-requires Inv-loop μ-loop
 write-value-requires c κs = omega (arith, c .before .before .before .before .loop .inv .3, c .before .before .before .before .loop .inv .1, c .before .before .before .before .before .before .before .pre, c .before .before .before .loop-test .taken)
 
 loop-again : tie.Need-loop-again Inv-loop μ-loop
-loop-again c = let l = c .before .before .before .before .before .before .before .loop in let a = c .before .before .before .before .before .before .before .before .before .before .args in (search needs, c .before .before .write-value .kept .0 ∙ l .inv .1, printed-as (members-next (a .caller) (a .n) (l .p) (a .line .now) (omega (arith, c .before .before .before .before .before .before .loop-test .taken)) ∙ ap (λ (v : Option ℕ). membersText (a .caller) (a .n) 0 (take (l .p) (a .line .now)) ++ fieldText v) (sym (c .before .before .before .before .member .ensures))) (then (l .inv .2) (c .before .before .write-value .ensures .0)), omega (arith, c .before .before .write-value .ensures .1, l .inv .3))
+loop-again c =
+    let write-value = c .before .before .write-value in
+    let l = c .before .before .before .before .before .before .before .loop in
+    let a = c .before .before .before .before .before .before .before .before .before .before .args in
+    (search needs, write-value .kept .0 ∙ l .inv .1, printed-as (members-next (a .caller) (a .n) (l .p) (a .line .now) (omega (arith, c .before .before .before .before .before .before .loop-test .taken)) ∙ ap (λ (v : Option ℕ). membersText (a .caller) (a .n) 0 (take (l .p) (a .line .now)) ++ fieldText v) (sym (c .before .before .before .before .member .ensures))) (then (l .inv .2) (write-value .ensures .0)), omega (arith, write-value .ensures .1, l .inv .3))
 
 returns : tie.Need-returns Inv-loop μ-loop
 returns c = let l = c .before .loop in let a = c .before .before .before .before .args in (printed-as (whole-line (a .caller) (a .n) (l .p) (a .line .now) (omega (arith, c .loop-test .left))) (l .inv .2), omega (arith, l .inv .3, l .inv .0))
