@@ -8,6 +8,7 @@ use Rattle.model.specs.declared.{Checkpoint.Checkpoint, Refusal.Refusal, Run.Ru
 use Rattle.model.specs.declared.Refusal.the-variants.{Denied, UnsoundState, ListTooShort}
 use Rattle.model.specs.{Refusals.firstOf, Sound.sound, Words.process, Steps.Deletion, Steps.listed}
 use Rattle.whole_runs.specs.Outcomes.{Outcome, judged, pairs}
+use Rattle.whole_runs.proofs.whole.{Pairs.length-pairs, Gone.pairs-append}
 use Rattle.words.specs.Layout.{word, countOf, keptCountAt, checkpointIn, runOf}
 use Rattle.words.proofs.{View.count-is, ViewSound.sound-words, ViewSound.sound-kept-is}
 use Rattle.theory_roles.specs.declared.{Role.Role, Caller.Caller, Operation.the-variants.List as Catalogue, ListAnswer.ListAnswer}
@@ -20,16 +21,6 @@ length-listed : (p : ℕ) (l : List Checkpoint) → length (listed p l) ≡ leng
 unfolding listed
 length-listed p [] = refl
 length-listed p (c ∷ l) = ap (λ (n : ℕ). suc n) (length-listed p l)
-
-length-pairs : (l : List Deletion) → length (pairs l) ≡ 2 * length l
-unfolding pairs
-length-pairs [] = refl
-length-pairs (d ∷ l) = rw (length-pairs l) (omega arith)
-
-pairs-append : (l m : List Deletion) → pairs (l ++ m) ≡ pairs l ++ pairs m
-unfolding pairs
-pairs-append [] m = refl
-pairs-append (d ∷ l) m = ap (λ (r : List ℕ). d .process ∷ d .index .0 ∷ r) (pairs-append l m)
 
 listed-append : (p : ℕ) (l m : List Checkpoint) → listed p (l ++ m) ≡ listed p l ++ listed p m
 unfolding listed

@@ -2,7 +2,7 @@
 -- Assumes nothing.
 use Rattle.laws.specs.Basics.{_≡_, refl, sym, _∙_, ap, Bool, true, false, _&&_, List, [], _∷_, _++_, append-nil, Option, none, some, ℕ, zero, suc, _+_, _-_, _≤_, _<_, arith, eqb, ltb, length, take, replicate, length-append, eq-eqb, ne-eqb, lt-ltb, le-ltb, ltb-true, ltb-false, pick, by-bool, by-eq}
 use native.Mathlib.Numerals.{add-one}
-use lib.Seq.{take-all}
+use lib.Seq.{take-all, take-nil, take-append-le, take-append-add}
 use Rattle.laws.specs.{Lists.select, Lists.lastOf, Lists.table, Lists.placed, Select.select-append, Select.select-length, Select.lastOf-snoc}
 use Rattle.laws.specs.{Tables.length-table, Truth.and-no-right}
 use Rattle.model.specs.declared.{Message.Message}
@@ -13,23 +13,6 @@ use Rattle.theory_roles.specs.declared.Role.the-variants.{JobOwner}
 use Rattle.theory_roles.specs.Console.{owns, entitledMessageBy}
 use Rattle.library_console.specs.declared.{receivers.Receiver.Receiver, receivers.Searched.Searched}
 use Rattle.library_console.specs.Receivers.{usedBelow, hasAt, foundBelow, zerosUnderWay, foundIn, receiverIs, SearchedTo}
-
--- The front of a list that goes on, within it and past it.
-take-front : {A : Type 0} (a b : List A) (k : ℕ) → k ≤ length a → take k (a ++ b) ≡ take k a
-take-front a b zero le = refl
-take-front [] b (suc k) le = absurd (omega arith)
-take-front (x ∷ a) b (suc k) le = ap (λ l. x ∷ l) (take-front a b k (omega arith))
-
-take-beyond : {A : Type 0} (a b : List A) (k : ℕ) → length a ≤ k → take k (a ++ b) ≡ a ++ take (k - length a) b
-take-beyond [] b k le = let same : k ≡ k - 0 = omega arith in ap (λ (j : ℕ). take j b) same
-take-beyond (x ∷ a) b zero le = absurd (omega arith)
-take-beyond (x ∷ a) b (suc k) le =
-    let same : k - length a ≡ suc k - length (x ∷ a) = omega arith in
-    ap (λ l. x ∷ l) (take-beyond a b k (omega arith) ∙ ap (λ (j : ℕ). a ++ take j b) same)
-
-take-none : {A : Type 0} (k : ℕ) → _≡_ {A = List A} (take k []) []
-take-none zero = refl
-take-none (suc k) = refl
 
 -- Of that many places that all hold the same: none passes, or the last one does.
 module _ {A : Type 0} (t : A → Bool) (x : A) where
@@ -110,7 +93,7 @@ module _ (w : List ℕ) (m : ℕ) where
 
   below-is : (k : ℕ) → lastOf (select hasNumber (take many (front k))) ≡ foundBelow w m k
   unfolding foundBelow hasAt usedBelow table select lastOf
-  below-is zero = ap (λ (l : List Message). lastOf (select hasNumber l)) (take-none many)
+  below-is zero = ap (λ (l : List Message). lastOf (select hasNumber l)) (take-nil many)
   below-is (suc k) = by-bool (isMessage (messageIn w k))
       (λ e. rw (e, select-more isMessage k (messageIn w) e) (by-bool (ltb (length (front k)) many)
       (λ room.
@@ -120,7 +103,7 @@ module _ (w : List ℕ) (m : ℕ) where
       by-bool (hasNumber (messageIn w k))
       (λ is. rw (room, is, whole, select-append hasNumber (front k) (messageIn w k ∷ []), is) (lastOf-snoc (select hasNumber (front k)) (messageIn w k)))
       (λ is. rw (room, is, whole, select-append hasNumber (front k) (messageIn w k ∷ []), is, append-nil (select hasNumber (front k))) (ap (λ (l : List Message). lastOf (select hasNumber l)) (sym part) ∙ below-is k)))
-      (λ full. rw (full, take-front (front k) (messageIn w k ∷ []) many (ltb-false (length (front k)) many full)) (below-is k))))
+      (λ full. rw (full, take-append-le many (front k) (messageIn w k ∷ []) (ltb-false (length (front k)) many full)) (below-is k))))
       (λ e. rw (e, select-less isMessage k (messageIn w) e) (below-is k))
 
   -- Of all messages, and of the zeros after them.
@@ -160,8 +143,9 @@ module _ (w : List ℕ) (m : ℕ) where
 
       more-said : found (runOf w) m ≡ pick (eqb m 0 && ltb (length all) mostUnderWay) (some noMessage) (foundBelow w m (endOf w))
       more-said =
+          let past : many ≡ length all + (many - length all) = omega arith in
           run-has
-          ∙ ap (λ (l : List Message). lastOf (select hasNumber l)) (take-beyond all zeros many (omega arith))
+          ∙ ap (λ (l : List Message). lastOf (select hasNumber l)) (ap (λ (k : ℕ). take k (all ++ zeros)) past ∙ take-append-add all zeros (many - length all))
           ∙ ap lastOf (select-append hasNumber all _)
           ∙ by-eq m 0
           (λ z. rw (eq-eqb m 0 z) (zero-found z (eq-eqb 0 m (sym z))))
@@ -171,7 +155,7 @@ module _ (w : List ℕ) (m : ℕ) where
     unfolding foundIn zerosUnderWay usedBelow
     found-in = by-bool (ltb (length all) many)
         (λ e. more-said (ltb-true (length all) many e) ∙ rw e)
-        (λ e. run-has ∙ ap (λ (l : List Message). lastOf (select hasNumber l)) (take-front all zeros many (ltb-false (length all) many e)) ∙ below-is (endOf w) ∙ rw (e, and-no-right (eqb m 0) false refl))
+        (λ e. run-has ∙ ap (λ (l : List Message). lastOf (select hasNumber l)) (take-append-le many all zeros (ltb-false (length all) many e)) ∙ below-is (endOf w) ∙ rw (e, and-no-right (eqb m 0) false refl))
 
 -- What the search brought, once all places in use were searched.
 module _ (w : List ℕ) (m : ℕ) (r : Searched) (all : SearchedTo w m (endOf w) r) where

@@ -7,7 +7,7 @@ use Rattle.model.specs.Refusals.{number}
 use Rattle.whole_runs.specs.Calls.{Answered}
 use Rattle.admissions.proofs.Room.{twice-square}
 use Rattle.listing.specs.Printed.{Printed}
-use Rattle.machines.proofs.programs.Texts.{front-text}
+use Rattle.machines.proofs.{Leading.never, programs.Texts.front-text}
 use Rattle.words.specs.Layout.{runOf}
 use Rattle.machine_console.specs.{declared.script.Call.Call, declared.calls.Replied.Replied, Text.answerText, Text.lineText, Text.tailText, Text.callText}
 use Rattle.machine_console.specs.declared.script.Read.the-variants.{Ended, LeftOver, Malformed, Asks}
@@ -71,26 +71,23 @@ makes-none k w out out′ o size e printed inside = rw e (record {
 -- What eight bytes are.
 pub never-ended : {P : Type 0} (o : Option Call) → asked o ≡ Ended → P
 unfolding asked
-never-ended none e = absurd (let z : _≡_ {A = ℕ} 0 1 = cc in omega arith)
-never-ended (some c) e = absurd (let z : _≡_ {A = ℕ} 0 1 = cc in omega arith)
+never-ended none e = never (cc)
+never-ended (some c) e = never (cc)
 
 pub never-left-over : {P : Type 0} (o : Option Call) → asked o ≡ LeftOver → P
 unfolding asked
-never-left-over none e = absurd (let z : _≡_ {A = ℕ} 0 1 = cc in omega arith)
-never-left-over (some c) e = absurd (let z : _≡_ {A = ℕ} 0 1 = cc in omega arith)
+never-left-over none e = never (cc)
+never-left-over (some c) e = never (cc)
 
 pub malformed-none : (o : Option Call) → asked o ≡ Malformed → o ≡ none
 unfolding asked
 malformed-none none e = refl
-malformed-none (some c) e = absurd (let z : _≡_ {A = ℕ} 0 1 = cc in omega arith)
+malformed-none (some c) e = cc
 
 pub asks-some : (o : Option Call) (c : Call) → asked o ≡ Asks c → o ≡ some c
 unfolding asked
-asks-some none c e = absurd (let z : _≡_ {A = ℕ} 0 1 = cc in omega arith)
-asks-some (some d) c e = ap some (same-call d c e)
-  where
-    same-call : (d c : Call) → Asks d ≡ Asks c → d ≡ c
-    same-call d c e = cc
+asks-some none c e = cc
+asks-some (some d) c e = cc
 
 pub eight-is : (bytes : List ℕ) → nextOf 8 bytes ≡ asked (callOf bytes)
 unfolding nextOf

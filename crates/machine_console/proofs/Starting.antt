@@ -17,9 +17,6 @@ use Rattle.machine_console.proofs.Replying.{asked-as, same-number}
 use Rattle.in_place.proofs.Starting.{outcome-same}
 use Rattle.theory_roles.specs.declared.Operation.the-variants as operation
 
-clash : {P : Type 0} → true ≡ false → P
-clash e = absurd (let z : _≡_ {A = ℕ} 0 1 = cc in omega arith)
-
 module _ (role owned : ℕ) (c : Caller) (claims : Claims role owned c) (w : List ℕ) (long : length w ≡ 6464) (n : ℕ) where
   start-as : startAs role owned w n ones ≡ consoleStartIn c w n ones
   unfolding startAs
@@ -35,7 +32,7 @@ module _ (role owned : ℕ) (c : Caller) (claims : Claims role owned c) (w : Lis
   accepted-run : eqb (startReport (consoleStart c n ones .answer) .refused) 0 ≡ true → consoleStartIn c w n ones .run ≡ consoleStart c n ones .run
   unfolding consoleStartIn consoleStart startReport
   accepted-run h = by-bool (denied c operation.Start)
-      (λ e. clash (sym (rw e at h) ∙ refused-number Denied))
+      (λ e. let wrong = sym (rw e at h) ∙ refused-number Denied in cc)
       (λ e. rw (e, long, outcome-same n) refl)
 
   pub start-run : eqb (startReport (consoleStart c n ones .answer) .refused) 0 ≡ true → startAs role owned w n ones .run ≡ consoleStart c n ones .run

@@ -1,6 +1,7 @@
 -- A start in place through the recorder, in a buffer of no byte or one, and the start in a long buffer.
 -- Assumes nothing.
 use Rattle.laws.specs.Basics.{_≡_, refl, sym, _∙_, ap, true, false, List, [], _∷_, _++_, none, ℕ, _+_, _-_, _≤_, min, arith, eqb, ltb, length, take, drop, length-append, length-replicate, length-drop, sets, length-take-le, eq-eqb, ne-eqb, lt-ltb, le-ltb, ltb-true, ltb-false, by-bool}
+use Rattle.laws.specs.Truth.{never-both}
 use Rattle.model.specs.declared.{Refusal.Refusal, Refusal.the-variants.BufferTooShort, StartAnswer.StartAnswer, StartAnswer.the-variants.Refused}
 use Rattle.model.specs.{Words.ones, Steps.startState, Refusals.startRefusal, laws.Refusals.by-refusal}
 use Rattle.whole_runs.specs.Outcomes.{Outcome, Report, startReport, startOutcome}
@@ -30,9 +31,6 @@ outcome-in n left buffer e = rw (refusal-same n, outcome-same n) (by-refusal (st
     (λ t. rw (fine, t, sym (room-same left buffer e) ∙ t) refl))
     (λ x h. rw h refl))
 
-clash : {P : Type 0} → true ≡ false → P
-clash e = absurd (let z : _≡_ {A = ℕ} 0 1 = cc in omega arith)
-
 -- An accepted start.
 pub record Accepted (n left : ℕ) : Type 0 where
   pub fine : startRefusal n ones ≡ none
@@ -41,7 +39,7 @@ pub record Accepted (n left : ℕ) : Type 0 where
 
 refused-clash : {P : Type 0} (n left : ℕ) (x : Refusal) → eqb (startNumber left n) 0 ≡ true → recordedStart n ones (lent left) .outcome .answer ≡ Refused x → P
 unfolding startNumber startReport
-refused-clash n left x h e = clash (sym h ∙ ap (λ (a : StartAnswer). eqb (startReport a .refused) 0) e ∙ refused-number x)
+refused-clash n left x h e = never-both (eqb (startNumber left n) 0) h (ap (λ (a : StartAnswer). eqb (startReport a .refused) 0) e ∙ refused-number x)
 
 pub accepted : (n left : ℕ) → eqb (startNumber left n) 0 ≡ true → Accepted n left
 unfolding recordedStart recording unwritten appended startOutcome

@@ -17,12 +17,9 @@ use Rattle.machine_record.proofs.Emptied.{same}
 abbrev pub first : ℕ → ℕ → Standing
 first size n = record { run = startState n ones; left = size - 1; done = 0 }
 
-clash : {P : Type 0} → true ≡ false → P
-clash e = absurd (let z : _≡_ {A = ℕ} 0 1 = cc in omega arith)
-
 no-refusal : (a : StartAnswer) → eqb (startReport a .refused) 0 ≡ true → a ≡ Started
 unfolding startReport
-no-refusal (Refused x) h = clash (sym h ∙ refused-number x)
+no-refusal (Refused x) h = let wrong = sym h ∙ refused-number x in cc
 no-refusal Started h = refl
 
 accepted : (size n : ℕ) → eqb (startNumber size n) 0 ≡ true → recordedStart n ones (lent size) .outcome .answer ≡ Started
