@@ -37,7 +37,7 @@ fn numbers_of(named: [Named; PROCESSES], m: usize) -> [u32; PAIRS]
 }
 
 // A process, or 16 for one that is in no run.
-fn at_most_16(process: usize) -> u32
+fn at_most_processes(process: usize) -> u32
     ensures { λ r. ⌜ r ≡ pick (ltb process mostProcesses) process mostProcesses ⌝ }
 {
     if process < PROCESSES {
@@ -64,7 +64,7 @@ pub fn pairs_of(copied: Copied) -> Pairs
             end: 2 * m,
         };
     }
-    let most = at_most_16(process);
+    let most = at_most_processes(process);
     Pairs {
         numbers: [most; PAIRS],
         end: PAIRS,

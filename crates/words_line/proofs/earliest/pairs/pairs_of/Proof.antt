@@ -24,8 +24,8 @@ returns c =
 returns-2 : tie.Need-returns-2
 returns-2 c =
     let t = c .before .before .args .copied in
-    let x = c .at-most-16 .result in
-    (omega arith, λ l e. rest-same x (replicate 34 x) refl (same-numbers x) t l e (c .at-most-16 .ensures) (not-whole (t .length) (t .process) (c .before .if1 .left)))
+    let x = c .at-most-processes .result in
+    (omega arith, λ l e. rest-same x (replicate 34 x) refl (same-numbers x) t l e (c .at-most-processes .ensures) (not-whole (t .length) (t .process) (c .before .if1 .left)))
 
 pub pairs-of-spec : {M : Type 1} → statement M
 pairs-of-spec = tie.close (tie.spec numbers-of-requires (λ c. omega (arith, few (c .before .before))) returns (λ c κs. search needs) returns-2)
