@@ -18,7 +18,7 @@ use model::MergeAnswer;
 ghost use Rattle.laws.specs.Basics.{_≡_};
 ghost use Rattle.theory_merges.specs.{Halves.OrdersAgree, Merge.mergeOutcome, Merge.MergePromise};
 
-// "17": "more than 4,096 records" of a half (mostOfHalf in the specs of merges); the log has room for both.
+// "17": "more than 4,096 records" of a half (mostOfHalf in the specs of theory_merges); the log has room for both.
 pub const MOST_OF_HALF: usize = 4096;
 
 const LOG: usize = 2 * MOST_OF_HALF;

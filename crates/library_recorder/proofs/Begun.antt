@@ -1,41 +1,37 @@
 -- The three ways of a start in place through the recorder: refused by itself, refused for an empty buffer, and done.
 -- Assumes nothing.
-use Rattle.laws.specs.Basics.{_≡_, refl, sym, _∙_, ap, Bool, true, false, not, List, [], _∷_, none, some, ℕ, _+_, _≤_, arith, eqb, ltb, length, sets, eq-eqb, lt-ltb, le-ltb, by-bool}
+use Rattle.laws.specs.Basics.{_≡_, refl, sym, _∙_, ap, List, [], _∷_, none, some, ℕ, _+_, _≤_, arith, ltb, length, sets, eq-eqb, lt-ltb, le-ltb, by-bool}
 use Rattle.model.specs.declared.{Refusal.Refusal, Refusal.the-variants.BufferTooShort, Refusal.the-variants.CountOutsideRange, StartAnswer.StartAnswer}
 use Rattle.model.specs.declared.StartAnswer.the-variants.{Refused}
-use Rattle.model.specs.{Words.blank, Refusals.firstOf, laws.Refusals.by-refusal}
-use Rattle.whole_runs.specs.Outcomes.{startReport}
-use Rattle.whole_runs.proofs.whole.Reached.{refused-number}
+use Rattle.model.specs.{Words.blank, Refusals.number, Refusals.firstOf, laws.Refusals.by-refusal, laws.Refusals.number-range}
+use Rattle.whole_runs.specs.Outcomes.{Report, startReport}
+use Rattle.listing.specs.{declared.Summary.Summary, Summarised.reportIn}
 use Rattle.theory_recording.specs.Recording.{unwritten, appended}
 use Rattle.words.specs.{Clean.Clean, Layout.stateSize, Layout.runOf}
 use Rattle.in_place.specs.Starting.{zeros, startRefusalIn, startOutcomeIn, startWords}
 use Rattle.in_place.proofs.Starting.{zeros-run, zeros-clean, accepted-size, start-length}
-use Rattle.library_recorder.proofs.{record.Leaves.leaves-all, record.Leaves.leaves-written, record.Ways.negated, record.Ways.affirmed}
+use Rattle.library_recorder.proofs.record.Leaves.{leaves-all, leaves-written}
 use Rattle.library_recorder.specs.Recorded.{recordedStartIn, recordedStartWords}
 
-clash : {P : Type 0} (b : Bool) → b ≡ true → b ≡ false → P
-clash b p q = absurd (let y : _≡_ {A = ℕ} 0 1 = cc in omega arith)
+-- A start whose number is 0 is accepted, another is refused.
+module _ (many n : ℕ) (blockCounts : List ℕ) (answer : StartAnswer) (x : Summary) (e : answer ≡ startOutcomeIn many n blockCounts .answer) (t : reportIn x ≡ startReport answer) where
+  number-is : x .refused ≡ startReport (startOutcomeIn many n blockCounts .answer) .refused
+  unfolding reportIn
+  number-is = ap (λ (r : Report). r .refused) (t ∙ ap startReport e)
 
-module _ (many n : ℕ) (blockCounts : List ℕ) where
-  number-none : startRefusalIn many n blockCounts ≡ none → eqb (startReport (startOutcomeIn many n blockCounts .answer) .refused) 0 ≡ true
+  number-none : startRefusalIn many n blockCounts ≡ none → x .refused ≡ 0
   unfolding startOutcomeIn startReport
-  number-none h = rw h refl
+  number-none h = number-is ∙ rw h
 
-  number-some : (x : Refusal) → startRefusalIn many n blockCounts ≡ some x → eqb (startReport (startOutcomeIn many n blockCounts .answer) .refused) 0 ≡ false
+  number-some : (y : Refusal) → startRefusalIn many n blockCounts ≡ some y → x .refused ≡ number y
   unfolding startOutcomeIn startReport
-  number-some x h = rw h (refused-number x)
+  number-some y h = number-is ∙ rw h
 
-  says : {answer : StartAnswer} {v b : Bool} → answer ≡ startOutcomeIn many n blockCounts .answer → v ≡ eqb (startReport answer .refused) 0 → v ≡ b
-      → eqb (startReport (startOutcomeIn many n blockCounts .answer) .refused) 0 ≡ b
-  says e t h = ap (λ (a : StartAnswer). eqb (startReport a .refused) 0) (sym e) ∙ sym t ∙ h
+  pub start-accepted : x .refused ≡ 0 → startRefusalIn many n blockCounts ≡ none
+  start-accepted z = by-refusal (startRefusalIn many n blockCounts) (λ h. h) (λ y h. absurd (omega (arith, number-some y h, number-range y .0)))
 
-  pub start-accepted : {answer : StartAnswer} {v : Bool} → answer ≡ startOutcomeIn many n blockCounts .answer → v ≡ eqb (startReport answer .refused) 0 → not v ≡ false
-      → startRefusalIn many n blockCounts ≡ none
-  start-accepted {answer} {v} e t h = by-refusal (startRefusalIn many n blockCounts) (λ ok. ok) (λ x q. clash _ (says e t (affirmed v h)) (number-some x q))
-
-  pub start-refused : {answer : StartAnswer} {v : Bool} → answer ≡ startOutcomeIn many n blockCounts .answer → v ≡ eqb (startReport answer .refused) 0 → not v ≡ true
-      → (x : Refusal) × (startRefusalIn many n blockCounts ≡ some x)
-  start-refused {answer} {v} e t h = by-refusal (startRefusalIn many n blockCounts) (λ ok. clash _ (number-none ok) (says e t (negated v h))) (λ x q. (x, q))
+  pub start-refused : (x .refused ≡ 0 → ⊥) → (y : Refusal) × (startRefusalIn many n blockCounts ≡ some y)
+  start-refused z = by-refusal (startRefusalIn many n blockCounts) (λ h. absurd (z (number-none h))) (λ y h. (y, h))
 
 -- What is said of the words v, the answer, the buffer's bytes and the place that a start leaves.
 abbrev pub Replies : List ℕ → ℕ → List ℕ → List ℕ → ℕ → List ℕ → StartAnswer → List ℕ → ℕ → Type 0

@@ -1,4 +1,4 @@
--- Note 9 of the calls in place: the words, the buffer and the place are what the definitions of the crate recording say, and there the theorem is proved.
+-- Note 9 of the calls in place: the words, the buffer and the place are what the definitions of the crate theory_recording say, and there the theorem is proved.
 -- Assumes nothing.
 use Rattle.laws.specs.Basics.{_≡_, refl, sym, _∙_, ap, true, List, [], _∷_, none, some, ℕ, _-_, _≤_, arith, ltb, length, le-ltb, ltb-false, by-bool}
 use Rattle.model.specs.declared.{Run.Run, Refusal.Refusal, Refusal.the-variants.BufferTooShort, StartAnswer.StartAnswer}
@@ -26,7 +26,7 @@ clean-after t (d ∷ calls) u h c = clean-after (h .0) calls u (h .2) (h .1 .lea
 clash : {P : Type 0} (x : Refusal) → _≡_ {A = StartAnswer} (Refused x) Started → P
 clash x z = absurd (let y : _≡_ {A = ℕ} 0 1 = cc in omega arith)
 
--- An accepted start in place through the recorder is that of the crate recording.
+-- An accepted start in place through the recorder is that of the crate theory_recording.
 module _ (w : List ℕ) (n : ℕ) (blockCounts buffer : List ℕ) (place : ℕ) (e : recordedStartIn (length w) n blockCounts buffer place .outcome .answer ≡ Started) where
   says-refused : (x : Refusal) → startRefusalIn (length w) n blockCounts ≡ some x → recordedStartIn (length w) n blockCounts buffer place .outcome .answer ≡ Refused x
   unfolding recordedStartIn unwritten startOutcomeIn

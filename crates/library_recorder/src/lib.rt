@@ -1,9 +1,8 @@
 // The recorder on the calls in place (document 02, Note 9): each call once more, with the call's own arguments, then a lent buffer and the place that its next byte goes to.
 // "A writer takes a call, does it, and appends the record to a lent buffer". What each function returns and leaves, refused or accepted, is in specs/Recording of the crate
-// recording, of the run that the words stand for; a start in place is in specs/Recorded here, with what a replay of the buffer gives.
+// theory_recording, of the run that the words stand for; a start in place is in specs/Recorded here, with what a replay of the buffer gives.
 
-use crate::record::accepted;
-use crate::record::bytes;
+use listing::summaries;
 use model::CheckpointAnswer;
 use model::DeliverAnswer;
 use model::Event;
@@ -24,8 +23,8 @@ ghost use Rattle.library_recorder.specs.Recorded.{recordedStartIn, recor
 // without_room.rt: the answer of a call that has no room for its record
 mod without_room;
 
-// record.rt: whether an answer is that of an accepted call, and the room and the bytes of its record.
-pub mod record;
+// record.rt: the room and the bytes of a record.
+mod record;
 
 // What each call returns: its answer as without the recorder, and the place after what was written.
 pub struct StartRecorded {
@@ -80,8 +79,8 @@ pub fn start(
     ensures { λ r. ⌜ (length (now (w .entry)) ≡ stateSize → Clean (now (w .exit))) ⌝ }
 {
     let answer = in_place::start::start(w, n, block_counts);
-    let done = accepted::start(answer);
-    if !done {
+    let summary = summaries::of_start(answer);
+    if summary.refused != 0 {
         return StartRecorded { answer, place };
     }
     if buffer.len() == 0 {
@@ -109,17 +108,14 @@ pub fn checkpoint(
     ensures { λ r. ⌜ ((why : Refusal) → r .answer ≡ CheckpointAnswer.Refused why → now (w .exit) ≡ now (w .entry)) ⌝ }
     ensures { λ r. ⌜ Leaves (now (w .entry)) (now (w .exit)) ⌝ }
 {
-    let room = bytes::has_room(buffer.len(), place);
+    let room = record::has_room(buffer.len(), place);
     if !room {
         let answer = without_room::checkpoint(w, i, deleted.len());
         return CheckpointRecorded { answer, place };
     }
     let answer = in_place::checkpoint::checkpoint(w, i, deleted);
-    let done = accepted::checkpoint(answer);
-    if !done {
-        return CheckpointRecorded { answer, place };
-    }
-    let next = bytes::append(buffer, place, Event::Checkpoint(i));
+    let summary = summaries::of_checkpoint(answer);
+    let next = record::append_accepted(summary.refused, buffer, place, Event::Checkpoint(i));
     CheckpointRecorded {
         answer,
         place: next,
@@ -135,17 +131,17 @@ pub fn send(w: &mut [u16], i: usize, j: usize, buffer: &mut [u8], place: usize) 
     ensures { λ r. ⌜ ((why : Refusal) → r .answer ≡ SendAnswer.Refused why → now (w .exit) ≡ now (w .entry)) ⌝ }
     ensures { λ r. ⌜ Leaves (now (w .entry)) (now (w .exit)) ⌝ }
 {
-    let room = bytes::has_room(buffer.len(), place);
+    let room = record::has_room(buffer.len(), place);
     if !room {
         let answer = without_room::send(w, i, j);
         return SendRecorded { answer, place };
     }
     let answer = in_place::send::send(w, i, j);
-    let done = accepted::send(answer);
-    if !done {
+    let summary = summaries::of_send(answer);
+    if summary.refused != 0 {
         return SendRecorded { answer, place };
     }
-    let next = bytes::append(buffer, place, Event::Send(i, j as u32));
+    let next = record::append(buffer, place, Event::Send(i, j as u32));
     SendRecorded {
         answer,
         place: next,
@@ -169,7 +165,7 @@ pub fn deliver(
     ensures { λ r. ⌜ ((why : Refusal) → r .answer ≡ DeliverAnswer.Refused why → now (w .exit) ≡ now (w .entry)) ⌝ }
     ensures { λ r. ⌜ Leaves (now (w .entry)) (now (w .exit)) ⌝ }
 {
-    let room = bytes::has_room(buffer.len(), place);
+    let room = record::has_room(buffer.len(), place);
     if !room {
         let answer = without_room::deliver(w, m, deleted.len());
         return DeliverRecorded {
@@ -181,15 +177,8 @@ pub fn deliver(
     let delivered = in_place::deliver::deliver(w, m, deleted);
     let answer = delivered.answer;
     let rose = delivered.rose;
-    let done = accepted::deliver(answer);
-    if !done {
-        return DeliverRecorded {
-            answer,
-            rose,
-            place,
-        };
-    }
-    let next = bytes::append(buffer, place, Event::Deliver(m));
+    let summary = summaries::of_deliver(answer);
+    let next = record::append_accepted(summary.refused, buffer, place, Event::Deliver(m));
     DeliverRecorded {
         answer,
         rose,
@@ -206,17 +195,14 @@ pub fn lose(w: &mut [u16], m: u32, buffer: &mut [u8], place: usize) -> LoseRecor
     ensures { λ r. ⌜ ((why : Refusal) → r .answer ≡ LoseAnswer.Refused why → now (w .exit) ≡ now (w .entry)) ⌝ }
     ensures { λ r. ⌜ Leaves (now (w .entry)) (now (w .exit)) ⌝ }
 {
-    let room = bytes::has_room(buffer.len(), place);
+    let room = record::has_room(buffer.len(), place);
     if !room {
         let answer = without_room::lose(w, m);
         return LoseRecorded { answer, place };
     }
     let answer = in_place::lose::lose(w, m);
-    let done = accepted::lose(answer);
-    if !done {
-        return LoseRecorded { answer, place };
-    }
-    let next = bytes::append(buffer, place, Event::Lose(m));
+    let summary = summaries::of_lose(answer);
+    let next = record::append_accepted(summary.refused, buffer, place, Event::Lose(m));
     LoseRecorded {
         answer,
         place: next,
@@ -259,17 +245,14 @@ pub fn recover(
     ensures { λ r. ⌜ ((why : Refusal) → r .answer ≡ RecoverAnswer.Refused why → now (w .exit) ≡ now (w .entry)) ⌝ }
     ensures { λ r. ⌜ Leaves (now (w .entry)) (now (w .exit)) ⌝ }
 {
-    let room = bytes::has_room(buffer.len(), place);
+    let room = record::has_room(buffer.len(), place);
     if !room {
         let answer = without_room::recover(w, failed, deleted.len(), line.len());
         return RecoverRecorded { answer, place };
     }
     let answer = in_place_recover::recover(w, failed, deleted, line);
-    let done = accepted::recover(answer);
-    if !done {
-        return RecoverRecorded { answer, place };
-    }
-    let next = bytes::append(buffer, place, Event::Recover(failed));
+    let summary = summaries::of_recover(answer);
+    let next = record::append_accepted(summary.refused, buffer, place, Event::Recover(failed));
     RecoverRecorded {
         answer,
         place: next,

@@ -1,46 +1,63 @@
--- `library_recorder::send` meets its contract: the three ways of a call through the recorder.
+-- `library_recorder::send` meets its contract: the three ways of a call through the recorder. Its record names the receiver, which only an accepted send has for certain small.
 -- Assumes nothing.
-use Rattle.laws.specs.Basics.{refl, _∙_, arith, length, needs}
+use Rattle.laws.specs.Basics.{refl, _∙_, arith, length, needs, eq-eqb, ne-eqb}
 use Rattle.words.specs.Layout.{runOf}
 use Rattle.in_place.proofs.Leaving.{same-words}
-use Rattle.library_recorder.proofs.record.Ways.{has-room, no-room, send-ways, small}
-use Rattle.library_recorder.proofs.{record.Leaves.leaves-all, record.Leaves.leaves-written, send.Statement.statement}
+use Rattle.library_recorder.proofs.{record.Ways.small, record.Ways.has-room, record.Ways.send-ways, send.Statement.statement}
 use Rattle.library_recorder.proofs.send.Tie as tie
 
 returns : tie.Need-returns
 returns c =
-    let a = c .before .before .before .before .before .before .args in
-    let room = no-room (length (a .buffer .now)) (a .place) (c .before .before .before .has-room .ensures) (c .before .before .if1 .taken) in
-    let l = leaves-all _ _ _ _ (send-ways (runOf (a .w .now)) (a .i) (a .j) (a .buffer .now) (a .place) .without _ room (c .send .ensures)) in
+    let room = c .before .before .before in
+    let a = room .before .before .before .args in
+    let l = send-ways (runOf (a .w .now)) (a .i) (a .j) .without _ (a .buffer .now) (a .place) (room .has-room .ensures) (c .before .before .if1 .taken) (c .send .ensures) in
     (l .run, (l .answer, (l .buffer, (l .place, (λ why q. refl, same-words (a .w .now))))))
 
 returns-2 : tie.Need-returns-2
 returns-2 c =
-    let a = c .before .before .before .before .before .before .before .before .before .before .args in
-    let made = c .before .before .before .before .send2 .ensures in
-    let l = leaves-all _ _ _ _ (send-ways (runOf (a .w .now)) (a .i) (a .j) (a .buffer .now) (a .place) .refused _ _ (made .1 .0) (c .before .send3 .ensures) (c .if2 .taken)) in
+    let told = c .before .before in
+    let called = told .before .before .before in
+    let room = called .before .before .before in
+    let a = room .before .before .before .args in
+    let fits = has-room (length (a .buffer .now)) (a .place) (room .has-room .ensures) (called .before .before .if1 .left) in
+    let ways = send-ways (runOf (a .w .now)) (a .i) (a .j) in
+    let made = called .send2 .ensures in
+    let l = rw (ne-eqb _ 0 (c .if2 .taken)) at (ways .made _ _ (made .1 .0) (told .of-send .ensures) (a .buffer .now) (a .place) fits) in
     (made .0 ∙ l .run, (made .1 .0 ∙ l .answer, (l .buffer, (l .place, (made .1 .1 .0, made .1 .1 .1 .0)))))
 
 cast-t19 : tie.Need-cast-t19
 cast-t19 c =
-    let a = c .before .before .before .before .before .before .before .before .before .before .before .args in
-    let ok = send-ways (runOf (a .w .now)) (a .i) (a .j) (a .buffer .now) (a .place) .accepted _ _ (c .before .before .before .before .before .send2 .ensures .1 .0) (c .before .before .send3 .ensures) (c .before .if2 .left) in
-    record { fits = omega (arith, small (a .i) (a .j) (ok .1)) }
+    let told = c .before .before .before in
+    let called = told .before .before .before in
+    let room = called .before .before .before in
+    let a = room .before .before .before .args in
+    let fits = has-room (length (a .buffer .now)) (a .place) (room .has-room .ensures) (called .before .before .if1 .left) in
+    let ways = send-ways (runOf (a .w .now)) (a .i) (a .j) in
+    let made = called .send2 .ensures in
+    record { fits = omega (arith, small (a .i) (a .j) (ways .fine _ _ (made .1 .0) (told .of-send .ensures) (c .before .if2 .left))) }
 
 append-requires : tie.Need-append-requires
 append-requires c κs =
-    let a = c .before .before .before .before .before .before .before .before .before .before .before .args in
-    let ok = send-ways (runOf (a .w .now)) (a .i) (a .j) (a .buffer .now) (a .place) .accepted _ _ (c .before .before .before .before .before .send2 .ensures .1 .0) (c .before .before .send3 .ensures) (c .before .if2 .left) in
-    (has-room (length (a .buffer .now)) (a .place) (c .before .before .before .before .before .before .before .before .has-room .ensures) (c .before .before .before .before .before .before .before .if1 .left) .1, ok .1)
+    let told = c .before .before .before in
+    let called = told .before .before .before in
+    let room = called .before .before .before in
+    let a = room .before .before .before .args in
+    let fits = has-room (length (a .buffer .now)) (a .place) (room .has-room .ensures) (called .before .before .if1 .left) in
+    let ways = send-ways (runOf (a .w .now)) (a .i) (a .j) in
+    let made = called .send2 .ensures in
+    (fits, ways .fine _ _ (made .1 .0) (told .of-send .ensures) (c .before .if2 .left))
 
 returns-3 : tie.Need-returns-3
 returns-3 c =
-    let a = c .before .before .before .before .before .before .before .before .before .before .before .before .before .before .args in
-    let made = c .before .before .before .before .before .before .before .before .send2 .ensures in
+    let told = c .before .before .before .before .before .before in
+    let called = told .before .before .before in
+    let room = called .before .before .before in
+    let a = room .before .before .before .args in
+    let fits = has-room (length (a .buffer .now)) (a .place) (room .has-room .ensures) (called .before .before .if1 .left) in
+    let ways = send-ways (runOf (a .w .now)) (a .i) (a .j) in
+    let made = called .send2 .ensures in
+    let l = rw (eq-eqb _ 0 (c .before .before .before .before .if2 .left)) at (ways .made _ _ (made .1 .0) (told .of-send .ensures) (a .buffer .now) (a .place) fits) in
     let written = c .before .before .append .ensures in
-    let ok = send-ways (runOf (a .w .now)) (a .i) (a .j) (a .buffer .now) (a .place) .accepted _ _ (c .before .before .before .before .before .before .before .before .send2 .ensures .1 .0) (c .before .before .before .before .before .send3 .ensures) (c .before .before .before .before .if2 .left) in
-    let room = has-room (length (a .buffer .now)) (a .place) (c .before .before .before .before .before .before .before .before .before .before .before .has-room .ensures) (c .before .before .before .before .before .before .before .before .before .before .if1 .left) in
-    let l = leaves-written _ _ _ _ _ (send-ways (runOf (a .w .now)) (a .i) (a .j) (a .buffer .now) (a .place) .done (ok .0) (ok .2) (room .0)) in
     (made .0 ∙ l .run, (made .1 .0 ∙ l .answer, (written .0 ∙ l .buffer, (written .1 ∙ l .place, (made .1 .1 .0, made .1 .1 .1 .0)))))
 
 pub send-spec : {M : Type 1} → statement M

@@ -1,8 +1,8 @@
 -- `recorder::bytes::has_room` meets its contract.
 -- Assumes nothing.
 use Rattle.laws.specs.Basics.{_≡_, false, not, ℕ, _-_, _<_, arith, ltb, leb, lt-ltb, le-ltb, leb-true, leb-false, by-bool}
-use Rattle.library_recorder.proofs.record.bytes.has_room.Statement.{statement}
-use Rattle.library_recorder.proofs.record.bytes.has_room.Tie as tie
+use Rattle.library_recorder.proofs.record.has_room.Statement.{statement}
+use Rattle.library_recorder.proofs.record.has_room.Tie as tie
 
 -- No byte is left after a place past the end.
 past : (size place : ℕ) → size < place → false ≡ not (ltb (size - place) 4)

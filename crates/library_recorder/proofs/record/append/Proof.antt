@@ -1,4 +1,4 @@
--- `library_recorder::record::bytes::append` meets its contract: the record of an event that fits is what the crate trace encodes.
+-- `library_recorder::record::append` meets its contract: the record of an event that fits is what the crate trace encodes.
 -- Assumes nothing.
 use Rattle.laws.specs.Basics.{_≡_, refl, sym, _∙_, ap, true, List, ℕ, _+_, sets, needs}
 use Rattle.model.specs.declared.Event.{Event}
@@ -8,8 +8,8 @@ use Rattle.trace.specs.declared.Encoded.{Encoded}
 use Rattle.trace.specs.Answers.{recordOf}
 use Rattle.theory_recording.specs.Replay.{recordBytes}
 use Rattle.theory_recording.proofs.Replay.{record-of}
-use Rattle.library_recorder.proofs.record.bytes.append.Statement.{statement}
-use Rattle.library_recorder.proofs.record.bytes.append.Tie as tie
+use Rattle.library_recorder.proofs.record.append.Statement.{statement}
+use Rattle.library_recorder.proofs.record.append.Tie as tie
 
 -- What is encoded of an event that fits is its record.
 is-record : (e : Event) → fits e ≡ true → recordOf e .bytes ≡ recordBytes e

@@ -1,8 +1,8 @@
 -- `recorder::bytes::put` meets its contract: four stores, one after the other.
 -- Assumes nothing.
 use Rattle.laws.specs.Basics.{_≡_, List, [], _∷_, ℕ, suc, _+_, arith, length, getD, set, length-set, sets, needs}
-use Rattle.library_recorder.proofs.record.bytes.put.Statement.{statement}
-use Rattle.library_recorder.proofs.record.bytes.put.Tie as tie
+use Rattle.library_recorder.proofs.record.put.Statement.{statement}
+use Rattle.library_recorder.proofs.record.put.Tie as tie
 
 -- Four stores one after the other.
 four : (b l : List ℕ) (k : ℕ) → length b ≡ 4 → set (set (set (set l k (getD b 0 0)) (k + 1) (getD b 1 0)) (k + 2) (getD b 2 0)) (k + 3) (getD b 3 0) ≡ sets l k b
