@@ -86,6 +86,13 @@ module _ (w : List ℕ) (h : sound (runOf w) ≡ true) (n : ℕ) (same : n ≡ c
   pub all-used : AllUsed n w
   all-used p lt = sound-part w h p (omega arith) .used
 
+  -- The indexes of the members.
+  abbrev indexesFor : ℕ → List CheckpointIndex
+  indexesFor F = indexesIn w n (pastsIn w n (limitsIn w n F))
+
+  pub line-found : (F : ℕ) → noMember (runOf w) F ≡ false → (indexes : List CheckpointIndex) → indexes ≡ indexesFor F → table n (λ p. getD indexes p (record { 0 = 0 }) .0) ≡ lineOf (runOf w) F
+  line-found F there indexes q = rw (q, same) (line-is w h F there)
+
   module _ (F : ℕ) (limits : List Interval) (of-set : limits ≡ limitsIn w n F) where
     module _ (all : Bool) (found : all ≡ hasMembers w n limits) where
       all-are : all ≡ not (noMember (runOf w) F)
@@ -101,12 +108,11 @@ module _ (w : List ℕ) (h : sound (runOf w) ≡ true) (n : ℕ) (same : n ≡ c
       pub pasts-are : pasts ≡ pastsIn w (countOf w) (limitsIn w (countOf w) F)
       pasts-are = found ∙ rw (of-set, same)
 
+      pub indexes-found : (indexes : List CheckpointIndex) → indexes ≡ indexesIn w n pasts → indexes ≡ indexesFor F
+      indexes-found indexes q = q ∙ rw (found, of-set)
+
       pub pasts-room : n ≤ length pasts
       pasts-room = omega (arith, ap length found ∙ pasts-length w n limits, sound-few w h)
 
-      module _ (there : noMember (runOf w) F ≡ false) where
-        pub members-found : AllFound n pasts
-        members-found = (pasts-room, λ p lt. rw (pasts-are, past-at w h F p (omega arith)) (found-one w h F there p (omega arith)))
-
-        pub line-found : (indexes : List CheckpointIndex) → indexes ≡ indexesIn w n pasts → table n (λ p. getD indexes p (record { 0 = 0 }) .0) ≡ lineOf (runOf w) F
-        line-found indexes q = rw (q, pasts-are, same) (line-is w h F there)
+      pub members-found : noMember (runOf w) F ≡ false → AllFound n pasts
+      members-found there = (pasts-room, λ p lt. rw (pasts-are, past-at w h F p (omega arith)) (found-one w h F there p (omega arith)))

@@ -5,12 +5,13 @@ use model::LineAnswer;
 use model::PROCESSES;
 use model::Refusal;
 use words::places;
-ghost use Rattle.laws.specs.Basics.{_≡_, true, _≤_, length, getD, sets, pick};
+ghost use Rattle.laws.specs.Basics.{_≡_, true, false, not, _≤_, length, getD, sets, pick};
 ghost use Rattle.laws.specs.Lists.{table};
 ghost use Rattle.model.specs.{Refusals.noMember, Sound.sound, Steps.lineOf, Words.mostProcesses};
 ghost use Rattle.model.specs.declared.{LineAnswer.the-variants.Refused, LineAnswer.the-variants.Written, Refusal.the-variants.UnsoundState};
 ghost use Rattle.whole_runs.specs.{Outcomes.lineOutcome, Sweep.EmptyLinePromise, WholeRuns.LinePromise};
 ghost use Rattle.words.specs.Layout.{countOf, runOf};
+ghost use Rattle.words_line.specs.Line.{limitsIn, pastsIn, indexesIn};
 
 // The indexes of n members go to the front of the lent list.
 pub fn write_line(line: &mut [u16], indexes: [CheckpointIndex; PROCESSES], n: usize)
@@ -23,20 +24,43 @@ pub fn write_line(line: &mut [u16], indexes: [CheckpointIndex; PROCESSES], n: us
     }
 }
 
-// A failed set that is within the run: the line is written if the rule accepts a state of each process.
-fn line_within(w: &[u16], n: usize, failed: u32, line: &mut [u16]) -> LineAnswer
-    requires { ⌜ (sound (runOf (now w)) ≡ true) × (n ≡ countOf (now w)) × (n ≤ length (now line)) ⌝ }
-    ensures { λ r. ⌜ r ≡ pick (noMember (runOf (now (w .entry))) failed) (Refused UnsoundState) Written ⌝ }
-    ensures { λ r. ⌜ now (line .exit) ≡ pick (noMember (runOf (now (w .entry))) failed) (now (line .entry)) (sets (now (line .entry)) 0 (lineOf (runOf (now (w .entry))) failed)) ⌝ }
+// Whether the line rule accepts a state of each process, and if so the indexes of these states.
+pub struct Members {
+    pub all: bool,
+    pub indexes: [CheckpointIndex; PROCESSES],
+}
+
+// The line's members for a failed set that is within the run.
+pub fn members_of(w: &[u16], n: usize, failed: u32) -> Members
+    requires { ⌜ (sound (runOf (now w)) ≡ true) × (n ≡ countOf (now w)) ⌝ }
+    ensures { λ r. ⌜ r .all ≡ not (noMember (runOf (now (w .entry))) failed) ⌝ }
+    ensures { λ r. ⌜ (noMember (runOf (now (w .entry))) failed ≡ false → r .indexes ≡ indexesIn (now (w .entry)) n (pastsIn (now (w .entry)) n (limitsIn (now (w .entry)) n failed))) ⌝ }
 {
     let limits = words_line::line::limits_of(w, n, failed);
     let mut table = [0u16; PROCESSES];
     let pasts: &mut [u16] = &mut table;
     let all = words_line::line::find_members(w, n, limits, pasts);
     if !all {
-        return LineAnswer::Refused(Refusal::UnsoundState);
+        return Members {
+            all,
+            indexes: [CheckpointIndex(0); PROCESSES],
+        };
     }
     let indexes = words_line::line::indexes_of(w, n, pasts);
+    Members { all, indexes }
+}
+
+// A failed set that is within the run: the line is written if the rule accepts a state of each process.
+fn line_within(w: &[u16], n: usize, failed: u32, line: &mut [u16]) -> LineAnswer
+    requires { ⌜ (sound (runOf (now w)) ≡ true) × (n ≡ countOf (now w)) × (n ≤ length (now line)) ⌝ }
+    ensures { λ r. ⌜ r ≡ pick (noMember (runOf (now (w .entry))) failed) (Refused UnsoundState) Written ⌝ }
+    ensures { λ r. ⌜ now (line .exit) ≡ pick (noMember (runOf (now (w .entry))) failed) (now (line .entry)) (sets (now (line .entry)) 0 (lineOf (runOf (now (w .entry))) failed)) ⌝ }
+{
+    let members = members_of(w, n, failed);
+    if !members.all {
+        return LineAnswer::Refused(Refusal::UnsoundState);
+    }
+    let indexes = members.indexes;
     write_line(line, indexes, n);
     LineAnswer::Written
 }

@@ -64,14 +64,11 @@ fn lost_within(w: &[u16], n: usize, failed: u32, messages: &mut [u32]) -> u64
     ensures { λ r. ⌜ r ≡ coded (lostReading (runOf (now (w .entry))) failed (now (messages .entry)) .report) 0 ⌝ }
     ensures { λ r. ⌜ now (messages .exit) ≡ lostReading (runOf (now (w .entry))) failed (now (messages .entry)) .list ⌝ }
 {
-    let limits = words_line::line::limits_of(w, n, failed);
-    let mut table = [0u16; PROCESSES];
-    let pasts: &mut [u16] = &mut table;
-    let all = words_line::line::find_members(w, n, limits, pasts);
-    if !all {
+    let members = in_place::line::members_of(w, n, failed);
+    if !members.all {
         return refused(Refusal::UnsoundState);
     }
-    let indexes = words_line::line::indexes_of(w, n, pasts);
+    let indexes = members.indexes;
     let end = end_in(w);
     let many = write_lost(w, end, indexes, messages);
     counted(many)

@@ -1,86 +1,34 @@
 -- `in_place::line::line_within` meets its contract, by whether each process has a member. Assumes nothing.
-use Rattle.laws.specs.Basics.{_≡_, refl, _∙_, ap, false, List, ℕ, arith, sets, needs, not-true, not-false}
+use Rattle.laws.specs.Basics.{_≡_, refl, sym, _∙_, ap, true, false, List, ℕ, arith, sets, needs, not-true, not-false}
 use Rattle.model.specs.Refusals.{noMember}
 use Rattle.words.specs.Layout.{runOf}
-use Rattle.words.proofs.ViewSound.{sound-words}
-use Rattle.in_place.proofs.Lining.{some-own, most-kept-count, all-used, members-missing, members-there, members-found, line-found}
-use Rattle.in_place.proofs.line.line_within.Statement.{statement}
+use Rattle.words.proofs.ViewSound.{sound-few}
+use Rattle.in_place.proofs.{Lining.line-found, line.line_within.Statement.statement}
 use Rattle.in_place.proofs.line.line_within.Tie as tie
-
--- Where each call stands after the one before it.
-abbrev at-limits : tie.After-limits-of → tie.Start
-at-limits l = l .before .before .before
-
-abbrev at-members : tie.After-find-members → tie.After-limits-of
-at-members f = f .before .before .before
-
-abbrev at-found : tie.Else1 → tie.After-find-members
-at-found e = e .before .before .before
-
-abbrev at-indexes : tie.After-indexes-of → tie.Else1
-at-indexes i = i .before .before
-
-limits-of-requires : tie.Need-limits-of-requires
-limits-of-requires c κs =
-    let st = c .before .before in
-    let k = sound-words (st .args .w .now) (st .pre .0) in
-    (k .size, omega (arith, k .few, st .pre .1), some-own (st .args .w .now) (st .pre .0) (st .args .n) (st .pre .1))
-
-find-members-requires : tie.Need-find-members-requires
-find-members-requires c κs =
-    let st = at-limits (c .before .before) in
-    let k = sound-words (st .args .w .now) (st .pre .0) in
-    (k .size, omega (arith, k .few, st .pre .1), most-kept-count (st .args .w .now) (st .pre .0) (st .args .n) (st .pre .1), refl)
 
 returns : tie.Need-returns
 returns c =
-    let f = c .before .before .before .before in
-    let l = at-members f in
-    let st = at-limits l in
-    let e = members-missing (st .args .w .now) (st .pre .0) (st .args .n) (st .pre .1) (st .args .failed) _ (l .limits-of .ensures) _ (f .find-members .ensures .0) (not-true _ (c .before .if1 .taken)) in
+    let a = c .before .before .before .before .before .args in
+    let e : noMember (runOf (a .w .now)) (a .failed) ≡ true = not-false _ (sym (c .before .before .members-of .ensures .0) ∙ not-true _ (c .if1 .taken)) in
     rw e (refl, refl)
 
 -- Each process has a member.
-there : (e : tie.Else1) → let st = at-limits (at-members (at-found e)) in noMember (runOf (st .args .w .now)) (st .args .failed) ≡ false
-there e =
-    let f = at-found e in
-    let l = at-members f in
-    let st = at-limits l in
-    members-there (st .args .w .now) (st .pre .0) (st .args .n) (st .pre .1) (st .args .failed) _ (l .limits-of .ensures) _ (f .find-members .ensures .0) (not-false _ (e .if1 .left))
-
-indexes-of-requires : tie.Need-indexes-of-requires
-indexes-of-requires c κs =
-    let f = at-found (c .before) in
-    let l = at-members f in
-    let st = at-limits l in
-    let w = st .args .w .now in
-    let n = st .args .n in
-    let k = sound-words w (st .pre .0) in (
-      k .size,
-      omega (arith, k .few, st .pre .1),
-      some-own w (st .pre .0) n (st .pre .1),
-      most-kept-count w (st .pre .0) n (st .pre .1),
-      all-used w (st .pre .0) n (st .pre .1),
-      members-found w (st .pre .0) n (st .pre .1) (st .args .failed) _ (l .limits-of .ensures) _ (f .find-members .ensures .1) (there (c .before)),
-    )
+there : (e : tie.Else1) → let st = e .before .before .before .before .before in noMember (runOf (st .args .w .now)) (st .args .failed) ≡ false
+there e = not-true _ (sym (e .before .before .members-of .ensures .0) ∙ not-false _ (e .if1 .left))
 
 write-line-requires : tie.Need-write-line-requires
 write-line-requires c κs =
-    let st = at-limits (at-members (at-found (at-indexes (c .before .before)))) in
-    let k = sound-words (st .args .w .now) (st .pre .0) in
-    (omega (arith, k .few, st .pre .1), st .pre .2)
+    let st = c .before .before .before .before .before .before .before in
+    (omega (arith, sound-few (st .args .w .now) (st .pre .0), st .pre .1), st .pre .2)
 
 returns-2 : tie.Need-returns-2
 returns-2 c =
-    let wl = c .before .before in
-    let i = wl .before .before .before in
-    let e = at-indexes i in
-    let f = at-found e in
-    let l = at-members f in
-    let st = at-limits l in
-    let line = line-found (st .args .w .now) (st .pre .0) (st .args .n) (st .pre .1) (st .args .failed) _ (l .limits-of .ensures) _ (f .find-members .ensures .1) (there e) _ (i .indexes-of .ensures) in
-    rw (there e) (refl, wl .write-line .ensures ∙ ap (λ (x : List ℕ). sets (st .args .line .now) 0 x) line)
+    let e = c .before .before .before .before .before in
+    let st = e .before .before .before .before .before in
+    let found = e .before .before .members-of .ensures .1 (there e) in
+    let line = line-found (st .args .w .now) (st .pre .0) (st .args .n) (st .pre .1) (st .args .failed) (there e) _ found in
+    rw (there e) (refl, c .before .before .write-line .ensures ∙ ap (λ (x : List ℕ). sets (st .args .line .now) 0 x) line)
 
 pub line-within-spec : {M : Type 1} → statement M
 line-within-spec =
-    tie.close (tie.spec limits-of-requires (λ c. search needs) find-members-requires returns indexes-of-requires write-line-requires (λ c. search needs) returns-2)
+    tie.close (tie.spec (λ c κs. search needs) returns write-line-requires (λ c. search needs) returns-2)
