@@ -2,7 +2,7 @@
 -- Assumes nothing.
 use Rattle.laws.specs.Basics.{_≡_, refl, sym, _∙_, ap, true, false, _&&_, List, [], _∷_, some, ℕ, _^_, _≤_, _<_, arith, leb, length, lt-ltb, le-ltb}
 use Rattle.laws.specs.{Lists.table, Select.select-length, Select.select-select, Tables.length-table}
-use Rattle.model.specs.declared.{CheckpointIndex.CheckpointIndex, Interval.Interval, Message.Message, Run.Run}
+use Rattle.model.specs.declared.{CheckpointIndex.CheckpointIndex, Message.Message, Run.Run}
 use Rattle.model.specs.declared.Refusal.the-variants.{UnsoundState, ListTooShort, NoSuchFailedProcess}
 use Rattle.model.specs.{Sound.sound, Refusals.noMember}
 use Rattle.words.specs.Layout.{countOf, endOf, messageIn, isMessage, messagesIn, runOf}
@@ -15,10 +15,9 @@ use Rattle.library_readers.proofs.Readings.{refusedBy, read, refused-by
 pub few-lost : (indexes : List CheckpointIndex) (w : List ℕ) (k : ℕ) → length (lostBelow indexes w k) ≤ k
 few-lost indexes w k = omega (arith, select-length (λ x. isMessage x && lostTo indexes x) (table k (messageIn w)), length-table k (messageIn w))
 
--- The indexes that words_line finds are those of the line.
-pub indexes-are : (w : List ℕ) (n F : ℕ) (limits : List Interval) (pasts : List ℕ) (indexes : List CheckpointIndex) → n ≡ countOf w → limits ≡ limitsIn w n F → pasts ≡ pastsIn w n limits
-    → indexes ≡ indexesIn w n pasts → indexes ≡ lineIndexes w F
-indexes-are w n F limits pasts indexes same of-set found e = e ∙ rw (found, of-set, same)
+-- The indexes of the members of n processes are those of the line.
+pub indexes-are : (w : List ℕ) (n F : ℕ) (indexes : List CheckpointIndex) → n ≡ countOf w → indexes ≡ indexesIn w n (pastsIn w n (limitsIn w n F)) → indexes ≡ lineIndexes w F
+indexes-are w n F indexes same e = e ∙ rw same
 
 module _ (w : List ℕ) (h : sound (runOf w) ≡ true) (F : ℕ) (lent : List ℕ) where
   abbrev s : Run

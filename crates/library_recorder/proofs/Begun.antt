@@ -3,9 +3,10 @@
 use Rattle.laws.specs.Basics.{_≡_, refl, sym, _∙_, ap, List, [], _∷_, none, some, ℕ, _+_, _≤_, arith, ltb, length, sets, eq-eqb, lt-ltb, le-ltb, by-bool}
 use Rattle.model.specs.declared.{Refusal.Refusal, Refusal.the-variants.BufferTooShort, Refusal.the-variants.CountOutsideRange, StartAnswer.StartAnswer}
 use Rattle.model.specs.declared.StartAnswer.the-variants.{Refused}
-use Rattle.model.specs.{Words.blank, Refusals.number, Refusals.firstOf, laws.Refusals.by-refusal, laws.Refusals.number-range}
-use Rattle.whole_runs.specs.Outcomes.{Report, startReport}
+use Rattle.model.specs.{Words.blank, Refusals.number, Refusals.firstOf}
+use Rattle.whole_runs.specs.Outcomes.{startReport}
 use Rattle.listing.specs.{declared.Summary.Summary, Summarised.reportIn}
+use Rattle.listing.proofs.Summarised.{is-accepted, is-refused}
 use Rattle.theory_recording.specs.Recording.{unwritten, appended}
 use Rattle.words.specs.{Clean.Clean, Layout.stateSize, Layout.runOf}
 use Rattle.in_place.specs.Starting.{zeros, startRefusalIn, startOutcomeIn, startWords}
@@ -14,24 +15,21 @@ use Rattle.library_recorder.proofs.record.Leaves.{leaves-all, leaves-wr
 use Rattle.library_recorder.specs.Recorded.{recordedStartIn, recordedStartWords}
 
 -- A start whose number is 0 is accepted, another is refused.
-module _ (many n : ℕ) (blockCounts : List ℕ) (answer : StartAnswer) (x : Summary) (e : answer ≡ startOutcomeIn many n blockCounts .answer) (t : reportIn x ≡ startReport answer) where
-  number-is : x .refused ≡ startReport (startOutcomeIn many n blockCounts .answer) .refused
-  unfolding reportIn
-  number-is = ap (λ (r : Report). r .refused) (t ∙ ap startReport e)
-
-  number-none : startRefusalIn many n blockCounts ≡ none → x .refused ≡ 0
+module _ (many n : ℕ) (blockCounts : List ℕ) where
+  number-none : startRefusalIn many n blockCounts ≡ none → startReport (startOutcomeIn many n blockCounts .answer) .refused ≡ 0
   unfolding startOutcomeIn startReport
-  number-none h = number-is ∙ rw h
+  number-none h = rw h
 
-  number-some : (y : Refusal) → startRefusalIn many n blockCounts ≡ some y → x .refused ≡ number y
+  number-some : (y : Refusal) → startRefusalIn many n blockCounts ≡ some y → startReport (startOutcomeIn many n blockCounts .answer) .refused ≡ number y
   unfolding startOutcomeIn startReport
-  number-some y h = number-is ∙ rw h
+  number-some y h = rw h
 
-  pub start-accepted : x .refused ≡ 0 → startRefusalIn many n blockCounts ≡ none
-  start-accepted z = by-refusal (startRefusalIn many n blockCounts) (λ h. h) (λ y h. absurd (omega (arith, number-some y h, number-range y .0)))
+  module _ (answer : StartAnswer) (x : Summary) (e : answer ≡ startOutcomeIn many n blockCounts .answer) (t : reportIn x ≡ startReport answer) where
+    pub start-accepted : x .refused ≡ 0 → startRefusalIn many n blockCounts ≡ none
+    start-accepted = is-accepted (startRefusalIn many n blockCounts) x _ (t ∙ ap startReport e) number-none number-some
 
-  pub start-refused : (x .refused ≡ 0 → ⊥) → (y : Refusal) × (startRefusalIn many n blockCounts ≡ some y)
-  start-refused z = by-refusal (startRefusalIn many n blockCounts) (λ h. absurd (z (number-none h))) (λ y h. (y, h))
+    pub start-refused : (x .refused ≡ 0 → ⊥) → (y : Refusal) × (startRefusalIn many n blockCounts ≡ some y)
+    start-refused = is-refused (startRefusalIn many n blockCounts) x _ (t ∙ ap startReport e) number-none number-some
 
 -- What is said of the words v, the answer, the buffer's bytes and the place that a start leaves.
 abbrev pub Replies : List ℕ → ℕ → List ℕ → List ℕ → ℕ → List ℕ → StartAnswer → List ℕ → ℕ → Type 0

@@ -4,12 +4,13 @@ use Rattle.laws.specs.Basics.{_≡_, refl, sym, _∙_, ap, Bool, true, false, n
 use Rattle.laws.specs.Truth.{and-right}
 use Rattle.model.specs.declared.{Run.Run, Event.Event, Refusal.Refusal, Refusal.the-variants.BufferTooShort}
 use Rattle.model.specs.declared.Event.the-variants.{Checkpoint, Send, Deliver, Lose, Recover}
-use Rattle.model.specs.{Trace.fits, Trace.fieldsOf, laws.Refusals.by-refusal, laws.Refusals.number-range}
+use Rattle.model.specs.{Trace.fits, Trace.fieldsOf, laws.Refusals.by-refusal}
 use Rattle.model.specs.Refusals.{checkpointRefusal, sendRefusal, deliverRefusal, loseRefusal, recoverRefusal}
 use Rattle.whole_runs.specs.Outcomes.{Outcome, Report, judged, checkpointOutcome, checkpointReport, sendOutcome, sendReport, deliverOutcome, deliverReport, loseOutcome, loseReport, recoverOutcome, recoverReport}
 use Rattle.whole_runs.specs.Calls.{Call, checkpoint, send, deliver, lose, recover, answered, call}
 use Rattle.whole_runs.proofs.{whole.Reached.refusal, whole.Reached.refused-report, whole.Accepted.accepted-report}
 use Rattle.listing.specs.{declared.Summary.Summary, Summarised.reportIn}
+use Rattle.listing.proofs.Summarised.{is-accepted, is-refused}
 use Rattle.theory_recording.specs.Replay.{recordBytes}
 use Rattle.theory_recording.specs.Recording.{Recorded, unwritten, appended, recording, recordedCheckpoint, recordedSend, recordedDeliver, recordedLose, recordedRecover, eventOfCall}
 use Rattle.theory_recording.proofs.{Replay.record-of, Recording.fits-event}
@@ -56,33 +57,31 @@ module _ {A : Type 0} (s : Run) (c : Call) (e : Event) (asks : eventOfCall c ≡
   four h = record-of e (fits-event s c e h asks) .0
 
   module _ (answer : A) (x : Summary) (q : answer ≡ outcome .answer) (t : reportIn x ≡ reportOf answer) where
-    number-is : call s c .reply .report .refused ≡ x .refused
-    unfolding reportIn
-    number-is = ap (λ (r : Report). r .refused) (same-report ∙ ap reportOf (sym q) ∙ sym t)
+    says : reportIn x ≡ call s c .reply .report
+    says = t ∙ ap reportOf q ∙ sym same-report
 
-    -- A call whose number is 0 is accepted, another is refused.
-    is-accepted : x .refused ≡ 0 → refusal s c ≡ none
-    is-accepted z = by-refusal (refusal s c) (λ h. h) (λ y h. absurd (omega (arith, number-is, refused-report s c y h, number-range y .0)))
+    accepts : x .refused ≡ 0 → refusal s c ≡ none
+    accepts z = is-accepted (refusal s c) x _ says (accepted-report s c) (refused-report s c) z
 
-    is-refused : (x .refused ≡ 0 → ⊥) → (y : Refusal) × (refusal s c ≡ some y)
-    is-refused z = by-refusal (refusal s c) (λ h. absurd (z (sym number-is ∙ accepted-report s c h))) (λ y h. (y, h))
+    refuses : (x .refused ≡ 0 → ⊥) → (y : Refusal) × (refusal s c ≡ some y)
+    refuses z = is-refused (refusal s c) x _ says (accepted-report s c) (refused-report s c) z
 
     fits-record : x .refused ≡ 0 → fits e ≡ true
-    fits-record z = fits-event s c e (is-accepted z) asks
+    fits-record z = fits-event s c e (accepts z) asks
 
     is-made : (buffer : List ℕ) (place : ℕ) → place + 4 ≤ length buffer
         → Leaves (recorded buffer place) outcome (pick (eqb (x .refused) 0) (sets buffer place (recordBytes e)) buffer) (pick (eqb (x .refused) 0) (place + length (recordBytes e)) place)
     unfolding recording
     is-made buffer place room = by-eq (x .refused) 0
-        (λ z. let ok = is-accepted z in rw (eq-eqb (x .refused) 0 z) (leaves-written outcome _ (recordBytes e) buffer place (rw (ok, four ok, le-ltb (length buffer - place) 4 (omega arith)))))
-        (λ z. rw (ne-eqb (x .refused) 0 z) (leaves-all outcome _ buffer place (rw (is-refused z .1))))
+        (λ z. let ok = accepts z in rw (eq-eqb (x .refused) 0 z) (leaves-written outcome _ (recordBytes e) buffer place (rw (ok, four ok, le-ltb (length buffer - place) 4 (omega arith)))))
+        (λ z. rw (ne-eqb (x .refused) 0 z) (leaves-all outcome _ buffer place (rw (refuses z .1))))
 
     is-short : x .refused ≡ 0 → (same : Option Refusal) → refusal s c ≡ same → refusedBy BufferTooShort ≡ judged same refusedBy (refusedBy BufferTooShort)
-    is-short z same h = rw (sym h ∙ is-accepted z)
+    is-short z same h = rw (sym h ∙ accepts z)
 
     is-own : (x .refused ≡ 0 → ⊥) → (same : Option Refusal) → refusal s c ≡ same → answer ≡ judged same refusedBy (refusedBy BufferTooShort)
     is-own z same h =
-        let y = is-refused z in
+        let y = refuses z in
         q ∙ ap (λ (o : Outcome A). o .answer) (refused-as (y .0) (y .1)) ∙ answer-as (refusedBy (y .0)) ∙ sym (rw (sym h ∙ y .1))
 
   no-place : (answer : A) (buffer : List ℕ) (place : ℕ) {v : Bool} → v ≡ not (ltb (length buffer - place) 4) → not v ≡ true → answer ≡ judged (refusal s c) refusedBy (refusedBy BufferTooShort)
