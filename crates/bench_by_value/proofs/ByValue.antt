@@ -10,6 +10,7 @@ use Rattle.model.proofs.simulation.Accepted.{recover-out}
 use Rattle.whole_runs.specs.Outcomes.{Report, Outcome, checkpointOutcome, checkpointReport, sendOutcome, sendReport, deliverOutcome, deliverReport, loseOutcome, loseReport, recoverOutcome, recoverReport}
 use Rattle.whole_runs.specs.{Calls.answered, Calls.call, Listing.callOf, Listing.perform}
 use Rattle.whole_runs.proofs.Sizes.{few-processes}
+use Rattle.listing.specs.{declared.Summary.Summary, Summarised.reportIn}
 
 -- What is said of a record: the state after it, and whether it is accepted.
 abbrev pub Does : Run → Event → Run → Bool → Type 0
@@ -22,35 +23,35 @@ abbrev lent-line : List ℕ
 lent-line = replicate 16 0
 
 -- The outcome of its call.
-by-outcome : {A : Type 0} (report : A → Report) (o p : Outcome A) → o ≡ p → (run : Run) → run ≡ o .run → (a : A) → a ≡ o .answer → (b : Bool) → b ≡ eqb (report a .refused) 0
-    → (run ≡ answered report p .run) × (b ≡ eqb (answered report p .reply .report .refused) 0)
-unfolding answered
-by-outcome report o p same run r a e b d =
-    (r ∙ ap (λ (x : Outcome _). x .run) same, d ∙ ap (λ x. eqb (report x .refused) 0) (e ∙ ap (λ (x : Outcome _). x .answer) same))
+by-outcome : {A : Type 0} (report : A → Report) (o p : Outcome A) → o ≡ p → (run : Run) → run ≡ o .run → (a : A) → a ≡ o .answer → (x : Summary) → reportIn x ≡ report a
+    → (run ≡ answered report p .run) × (eqb (x .refused) 0 ≡ eqb (answered report p .reply .report .refused) 0)
+unfolding answered reportIn
+by-outcome report o p same run r a e x d =
+    (r ∙ ap (λ (y : Outcome _). y .run) same, ap (λ (y : Report). eqb (y .refused) 0) (d ∙ ap report (e ∙ ap (λ (y : Outcome _). y .answer) same)))
 
-module _ (s : Run) (run : Run) (accepted : Bool) where
+module _ (s : Run) (run : Run) (x : Summary) where
   pub checkpoint-does : (i : ℕ) (l : List ℕ) → l ≡ lent → run ≡ checkpointOutcome s i l .run → (a : CheckpointAnswer) → a ≡ checkpointOutcome s i l .answer
-      → accepted ≡ eqb (checkpointReport a .refused) 0 → Does s (Checkpoint i) run accepted
+      → reportIn x ≡ checkpointReport a → Does s (Checkpoint i) run (eqb (x .refused) 0)
   unfolding perform call callOf
-  checkpoint-does i l same r a e d = by-outcome checkpointReport (checkpointOutcome s i l) (checkpointOutcome s i lent) (ap (checkpointOutcome s i) same) run r a e accepted d
+  checkpoint-does i l same r a e d = by-outcome checkpointReport (checkpointOutcome s i l) (checkpointOutcome s i lent) (ap (checkpointOutcome s i) same) run r a e x d
 
-  pub send-does : (i j : ℕ) → run ≡ sendOutcome s i j .run → (a : SendAnswer) → a ≡ sendOutcome s i j .answer → accepted ≡ eqb (sendReport a .refused) 0 → Does s (Send i j) run accepted
+  pub send-does : (i j : ℕ) → run ≡ sendOutcome s i j .run → (a : SendAnswer) → a ≡ sendOutcome s i j .answer → reportIn x ≡ sendReport a → Does s (Send i j) run (eqb (x .refused) 0)
   unfolding perform call callOf
-  send-does i j r a e d = by-outcome sendReport (sendOutcome s i j) (sendOutcome s i j) refl run r a e accepted d
+  send-does i j r a e d = by-outcome sendReport (sendOutcome s i j) (sendOutcome s i j) refl run r a e x d
 
   pub deliver-does : (m : ℕ) (l : List ℕ) → l ≡ lent → run ≡ deliverOutcome s m l .run → (a : DeliverAnswer) → a ≡ deliverOutcome s m l .answer
-      → accepted ≡ eqb (deliverReport a .refused) 0 → Does s (Deliver m) run accepted
+      → reportIn x ≡ deliverReport a → Does s (Deliver m) run (eqb (x .refused) 0)
   unfolding perform call callOf
-  deliver-does m l same r a e d = by-outcome deliverReport (deliverOutcome s m l) (deliverOutcome s m lent) (ap (deliverOutcome s m) same) run r a e accepted d
+  deliver-does m l same r a e d = by-outcome deliverReport (deliverOutcome s m l) (deliverOutcome s m lent) (ap (deliverOutcome s m) same) run r a e x d
 
-  pub lose-does : (m : ℕ) → run ≡ loseOutcome s m .run → (a : LoseAnswer) → a ≡ loseOutcome s m .answer → accepted ≡ eqb (loseReport a .refused) 0 → Does s (Lose m) run accepted
+  pub lose-does : (m : ℕ) → run ≡ loseOutcome s m .run → (a : LoseAnswer) → a ≡ loseOutcome s m .answer → reportIn x ≡ loseReport a → Does s (Lose m) run (eqb (x .refused) 0)
   unfolding perform call callOf
-  lose-does m r a e d = by-outcome loseReport (loseOutcome s m) (loseOutcome s m) refl run r a e accepted d
+  lose-does m r a e d = by-outcome loseReport (loseOutcome s m) (loseOutcome s m) refl run r a e x d
 
   pub recover-does : (F : ℕ) (l line : List ℕ) → l ≡ lent → line ≡ lent-line → run ≡ recoverOutcome s F l line .run → (a : RecoverAnswer) → a ≡ recoverOutcome s F l line .answer
-      → accepted ≡ eqb (recoverReport a .refused) 0 → Does s (Recover F) run accepted
+      → reportIn x ≡ recoverReport a → Does s (Recover F) run (eqb (x .refused) 0)
   unfolding perform call callOf
-  recover-does F l line same same-line r a e d = by-outcome recoverReport (recoverOutcome s F l line) (recoverOutcome s F lent lent-line) (rw (same, same-line)) run r a e accepted d
+  recover-does F l line same same-line r a e d = by-outcome recoverReport (recoverOutcome s F l line) (recoverOutcome s F lent lent-line) (rw (same, same-line)) run r a e x d
 
 -- "In a record, higher bits of the argument count as bits at n or above": a recovery for them is refused.
 pub set-too-large : (s : Run) (F : ℕ) → 65535 < F → Does s (Recover F) s false

@@ -1,5 +1,5 @@
 // A record on a state by value: the call that it stands for.
-use library_recorder::record::accepted;
+use listing::summaries;
 use model::DELETIONS;
 use model::Event;
 use model::PROCESSES;
@@ -34,7 +34,8 @@ fn recover(s: Run, failed: u32, deleted: &mut [u16], line: &mut [u16]) -> Applie
     let o = library_calls::recover::recover(s, failed as u16, deleted, line);
     let run = o.run;
     let answer = o.answer;
-    let accepted = accepted::recover(answer);
+    let summary = summaries::of_recover(answer);
+    let accepted = summary.refused == 0;
     Applied { run, accepted }
 }
 
@@ -48,28 +49,32 @@ fn event(s: Run, e: Event, deleted: &mut [u16], line: &mut [u16]) -> Applied
             let o = library_calls::checkpoint::checkpoint(s, i, deleted);
             let run = o.run;
             let answer = o.answer;
-            let accepted = accepted::checkpoint(answer);
+            let summary = summaries::of_checkpoint(answer);
+            let accepted = summary.refused == 0;
             Applied { run, accepted }
         }
         Event::Send(i, j) => {
             let o = library_calls::send::send(s, i, j as usize);
             let run = o.run;
             let answer = o.answer;
-            let accepted = accepted::send(answer);
+            let summary = summaries::of_send(answer);
+            let accepted = summary.refused == 0;
             Applied { run, accepted }
         }
         Event::Deliver(m) => {
             let o = library_calls::deliver::deliver(s, m, deleted);
             let run = o.run;
             let answer = o.answer;
-            let accepted = accepted::deliver(answer);
+            let summary = summaries::of_deliver(answer);
+            let accepted = summary.refused == 0;
             Applied { run, accepted }
         }
         Event::Lose(m) => {
             let o = library_calls::lose::lose(s, m);
             let run = o.run;
             let answer = o.answer;
-            let accepted = accepted::lose(answer);
+            let summary = summaries::of_lose(answer);
+            let accepted = summary.refused == 0;
             Applied { run, accepted }
         }
         Event::Recover(failed) => recover(s, failed, deleted, line),

@@ -1,6 +1,6 @@
 // The records of a trace as calls by value, for bench/run to time. They are apart from `bench_in_place`: the calls by value are made of the calls in place, and a
 // function with callers in both is compiled otherwise than it is for either.
-use library_recorder::record::accepted;
+use listing::summaries;
 use model::PROCESSES;
 use model::Run;
 ghost use Rattle.laws.specs.Basics.{_≡_, _&&_, ltb, pick};
@@ -58,8 +58,8 @@ pub extern "C" fn timing_by_value(n: usize, trace: &[u8]) -> u64
 {
     let started = library_calls::start::start(n, [1; PROCESSES]);
     let answer = started.answer;
-    let begun = accepted::start(answer);
-    if !begun {
+    let summary = summaries::of_start(answer);
+    if summary.refused != 0 {
         return 0;
     }
     apply_by_value(started.run, trace)

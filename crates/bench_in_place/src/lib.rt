@@ -1,6 +1,6 @@
 // What bench/in_place links besides the exported calls: the records of a trace as calls in place without the test. Text is left out. The result says how many records were
 // accepted, which the driver compares.
-use library_recorder::record::accepted;
+use listing::summaries;
 use model::DELETIONS;
 use model::PROCESSES;
 ghost use Rattle.laws.specs.Basics.{_≡_, some, length};
@@ -45,8 +45,8 @@ pub extern "C" fn timing_untested(w: &mut [u16], n: usize, trace: &[u8]) -> u64
 {
     let block_counts = [1u32; PROCESSES];
     let answer = in_place::start::start(w, n, &block_counts);
-    let begun = accepted::start(answer);
-    if !begun {
+    let summary = summaries::of_start(answer);
+    if summary.refused != 0 {
         return 0;
     }
     let mut deletions = [0u16; DELETIONS];

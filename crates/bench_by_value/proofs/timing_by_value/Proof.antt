@@ -9,17 +9,17 @@ use Rattle.bench_by_value.proofs.timing_by_value.Tie as tie
 returns : tie.Need-returns
 unfolding startOutcome
 returns c =
-    let n = c .before .before .before .before .args .n in
-    let start = c .before .before .start .ensures in
-    let why = not-begun (startRefusal n ones) (startState n ones) _ (start .1 .0) _ (c .before .start2 .ensures) (c .if1 .taken) in
+    let n = c .before .before .before .before .before .args .n in
+    let start = c .before .before .before .start .ensures in
+    let why = not-begun (startRefusal n ones) (startState n ones) _ (start .1 .0) _ (c .before .before .of-start .ensures) (c .if1 .taken) in
     ap (λ (x : Timed). x .accepted) (none-timed (startRefusal n ones) n _ _ (start .0) (why .0) (why .1))
 
 returns-2 : tie.Need-returns-2
 unfolding startOutcome
 returns-2 c =
-    let n = c .before .before .before .before .before .args .n in
-    let start = c .before .before .before .start .ensures in
-    let fine = begun (startRefusal n ones) (startState n ones) _ (start .1 .0) _ (c .before .before .start2 .ensures) (c .before .if1 .left) in
+    let n = c .before .before .before .before .before .before .args .n in
+    let start = c .before .before .before .before .start .ensures in
+    let fine = begun (startRefusal n ones) (startState n ones) _ (start .1 .0) _ (c .before .before .before .of-start .ensures) (c .before .if1 .left) in
     c .apply-by-value .ensures ∙ ap (λ (x : Timed). x .accepted) (all-timed (startRefusal n ones) n _ _ (start .0) fine)
 
 pub timing-by-value-spec : {M : Type 1} → statement M

@@ -8,9 +8,9 @@ returns c = set-too-large _ _ (c .if1 .taken)
 
 returns-2 : tie.Need-returns-2
 returns-2 c =
-    let s = c .before .before .before .before .before .before .before .before .before .before .before .before in
-    let g = c .before .before .before .before .before .before .recover .ensures in
-    recover-does _ _ _ (s .args .failed) _ _ (s .pre .0) (s .pre .1) (g .0) _ (g .1 .0) (c .recover2 .ensures)
+    let s = c .before .before .before .before .before .before .before .before .before .before .before .before .before in
+    let g = c .before .before .before .before .before .before .before .recover .ensures in
+    recover-does _ _ _ (s .args .failed) _ _ (s .pre .0) (s .pre .1) (g .0) _ (g .1 .0) (c .before .of-recover .ensures)
 
 pub recover-spec : {M : Type 1} → statement M
 recover-spec =
