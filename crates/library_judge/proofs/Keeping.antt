@@ -1,6 +1,6 @@
 -- The invariant of the reading after each kind of record, and the refusals of a record by the tables.
 -- Assumes nothing.
-use Rattle.laws.specs.Basics.{_≡_, refl, sym, _∙_, ap, Bool, true, false, false≢true, List, some, ℕ, zero, suc, _+_, _-_, _≤_, _<_, arith, ltb, leb, length, getD, set, length-set, getD-set-same, getD-set-other, eq-eqb, ne-eqb, lt-ltb, le-ltb, ltb-true, ltb-false, leb-false, pick, by-bool, by-eq}
+use Rattle.laws.specs.Basics.{_≡_, refl, sym, _∙_, ap, fun-ext, Bool, true, false, false≢true, List, some, ℕ, zero, suc, _+_, _-_, _≤_, _<_, arith, ltb, leb, length, getD, set, length-set, getD-set-same, getD-set-other, eq-eqb, ne-eqb, lt-ltb, le-ltb, ltb-true, ltb-false, leb-false, pick, by-bool, by-eq}
 use native.Mathlib.Numerals.{add-one}
 use Rattle.laws.specs.{Counting.count-same, Counting.count-none, Tests.countBelow, Update.upd, Update.upd-same, Update.upd-other}
 use Rattle.model.specs.declared.Event.the-variants.{Checkpoint, Send, Deliver, Lose}
@@ -319,10 +319,7 @@ module _ (n read : ℕ) (t : Pattern) (tr : Trail) (s : Progress) (T : Tables) (
     }
       where
         all-marks : (m : ℕ) → upd (t .underway) (suc (s .last)) true m ≡ isUnderWay (set (T .passing) (s .last) (j + 1)) (s .last + 1) m
-        all-marks m = by-eq m (suc (s .last))
-            (λ c. rw c (upd-same (t .underway) (suc (s .last)) true ∙ sym (upd-same (isUnderWay (T .passing) (s .last)) (suc (s .last)) true) ∙ mark-on (T .passing) (s .last) j (suc (s .last)) (omega (arith, h .marks, low))))
-            (λ ne. upd-other (t .underway) (suc (s .last)) true m ne ∙ h .marked m ∙ sym (upd-other (isUnderWay (T .passing) (s .last)) (suc (s .last)) true m ne)
-            ∙ mark-on (T .passing) (s .last) j m (omega (arith, h .marks, low)))
+        all-marks m = ap (λ (u : ℕ → Bool). upd u (suc (s .last)) true m) (fun-ext (h .marked)) ∙ mark-on (T .passing) (s .last) j m (omega (arith, h .marks, low))
 
   -- A message is no longer under way.
   module _ (y : ℕ) (u : t .underway (suc y) ≡ true) where
@@ -333,13 +330,7 @@ module _ (n read : ℕ) (t : Pattern) (tr : Trail) (s : Progress) (T : Tables) (
     off-counted = omega (arith, h .counted, count-off (suc (t .sends)) (t .underway) (suc y) (omega (arith, low-y, h .sends, h .last)) u)
 
     off-marked : (m : ℕ) → upd (t .underway) (suc y) false m ≡ isUnderWay (set (T .passing) y 0) (s .last) m
-    off-marked m = by-eq m (suc y)
-        (λ c. rw c (upd-same (t .underway) (suc y) false ∙ sym (upd-same (isUnderWay (T .passing) (s .last)) (suc y) false) ∙ mark-off (T .passing) (s .last) y (suc y) low-y size))
-        (λ ne. upd-other (t .underway) (suc y) false m ne ∙ h .marked m ∙ sym (upd-other (isUnderWay (T .passing) (s .last)) (suc y) false m ne)
-        ∙ mark-off (T .passing) (s .last) y m low-y size)
-      where
-        size : s .last ≤ length (T .passing)
-        size = omega (arith, h .marks, h .represented .most-messages)
+    off-marked m = ap (λ (u : ℕ → Bool). upd u (suc y) false m) (fun-ext (h .marked)) ∙ mark-off (T .passing) (s .last) y m low-y (omega (arith, h .marks, h .represented .most-messages))
 
     -- Another message that is still under way has another place.
     other-place : (x : ℕ) → upd (t .underway) (suc y) false (suc x) ≡ true → x ≡ y → ⊥

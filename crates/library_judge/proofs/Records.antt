@@ -41,7 +41,7 @@ module _ (n : ℕ) (s : Progress) (T : Tables) where
   unfolding Reads
   send-reads i j r carried passing from to a b c d f read t tr more h = by-refusal (sendRefusal n s i j)
       (λ e.
-      let w = send-taken n s i j (T .vectors) (T .carried) (T .passing) (T .from) (T .to) (sym e) in
+      let w = send-taken n s i j (T .vectors) (T .carried) (T .passing) (T .from) (T .to) e in
       let free = send-free n s i j e in
       after-taken n read t (some (Send i j)) r _ (withMessage s) (a ∙ sym (w .0)) (send-refusal n read t tr s T h more i j ∙ e) (sending tr (h .right) i)
       (rw (b ∙ sym (w .1), c ∙ sym (w .2), d ∙ sym (w .3), f ∙ sym (w .4)) (kept-send n read t tr s T h more i j (free .0) (free .1) (free .2))))

@@ -18,7 +18,7 @@ use Rattle.theory_patterns.proofs.{Right.is-verdict, Facts.begin, Trail.Trail, 
 use Rattle.library_judge.specs.decision.Represents.{Represents, Judges, Says}
 use Rattle.library_judge.specs.{declared.reading.Progress.Progress, declared.reading.Step.Step, Readings.refusedStep, Readings.takenStep}
 use Rattle.library_judge.specs.Kept.{Tables, Kept, AfterRecord, Reads, Reached, ReadsTo, ReadsAll}
-use Rattle.library_judge.specs.declared.reading.Taking.the-variants as answers
+use Rattle.admissions.specs.declared.Admission.the-variants as answers
 
 -- The event that a match has found is the event of the record.
 module _ (n : ℕ) (s : Progress) (T : Tables) (r : Step) (T' : Tables) where
@@ -98,7 +98,7 @@ module _ (n : ℕ) (trace : List ℕ) (read : ℕ) (left : recordLeft trace read
       w .rest ∙ four rest n (w .pattern) rest-long ∙ ap (λ (o : Option Refusal). judged o refused (readFrom n (taken (w .pattern) (decoded (take 4 rest))) (drop 4 rest))) why-there
 
   pub next-taken : (s : Progress) (T : Tables) (w : Reached n trace read s T) (few : read < 4096) (r : Step) (T' : Tables) (part : List ℕ) → part ≡ recordAfter trace read → Reads n s T (eventIn part) r T'
-      → r .answer ≡ answers.Taken → Reached n trace (read + 1) (r .next) T'
+      → r .answer ≡ answers.Accepted → Reached n trace (read + 1) (r .next) T'
   unfolding Reads AfterRecord
   next-taken s T w few r T' part is reads e =
       let h = rw e at (reads read (w .pattern) (w .trail) few (w .kept)) in
@@ -148,7 +148,7 @@ module _ (n : ℕ) (trace : List ℕ) (r : Step) (T : Tables) where
   unfolding ReadsTo
   all-refused why h e = rw e at h
 
-  pub all-taken : ReadsAll n trace r T → r .answer ≡ answers.Taken → (read : ℕ) × (t : Pattern) × (tr : Trail) × Kept n read t tr (r .next) T × (readFrom n empty (drop 1 trace) ≡ whole t)
+  pub all-taken : ReadsAll n trace r T → r .answer ≡ answers.Accepted → (read : ℕ) × (t : Pattern) × (tr : Trail) × Kept n read t tr (r .next) T × (readFrom n empty (drop 1 trace) ≡ whole t)
   unfolding ReadsTo
   all-taken h e = rw e at h
 
@@ -212,7 +212,7 @@ says-moved : (n k : ℕ) (lists : Lists) (v : Verdict) → n ≡ k → Says n li
 says-moved n k lists v c h = rw c at h
 
 pub right-taken : (trace : List ℕ) (n : ℕ) → n ≡ countOf trace → 1 ≤ length trace → 1 ≤ countOf trace → countOf trace ≤ 16 → (length trace - 1) / 4 ≤ 4096
-    → (r : Step) (T : Tables) (v : Verdict) → ReadsAll n trace r T → r .answer ≡ answers.Taken
+    → (r : Step) (T : Tables) (v : Verdict) → ReadsAll n trace r T → r .answer ≡ answers.Accepted
     → Judges n (r .next .rows) (r .next .last) (T .vectors) (T .process) (T .from) (T .to) v → v ≡ verdict trace
 right-taken trace n c some-byte low high few r T v h e j =
     let w = all-taken n trace r T h e in

@@ -7,10 +7,10 @@ use Rattle.histories.specs.History.{sent, checkpoints}
 use Rattle.theory_patterns.specs.Patterns.{Pattern, empty, countUnderWay, recordRefusal, taken, readFrom, refused, whole, mostJudged}
 use Rattle.theory_patterns.specs.Paths.{eventAt}
 use Rattle.theory_patterns.proofs.Trail.{Trail, Right}
+use Rattle.admissions.specs.declared.{Admission.Admission, Admission.the-variants.Accepted, Admission.the-variants.Refused}
 use Rattle.library_judge.specs.{decision.Rows.entryAt, decision.Rows.tableSize, decision.Rows.mostRows, Readings.isUnderWay}
 use Rattle.library_judge.specs.decision.Represents.{intervalOf, Represents}
-use Rattle.library_judge.specs.declared.{reading.Progress.Progress, reading.Taking.Taking, reading.Step.Step}
-use Rattle.library_judge.specs.declared.reading.Taking.the-variants.{Refused, Taken}
+use Rattle.library_judge.specs.declared.{reading.Progress.Progress, reading.Step.Step}
 
 -- The tables of the reading (src/reading.rt says what each has).
 pub record Tables : Type 0 where
@@ -59,9 +59,9 @@ abbrev pub Ready : ℕ → Progress → Tables → Type 0
 Ready n s T = (read : ℕ) × (t : Pattern) × (tr : Trail) × (read < mostJudged) × Kept n read t tr s T
 
 -- What a record leaves after the pattern t: the refusal that it has there, or the tables of the pattern with it.
-unfoldable pub AfterRecord : ℕ → ℕ → Pattern → Option Event → Taking → Progress → Tables → Type 0
+unfoldable pub AfterRecord : ℕ → ℕ → Pattern → Option Event → Admission → Progress → Tables → Type 0
 AfterRecord n read t e (Refused why) next T = recordRefusal n t e ≡ some why
-AfterRecord n read t e Taken next T = (recordRefusal n t e ≡ none) × ((tr : Trail) × Kept n (suc read) (taken t e) tr next T)
+AfterRecord n read t e Accepted next T = (recordRefusal n t e ≡ none) × ((tr : Trail) × Kept n (suc read) (taken t e) tr next T)
 
 -- The same, whatever pattern the tables held.
 unfoldable pub Reads : ℕ → Progress → Tables → Option Event → Step → Tables → Type 0
@@ -85,9 +85,9 @@ pub record Reached (n : ℕ) (trace : List ℕ) (read : ℕ) (s : Progress) (T :
   pub rest : readFrom n empty (drop 1 trace) ≡ readFrom n pattern (drop (1 + 4 * read) trace)
 
 -- What the reading of all records and of the left-over bytes comes to.
-unfoldable pub ReadsTo : ℕ → List ℕ → Taking → Progress → Tables → Type 0
+unfoldable pub ReadsTo : ℕ → List ℕ → Admission → Progress → Tables → Type 0
 ReadsTo n trace (Refused why) next T = readFrom n empty (drop 1 trace) ≡ refused why
-ReadsTo n trace Taken next T = (read : ℕ) × (t : Pattern) × (tr : Trail) × Kept n read t tr next T × (readFrom n empty (drop 1 trace) ≡ whole t)
+ReadsTo n trace Accepted next T = (read : ℕ) × (t : Pattern) × (tr : Trail) × Kept n read t tr next T × (readFrom n empty (drop 1 trace) ≡ whole t)
 
 abbrev pub ReadsAll : ℕ → List ℕ → Step → Tables → Type 0
 ReadsAll n trace r T = ReadsTo n trace (r .answer) (r .next) T

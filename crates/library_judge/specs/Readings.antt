@@ -6,32 +6,17 @@ use Rattle.model.specs.{declared.Interval.Interval, declared.Refusal.Refusal, S
 use Rattle.model.specs.declared.Refusal.the-variants.{NoSuchProcess, NotUnderWay, IntervalsUsed}
 use Rattle.model.specs.{Words.entry, Words.ones, Words.mostInterval, Words.mostProcesses, Words.mostUnderWay, Words.mostMessages, Refusals.firstOf}
 use Rattle.whole_runs.specs.Outcomes.{judged}
-use Rattle.admissions.specs.declared.Admission.{Admission}
+use Rattle.admissions.specs.declared.{Admission.Admission, Admission.the-variants.Accepted, Admission.the-variants.Refused}
 use Rattle.admissions.specs.Admissions.{refusalOf, sendAdmission}
 use Rattle.admissions.proofs.Cases.{accepted-send}
 use Rattle.library_judge.specs.decision.Rows.{rowOf, putRow, entryAt, put-same, put-other, put-length, tableSize, mostRows}
-use Rattle.library_judge.specs.declared.{reading.Progress.Progress, reading.Taking.Taking, reading.Step.Step, reading.Found.Found}
-use Rattle.library_judge.specs.declared.reading.Taking.the-variants.{Refused, Taken}
-use Rattle.admissions.specs.declared.Admission.the-variants as admission
+use Rattle.library_judge.specs.declared.{reading.Progress.Progress, reading.Step.Step, reading.Found.Found}
 
 unfoldable pub refusedStep : Refusal → Progress → Step
 refusedStep why s = record { answer = Refused why; next = s }
 
 unfoldable pub takenStep : Progress → Step
-takenStep s = record { answer = Taken; next = s }
-
--- The refusal in an answer, if it is one.
-unfoldable pub refusalIn : Taking → Option Refusal
-refusalIn (Refused why) = some why
-refusalIn Taken = none
-
-pub refused-is : (r : Taking) (why : Refusal) (o : Option Refusal) → r ≡ Refused why → refusalIn r ≡ o → some why ≡ o
-unfolding refusalIn
-refused-is r why o e d = ap refusalIn (sym e) ∙ d
-
-pub taken-is : (r : Taking) (o : Option Refusal) → r ≡ Taken → refusalIn r ≡ o → none ≡ o
-unfolding refusalIn
-taken-is r o e d = ap refusalIn (sym e) ∙ d
+takenStep s = record { answer = Accepted; next = s }
 
 -- The step of a record with this refusal, or with none; and a table that only a record with no refusal changes.
 abbrev pub stepBy : Option Refusal → Progress → Progress → Step
@@ -138,24 +123,34 @@ pub send-free : (n : ℕ) (s : Progress) (i j : ℕ) → sendRefusal n s i j ≡
 unfolding sendRefusal
 send-free n s i j e = accepted-send i j n (s .underway) (s .last) (accepted _ e)
   where
-    accepted : (v : Admission) → refusalOf v ≡ none → v ≡ admission.Accepted
-    accepted admission.Accepted d = refl
-    accepted (admission.Refused why) d = unfold refusalOf in absurd (let z : _≡_ {A = ℕ} 0 1 = cc in omega arith)
+    accepted : (v : Admission) → refusalOf v ≡ none → v ≡ Accepted
+    accepted Accepted d = refl
+    accepted (Refused why) d = unfold refusalOf in absurd (let z : _≡_ {A = ℕ} 0 1 = cc in omega arith)
+
+-- What its admission says of it.
+module _ (n : ℕ) (s : Progress) (i j : ℕ) (r : Admission) (is : r ≡ sendAdmission i j n (s .underway) (s .last)) where
+  pub refused-is : (why : Refusal) → r ≡ Refused why → sendRefusal n s i j ≡ some why
+  unfolding sendRefusal refusalOf
+  refused-is why e = ap refusalOf (sym is ∙ e)
+
+  pub taken-is : r ≡ Accepted → sendRefusal n s i j ≡ none
+  unfolding sendRefusal refusalOf
+  taken-is e = ap refusalOf (sym is ∙ e)
 
 module _ (n : ℕ) (s : Progress) (i j : ℕ) (vectors carried passing from to : List ℕ) where
-  pub send-refused : (why : Refusal) → some why ≡ sendRefusal n s i j
+  pub send-refused : (why : Refusal) → sendRefusal n s i j ≡ some why
       → (refusedStep why s ≡ sendStep n s i j) × (carried ≡ sendCarried n s i j vectors carried) × (passing ≡ sendPassing n s i j passing)
       × (from ≡ sendFrom n s i j from) × (to ≡ sendTo n s i j to)
   unfolding sendStep sendCarried sendPassing sendFrom sendTo
-  send-refused why e = let t = sym e in (rw t, rw t, rw t, rw t, rw t)
+  send-refused why e = (rw e, rw e, rw e, rw e, rw e)
 
-  pub send-taken : none ≡ sendRefusal n s i j
+  pub send-taken : sendRefusal n s i j ≡ none
       → (takenStep (withMessage s) ≡ sendStep n s i j)
       × (sentCarried vectors (getD (s .current) i 0) (s .last) carried ≡ sendCarried n s i j vectors carried)
       × (set passing (s .last) (j + 1) ≡ sendPassing n s i j passing)
       × (set from (s .last) (getD (s .current) i 0) ≡ sendFrom n s i j from) × (set to (s .last) 0 ≡ sendTo n s i j to)
   unfolding sendStep sendCarried sendPassing sendFrom sendTo
-  send-taken e = let t = sym e in (rw t, rw t, rw t, rw t, rw t)
+  send-taken e = (rw e, rw e, rw e, rw e, rw e)
 
 -- A message that a record names. None has number 0.
 unfoldable pub isUnderWay : List ℕ → ℕ → ℕ → Bool

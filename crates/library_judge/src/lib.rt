@@ -6,9 +6,9 @@ mod reading;
 // decision.rt: note 7 of document 02: the verdict on a trace that is read to its end, from the tables that the reading left: a row of `vectors` and of `process` for each state
 pub mod decision;
 
+use admissions::Admission;
 use model::PROCESSES;
 use model::Refusal;
-use reading::Taking;
 use theory_patterns::MOST_JUDGED;
 use theory_patterns::Verdict;
 ghost use Rattle.laws.specs.Basics.{_≡_};
@@ -59,8 +59,8 @@ fn judge_with_tables(
     let r = reading::read_all(vectors, process, carried, passing, from, to, trace, n);
     let answer = r.answer;
     match answer {
-        Taking::Refused(why) => Verdict::Refused(why),
-        Taking::Taken => {
+        Admission::Refused(why) => Verdict::Refused(why),
+        Admission::Accepted => {
             let s = r.next;
             let rows = s.rows;
             let last = s.last;

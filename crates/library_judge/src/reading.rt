@@ -12,7 +12,7 @@ ghost use Rattle.model.specs.Words.{mostProcesses, mostUnderWay};
 ghost use Rattle.library_judge.specs.decision.Rows.{rowOf, mostRows, tableSize};
 ghost use Rattle.trace.specs.Answers.{eventIn};
 ghost use Rattle.library_judge.specs.Kept.{tables, Sized, Ready, Reads, ReadsAll};
-ghost use Rattle.library_judge.specs.Readings.{refusedStep, takenStep, refusalIn, withRow, EnoughRoom, checkpointStep, checkpointVectors, checkpointProcess, sendRefusal, withMessage, SendRoom, sentCarried, sendStep, sendCarried, sendPassing, sendFrom, sendTo, foundIn, withoutOne, dropStep, dropPassing, receiptVectors, DeliverRoom, deliverVectors, deliverTo, FirstRows};
+ghost use Rattle.library_judge.specs.Readings.{refusedStep, takenStep, withRow, EnoughRoom, checkpointStep, checkpointVectors, checkpointProcess, withMessage, SendRoom, sentCarried, sendStep, sendCarried, sendPassing, sendFrom, sendTo, foundIn, withoutOne, dropStep, dropPassing, receiptVectors, DeliverRoom, deliverVectors, deliverTo, FirstRows};
 
 // How far the reading is.
 pub struct Progress {
@@ -26,15 +26,9 @@ pub struct Progress {
     pub last: usize,
 }
 
-// Whether a record is refused, and why.
-pub enum Taking {
-    Refused(Refusal),
-    Taken,
-}
-
-// What a record comes to: its answer, and how far the reading is then.
+// What a record comes to: whether it is refused, and why; and how far the reading is then.
 pub struct Step {
-    pub answer: Taking,
+    pub answer: Admission,
     pub next: Progress,
 }
 
@@ -48,14 +42,14 @@ pub struct Found {
 fn refuse(why: Refusal, s: Progress) -> Step
     ensures { λ r. ⌜ r ≡ refusedStep why s ⌝ }
 {
-    let answer = Taking::Refused(why);
+    let answer = Admission::Refused(why);
     Step { answer, next: s }
 }
 
 fn take(s: Progress) -> Step
     ensures { λ r. ⌜ r ≡ takenStep s ⌝ }
 {
-    let answer = Taking::Taken;
+    let answer = Admission::Accepted;
     Step { answer, next: s }
 }
 
@@ -104,18 +98,6 @@ fn read_checkpoint(
     take(more)
 }
 
-// Whether a send is refused, and why.
-fn send_refusal(s: Progress, n: usize, i: usize, receiver: usize) -> Taking
-    requires { ⌜ s .last < mostJudged ⌝ }
-    ensures { λ r. ⌜ refusalIn r ≡ sendRefusal n s i receiver ⌝ }
-{
-    let admission = admissions::send_admission(i, receiver, n, s.underway, s.last as u32);
-    match admission {
-        Admission::Refused(why) => Taking::Refused(why),
-        Admission::Accepted => Taking::Taken,
-    }
-}
-
 // One message more.
 fn with_message(s: Progress) -> Progress
     requires { ⌜ (s .underway ≤ mostUnderWay) × (s .last < mostJudged) ⌝ }
@@ -157,10 +139,10 @@ fn read_send(
     ensures { λ r. ⌜ now (from .exit) ≡ sendFrom n s i receiver (now (from .entry)) ⌝ }
     ensures { λ r. ⌜ now (to .exit) ≡ sendTo n s i receiver (now (to .entry)) ⌝ }
 {
-    let answer = send_refusal(s, n, i, receiver);
+    let answer = admissions::send_admission(i, receiver, n, s.underway, s.last as u32);
     match answer {
-        Taking::Refused(why) => refuse(why, s),
-        Taking::Taken => {
+        Admission::Refused(why) => refuse(why, s),
+        Admission::Accepted => {
             let row = s.current[i] as usize;
             let place = s.last;
             put_carried(vectors, carried, row, place);
@@ -367,10 +349,10 @@ pub(crate) fn read_all(
         let r = read_record(vectors, process, carried, passing, from, to, s, n, part);
         let answer = r.answer;
         match answer {
-            Taking::Refused(why) => {
+            Admission::Refused(why) => {
                 return r;
             }
-            Taking::Taken => {
+            Admission::Accepted => {
                 s = r.next;
                 taken += 1;
             }

@@ -1,6 +1,6 @@
 -- What the functions over the tables ask for, from tables that hold a trail, and the verdict from what they answer.
 -- Assumes nothing.
-use Rattle.laws.specs.Basics.{_≡_, refl, sym, _∙_, Bool, true, false, not, false≢true, List, ℕ, _-_, _≤_, _<_, arith, length, getD, set, replicate, length-set, length-replicate, getD-replicate, getD-set-same, getD-set-other}
+use Rattle.laws.specs.Basics.{_≡_, _∙_, true, false, List, ℕ, _-_, _≤_, _<_, arith, length, getD, set, replicate, length-set, length-replicate, getD-replicate, getD-set-same, getD-set-other}
 use Rattle.histories.specs.History.{checkpoints}
 use Rattle.theory_patterns.specs.Paths.{FirstBreaking}
 use Rattle.theory_patterns.proofs.{Trail.Trail, Trail.Right, Facts.vectors, Facts.sources}
@@ -44,10 +44,10 @@ module _ (n rows last : ℕ) (vs process from to : List ℕ) (t : Trail) (right 
   pub linked : Linked last process from to
   linked = record {
     places = h .places;
-    sends = omega (arith, h .sends, h .most-messages);
-    receipts = omega (arith, h .receipts, h .most-messages);
-    from-row = λ m lm. omega (arith, h .from-row m lm, h .most-rows);
-    to-row = λ m lm. omega (arith, h .to-row m lm, h .most-rows);
+    sends = sized .sends;
+    receipts = sized .receipts;
+    from-row = sized .from-row;
+    to-row = sized .to-row;
     sender = λ m lm. omega (arith, h .owner (getD from m 0) (h .from-row m lm), h .few);
     receiver = λ m lm ne. omega (arith, h .owner (getD to m 0 - 1) (below m lm ne), h .few);
   }
@@ -78,11 +78,3 @@ module _ (n rows last : ℕ) (vs process from to : List ℕ) (t : Trail) (right 
     pub is-breaking : (far : Far) → FarEnd vs reach n (near .process) (near .index) far → FirstBreaking n (t .lists) (near .process) (near .index) (far .process) (far .index)
     is-breaking far fe = says-breaks n (t .lists) (vectors t right) (sources t right) here rows last vs process from to represented near w found row fr
         (startOf (near .process) row) reach (start-at (near .process) row p16) (start-other (near .process) row) cl far fe
-
-pub off : (b : Bool) → not b ≡ true → b ≡ false
-off true e = absurd (false≢true e)
-off false e = refl
-
-pub on : (b : Bool) → not b ≡ false → b ≡ true
-on true e = refl
-on false e = absurd (false≢true (sym e))

@@ -4,7 +4,6 @@ use Rattle.laws.specs.Basics.{arith, needs}
 use Rattle.library_judge.specs.Readings.{found-there, found-none}
 use Rattle.library_judge.proofs.reading.find.Statement.{statement}
 use Rattle.library_judge.proofs.reading.find.Tie as tie
-use Rattle.library_judge.proofs.reading.wide.Reads as wide-reads
 
 returns : tie.Need-returns
 returns c = let a = c .before .before .before .before .before .before .args in found-there (a .passing .now) (a .last) (a .m) _ (c .before .before .before .before .if1 .taken) (c .before .before .before .if2 .taken) (c .before .if3 .taken) (c .wide .ensures)

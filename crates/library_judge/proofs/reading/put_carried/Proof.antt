@@ -5,8 +5,6 @@ use Rattle.model.specs.declared.Interval.{Interval}
 use Rattle.library_judge.specs.{decision.Rows.putRow, Readings.sentCarried}
 use Rattle.library_judge.proofs.reading.put_carried.Statement.{statement}
 use Rattle.library_judge.proofs.reading.put_carried.Tie as tie
-use Rattle.library_judge.proofs.decision.flat.put_row.Reads as put-row-reads
-use Rattle.library_judge.proofs.decision.flat.row_at.Reads as row-at-reads
 
 returns : tie.Need-returns
 unfolding sentCarried

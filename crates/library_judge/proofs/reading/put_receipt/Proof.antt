@@ -4,8 +4,6 @@ use Rattle.laws.specs.Basics.{_∙_, needs}
 use Rattle.library_judge.specs.Readings.{receipt-is}
 use Rattle.library_judge.proofs.reading.put_receipt.Statement.{statement}
 use Rattle.library_judge.proofs.reading.put_receipt.Tie as tie
-use Rattle.library_judge.proofs.decision.flat.put_row.Reads as put-row-reads
-use Rattle.library_judge.proofs.decision.flat.row_at.Reads as row-at-reads
 
 returns : tie.Need-returns
 returns c = c .before .before .put-row .ensures ∙ receipt-is _ _ _ _ _ _ _ (c .before .before .before .before .before .before .row-at .ensures) (c .before .before .before .before .before .row-at2 .ensures) (c .before .before .before .before .greatest .ensures)

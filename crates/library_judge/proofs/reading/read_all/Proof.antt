@@ -7,12 +7,6 @@ use Rattle.library_judge.specs.Kept.{tables, Reached}
 use Rattle.library_judge.proofs.{Keeping.kept-begin, reading.read_all.Statement.statement}
 use Rattle.library_judge.proofs.Together.{left-long, next-refused, next-taken, end-refused, end-whole, begins, refused-to, taken-to}
 use Rattle.library_judge.proofs.reading.read_all.Tie as tie
-use Rattle.library_judge.proofs.reading.first_rows.Reads as first-rows-reads
-use Rattle.library_judge.proofs.reading.read_record.Reads as read-record-reads
-use Rattle.library_judge.proofs.reading.refuse.Reads as refuse-reads
-use Rattle.library_judge.proofs.reading.take.Reads as take-reads
-use Rattle.trace.proofs.reader.record_after.Reads as record-after-reads
-use Rattle.trace.proofs.reader.record_left.Reads as record-left-reads
 
 abbrev Inv-loop : tie.InvT-loop
 Inv-loop vectors₀ process₀ carried₀ passing₀ from₀ to₀ trace n s₀ taken₀ vectors process carried passing from to s taken =

@@ -6,12 +6,6 @@ use Rattle.library_judge.specs.decision.Rows.{putRow}
 use Rattle.library_judge.specs.Readings.{takenStep, checkpoint-absent, checkpoint-full, checkpoint-free, checkpoint-refused, checkpoint-taken}
 use Rattle.library_judge.proofs.reading.read_checkpoint.Statement.{statement}
 use Rattle.library_judge.proofs.reading.read_checkpoint.Tie as tie
-use Rattle.library_judge.proofs.decision.flat.put_row.Reads as put-row-reads
-use Rattle.library_judge.proofs.decision.flat.row_at.Reads as row-at-reads
-use Rattle.library_judge.proofs.reading.refuse.Reads as refuse-reads
-use Rattle.library_judge.proofs.reading.take.Reads as take-reads
-use Rattle.library_judge.proofs.reading.with_row.Reads as with-row-reads
-use Rattle.words.proofs.rows.vector.advanced.Reads as advanced-reads
 
 returns : tie.Need-returns
 returns c = let a = c .before .before .before .before .args in let q = checkpoint-refused (a .n) (a .t3) (a .i) (a .vectors .now) (a .process .now) _ (checkpoint-absent (a .n) (a .t3) (a .i) (a .vectors .now) (c .before .if1 .taken)) in (c .refuse .ensures ∙ q .0, (q .1, q .2))

@@ -5,11 +5,6 @@ use Rattle.library_judge.specs.declared.reading.Found.{Found}
 use Rattle.library_judge.specs.Readings.{takenStep, is-found, drop-none, drop-one, deliver-none, deliver-one}
 use Rattle.library_judge.proofs.reading.read_deliver.Statement.{statement}
 use Rattle.library_judge.proofs.reading.read_deliver.Tie as tie
-use Rattle.library_judge.proofs.reading.find.Reads as find-reads
-use Rattle.library_judge.proofs.reading.put_receipt.Reads as put-receipt-reads
-use Rattle.library_judge.proofs.reading.refuse.Reads as refuse-reads
-use Rattle.library_judge.proofs.reading.take.Reads as take-reads
-use Rattle.library_judge.proofs.reading.without_one.Reads as without-one-reads
 
 returns : tie.Need-returns
 returns c = let a = c .before .before .before .before .before .before .before .before .before .args in let is = c .before .before .before .find .ensures in let q = drop-none (a .t5) _ _ is (a .passing .now) (c .before .if1 .taken) in let d = deliver-none (a .t5) _ _ is (a .vectors .now) (a .carried .now) (a .to .now) (c .before .if1 .taken) in (c .refuse .ensures ∙ q .0, (d .0, (q .1, d .1)))

@@ -5,11 +5,6 @@ use Rattle.library_judge.specs.Kept.{tables}
 use Rattle.library_judge.proofs.{Keeping.enoughRoom, Keeping.send-room, Keeping.deliver-room, Together.by-event, reading.read_event.Statement.statement}
 use Rattle.library_judge.proofs.Records.{checkpoint-reads, send-reads, deliver-reads, lose-reads, recover-reads}
 use Rattle.library_judge.proofs.reading.read_event.Tie as tie
-use Rattle.library_judge.proofs.reading.read_checkpoint.Reads as read-checkpoint-reads
-use Rattle.library_judge.proofs.reading.read_deliver.Reads as read-deliver-reads
-use Rattle.library_judge.proofs.reading.read_lose.Reads as read-lose-reads
-use Rattle.library_judge.proofs.reading.read_send.Reads as read-send-reads
-use Rattle.library_judge.proofs.reading.refuse.Reads as refuse-reads
 
 read-checkpoint-requires : tie.Need-read-checkpoint-requires
 read-checkpoint-requires c κs = let st = c .before .before .before .before .before .before .before .before .before .before .before in let p = st .pre in let h = p .4 in enoughRoom _ _ _ _ _ _ h (p .3)

@@ -4,10 +4,6 @@ use Rattle.laws.specs.Basics.{_∙_, ap, arith, needs}
 use Rattle.library_judge.specs.Readings.{takenStep, place-low, drop-none, drop-one}
 use Rattle.library_judge.proofs.reading.read_lose.Statement.{statement}
 use Rattle.library_judge.proofs.reading.read_lose.Tie as tie
-use Rattle.library_judge.proofs.reading.find.Reads as find-reads
-use Rattle.library_judge.proofs.reading.refuse.Reads as refuse-reads
-use Rattle.library_judge.proofs.reading.take.Reads as take-reads
-use Rattle.library_judge.proofs.reading.without_one.Reads as without-one-reads
 
 returns : tie.Need-returns
 returns c = let a = c .before .before .before .before .before .before .args in let q = drop-none (a .s) _ _ (c .before .before .before .find .ensures) (a .passing .now) (c .before .if1 .taken) in (c .refuse .ensures ∙ q .0, q .1)

@@ -4,9 +4,6 @@ use Rattle.laws.specs.Basics.{needs}
 use Rattle.library_judge.specs.Kept.{tables}
 use Rattle.library_judge.proofs.{Records.malformed-reads, Together.by-malformed, Together.by-decoded, reading.read_record.Statement.statement}
 use Rattle.library_judge.proofs.reading.read_record.Tie as tie
-use Rattle.library_judge.proofs.reading.read_event.Reads as read-event-reads
-use Rattle.library_judge.proofs.reading.refuse.Reads as refuse-reads
-use Rattle.trace.proofs.decode.Reads as decode-reads
 
 returns : tie.Need-returns
 returns c = let a = c .before .before .before .before .before .before .before .before .before .before .before .args in by-malformed _ _ (tables (a .vectors .now) (a .process .now) (a .carried .now) (a .passing .now) (a .from .now) (a .to .now)) _ _ _ _ (c .before .enum-told .given .1) (c .before .before .before .decode .ensures) (malformed-reads _ _ (tables (a .vectors .now) (a .process .now) (a .carried .now) (a .passing .now) (a .from .now) (a .to .now)) _ (c .refuse .ensures))
