@@ -6,7 +6,7 @@ use model::LAST_MESSAGE;
 use model::MESSAGES;
 use model::MOST_BLOCKS;
 use model::Refusal;
-ghost use Rattle.laws.specs.Basics.{_≡_, _||_, _*_, _^_, _≤_, ltb, leb};
+ghost use Rattle.laws.specs.Basics.{_≡_, _||_, _*_, _/_, _^_, _≤_, ltb, leb};
 ghost use Rattle.model.specs.Words.{mostInterval, mostProcesses};
 ghost use Rattle.admissions.specs.Admissions.{pastMost, sendAdmission, recoveryAdmission};
 
@@ -57,14 +57,22 @@ pub fn send_admission(
     Admission::Accepted
 }
 
-// The failed set has a bit at n or above: something is left of it once its lowest n bits are gone.
+// What is left of a set once its lowest p bits are gone.
+pub fn above(set: u32, p: usize) -> u32
+    ensures { λ r. ⌜ r ≡ set / (2 ^ p) ⌝ }
+{
+    let mut left = set;
+    for k in 0..p {
+        left = left / 2;
+    }
+    left
+}
+
+// The failed set has a bit at n or above.
 pub fn is_outside(failed: u32, n: usize) -> bool
     ensures { λ r. ⌜ r ≡ leb (2 ^ n) failed ⌝ }
 {
-    let mut left = failed;
-    for k in 0..n {
-        left = left / 2;
-    }
+    let left = above(failed, n);
     1 <= left
 }
 

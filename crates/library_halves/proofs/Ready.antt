@@ -1,12 +1,13 @@
 -- The records of a half that are left, and which of them is next.
 -- Assumes nothing.
-use Rattle.laws.specs.Basics.{_≡_, refl, _∙_, ap, true, false, List, [], _∷_, none, some, ℕ, suc, _+_, _*_, _/_, _%_, _≤_, _<_, arith, eqb, leb, length, take, drop, length-drop, eq-eqb, ne-eqb, eqb-true, le-leb, leb-true, leb-false, by-bool, by-eq}
+use Rattle.laws.specs.Basics.{_≡_, refl, _∙_, ap, true, false, List, [], _∷_, none, some, ℕ, suc, _+_, _*_, _/_, _%_, _≤_, _<_, arith, eqb, leb, length, take, drop, length-drop, length-take-le, eq-eqb, ne-eqb, eqb-true, le-leb, leb-true, leb-false, by-bool, by-eq}
 use lib.Seq.{drop-drop}
 use Rattle.laws.specs.Truth.{and-left, and-right}
 use Rattle.model.specs.{declared.Fields.Fields, declared.Refusal.the-variants.NeitherReady, Trace.fields, Trace.ifZero}
 use Rattle.theory_merges.specs.Halves.{HalfEvent, checkpointAt, sendTo, messageNumber}
 use Rattle.theory_merges.specs.Merge.{stopped, nextIs, neither, nextOfSecond, nextRecord, isReady, halfEventOf, onNext, takeFrom, fieldsIn}
 use Rattle.trace.specs.Answers.{recordAt, fieldsRead}
+use Rattle.trace.proofs.reader.Fours.{at-least-four, under-four}
 use Rattle.library_halves.specs.declared.record.Judged.{Judged}
 use Rattle.library_halves.specs.Taking.{Judges, messageOf, stepOf, left, readyAt, Steps}
 use Rattle.library_halves.specs.declared.record.Judged.the-variants as judged
@@ -60,26 +61,11 @@ module _ (x : Fields) where
 -- The records left of a half.
 fields-more : (l : List ℕ) → 4 ≤ length l → fieldsIn l ≡ fields (take 4 l) ∷ fieldsIn (drop 4 l)
 unfolding fieldsIn
-fields-more [] h = absurd (omega arith)
-fields-more (a ∷ []) h = absurd (omega arith)
-fields-more (a ∷ b ∷ []) h = absurd (omega arith)
-fields-more (a ∷ b ∷ c ∷ []) h = absurd (omega arith)
-fields-more (a ∷ b ∷ c ∷ d ∷ l) h = refl
+fields-more = at-least-four (λ l. fieldsIn l ≡ fields (take 4 l) ∷ fieldsIn (drop 4 l)) (λ a b c d l. refl)
 
 no-fields : (l : List ℕ) → length l < 4 → fieldsIn l ≡ []
 unfolding fieldsIn
-no-fields [] h = refl
-no-fields (a ∷ []) h = refl
-no-fields (a ∷ b ∷ []) h = refl
-no-fields (a ∷ b ∷ c ∷ []) h = refl
-no-fields (a ∷ b ∷ c ∷ d ∷ l) h = absurd (omega arith)
-
-four-taken : (l : List ℕ) → 4 ≤ length l → length (take 4 l) ≡ 4
-four-taken [] h = absurd (omega arith)
-four-taken (a ∷ []) h = absurd (omega arith)
-four-taken (a ∷ b ∷ []) h = absurd (omega arith)
-four-taken (a ∷ b ∷ c ∷ []) h = absurd (omega arith)
-four-taken (a ∷ b ∷ c ∷ d ∷ l) h = refl
+no-fields = under-four (λ l. fieldsIn l ≡ []) refl (λ a. refl) (λ a b. refl) (λ a b c. refl)
 
 module _ (half : List ℕ) (a : ℕ) where
   pub room : length (recordAt half (1 + 4 * a)) ≡ 4 → 1 + 4 * a + 4 ≤ length half
@@ -102,7 +88,7 @@ module _ (half : List ℕ) (a : ℕ) where
   unfolding recordAt left
   left-none h =
       by-bool (leb (1 + 4 * a + 4) (length half))
-      (λ e. absurd (h (rw e (four-taken (drop (1 + 4 * a) half) (omega (arith, leb-true (1 + 4 * a + 4) (length half) e, length-drop (1 + 4 * a) half))))))
+      (λ e. absurd (h (rw e (length-take-le 4 (drop (1 + 4 * a) half) (omega (arith, leb-true (1 + 4 * a + 4) (length half) e, length-drop (1 + 4 * a) half))))))
       (λ e. no-fields (drop (1 + 4 * a) half) (omega (arith, leb-false (1 + 4 * a + 4) (length half) e, length-drop (1 + 4 * a) half)))
 
   module _ (l : List HalfEvent) where

@@ -1,7 +1,7 @@
 // Whether a record of a half is taken: 14, 4, 5 and 23, in this order. `side` is true where the first half is meant, false for the second.
 use crate::log;
 use model::Refusal;
-ghost use Rattle.laws.specs.Basics.{_≡_, List, some, _⊎_, ℕ, _*_, _/_, _^_, _≤_, length};
+ghost use Rattle.laws.specs.Basics.{_≡_, List, some, _⊎_, ℕ, _*_, _≤_, length};
 ghost use Rattle.model.specs.{Trace.fields, Trace.ifZero, Words.mostProcesses};
 ghost use Rattle.theory_merges.specs.{Halves.HalfEvent, Halves.sendTo, Halves.checkpointAt, Merge.inHalf, Merge.halfEventOf, Merge.mostOfHalf};
 ghost use Rattle.library_halves.specs.{Log.Logged, Taking.Judges, Taking.messageOf};
@@ -15,24 +15,11 @@ pub enum Judged {
     Taken(u32),
 }
 
-// What is left of a set after its first p processes.
-fn above(set: u32, p: usize) -> u32
-    ensures { λ r. ⌜ r ≡ set / (2 ^ p) ⌝ }
-{
-    let mut rest = set;
-    let mut i = 0;
-    while i < p {
-        rest = rest / 2;
-        i += 1;
-    }
-    rest
-}
-
 // Whether process p belongs to the half that is meant, the first or the second.
 fn in_half(set: u32, side: bool, p: usize) -> bool
     ensures { λ r. ⌜ r ≡ inHalf set side p ⌝ }
 {
-    let bit = above(set, p) % 2;
+    let bit = admissions::above(set, p) % 2;
     if side { bit == 1 } else { bit != 1 }
 }
 

@@ -11,39 +11,24 @@ use Rattle.trace.specs.Answers.{recordAt}
 use Rattle.trace.specs.declared.reader.Reader.{Reader}
 use Rattle.trace.specs.reader.Reading.{recordAfter, recordLeft, takenAfter, newReader, readerAfter}
 use Rattle.trace.specs.reader.Whole.{handedOn, advancedBy, parts, leftOver, joined, linesOfParts, stateAfterParts, Partition, ReadsWhole, RecordByRecord}
+use Rattle.trace.proofs.reader.Fours.{at-least-four, under-four}
 
 -- Bytes of a record or more, and fewer.
 parts-more : (l : List ℕ) → 4 ≤ length l → parts l ≡ take 4 l ∷ parts (drop 4 l)
 unfolding parts
-parts-more [] h = absurd (omega arith)
-parts-more (a ∷ []) h = absurd (omega arith)
-parts-more (a ∷ b ∷ []) h = absurd (omega arith)
-parts-more (a ∷ b ∷ c ∷ []) h = absurd (omega arith)
-parts-more (a ∷ b ∷ c ∷ d ∷ l) h = refl
+parts-more = at-least-four (λ l. parts l ≡ take 4 l ∷ parts (drop 4 l)) (λ a b c d l. refl)
 
 left-more : (l : List ℕ) → 4 ≤ length l → leftOver l ≡ leftOver (drop 4 l)
 unfolding leftOver
-left-more [] h = absurd (omega arith)
-left-more (a ∷ []) h = absurd (omega arith)
-left-more (a ∷ b ∷ []) h = absurd (omega arith)
-left-more (a ∷ b ∷ c ∷ []) h = absurd (omega arith)
-left-more (a ∷ b ∷ c ∷ d ∷ l) h = refl
+left-more = at-least-four (λ l. leftOver l ≡ leftOver (drop 4 l)) (λ a b c d l. refl)
 
 no-parts : (l : List ℕ) → length l < 4 → parts l ≡ []
 unfolding parts
-no-parts [] h = refl
-no-parts (a ∷ []) h = refl
-no-parts (a ∷ b ∷ []) h = refl
-no-parts (a ∷ b ∷ c ∷ []) h = refl
-no-parts (a ∷ b ∷ c ∷ d ∷ l) h = absurd (omega arith)
+no-parts = under-four (λ l. parts l ≡ []) refl (λ a. refl) (λ a b. refl) (λ a b c. refl)
 
 all-left : (l : List ℕ) → length l < 4 → leftOver l ≡ l
 unfolding leftOver
-all-left [] h = refl
-all-left (a ∷ []) h = refl
-all-left (a ∷ b ∷ []) h = refl
-all-left (a ∷ b ∷ c ∷ []) h = refl
-all-left (a ∷ b ∷ c ∷ d ∷ l) h = absurd (omega arith)
+all-left = under-four (λ l. leftOver l ≡ l) refl (λ a. refl) (λ a b. refl) (λ a b c. refl)
 
 -- The parts and the left-over bytes are the bytes.
 nothing-lost : (l : List ℕ) → joined (parts l) ++ leftOver l ≡ l
