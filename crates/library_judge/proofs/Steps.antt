@@ -69,9 +69,6 @@ module _ (n : ℕ) (lists : Lists) (vector vector' : ℕ → ℕ → ℕ → ℕ
       (new-e : (f : ℕ) → f < 16 → entryAt vs' rows f ≡ vector' i (suc (checkpoints (lists i))) f)
       (self : vector' i (suc (checkpoints (lists i))) i ≡ suc (checkpoints (lists i)))
       (old-v : (p k f : ℕ) → k ≤ checkpoints (lists p) → vector' p k f ≡ vector p k f) where
-    lists' : Lists
-    lists' = added lists i stored
-
     old-i : (r : ℕ) → r < rows → intervalOf vs' process' r ≡ intervalOf vs process r
     old-i r lr = ap (λ (q : ℕ). entryAt vs' r q) (old-p r lr) ∙ old-e r (getD process r 0) lr (omega (arith, h .owner r lr, h .few))
 

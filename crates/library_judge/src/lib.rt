@@ -3,7 +3,7 @@
 // reading.rt: a trace is read into the tables
 mod reading;
 
-// decision.rt: note 7 of document 02: the verdict on a trace that is read to its end, from the tables that the reading left: a row of `vectors` and of `process` for each state
+// decision.rt: the verdict on a trace that is read to its end, from the tables that the reading left
 pub mod decision;
 
 use admissions::Admission;
