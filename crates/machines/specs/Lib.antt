@@ -1,4 +1,5 @@
 pub mod Forms
 pub mod Machines
 pub mod Packed
+pub mod Called
 pub mod programs
