@@ -3,8 +3,5 @@ pub mod Consoles
 pub mod Merging
 pub mod Recording
 pub mod Starting
-pub mod Stepped
 pub mod Unsound
 pub mod Verdicts
-pub mod RecordStepped
-pub mod ConsoleStepped

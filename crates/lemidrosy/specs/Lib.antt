@@ -1,6 +1,3 @@
 pub mod Console
 pub mod Programs
 pub mod Recording
-pub mod Stepping
-pub mod RecordSteps
-pub mod ConsoleSteps
