@@ -1,4 +1,5 @@
 -- Laws that belong to no one function.
+pub mod Changing
 pub mod Consoles
 pub mod Merging
 pub mod Recording

@@ -31,6 +31,11 @@ pub record LeavesAt {A : Type 0} (r : Placed A) (outcome : Outcome A) (bytes lis
   pub buffer : bytes ≡ r .buffer
   pub places : list ≡ r .places
 
+-- What it leaves without a place, and at one.
+pub record ByPlace {A : Type 0} (r : Placed A) (none : Outcome A) (made : ℕ → Recorded A) (buffer l : List ℕ) : Type 0 where
+  pub without : length l ≡ 0 → LeavesAt r none buffer l
+  pub placed : (length l ≡ 0 → ⊥) → LeavesAt r (made (getD l 0 0) .outcome) (made (getD l 0 0) .buffer) (set l 0 (made (getD l 0 0) .place))
+
 module _ {A : Type 0} where
   leaves-at : (r : Placed A) (outcome : Outcome A) (bytes list : List ℕ) → r ≡ record { outcome = outcome; buffer = bytes; places = list } → LeavesAt r outcome bytes list
   leaves-at r outcome bytes list e = record {
@@ -55,83 +60,40 @@ module _ {A : Type 0} where
     is-some [] e = absurd (e refl)
     is-some (p ∷ l) e = refl
 
-    leaves-none : (l : List ℕ) → length l ≡ 0 → LeavesAt (atPlace none made buffer l) none buffer l
-    leaves-none l e = leaves-at _ none buffer l (is-none l e)
+    by-place : (l : List ℕ) → ByPlace (atPlace none made buffer l) none made buffer l
+    by-place l = record { without = λ e. leaves-at _ none buffer l (is-none l e); placed = λ e. leaves-at _ _ _ _ (is-some l e) }
 
-    leaves-some : (l : List ℕ) → (length l ≡ 0 → ⊥) → LeavesAt (atPlace none made buffer l) (made (getD l 0 0) .outcome) (made (getD l 0 0) .buffer) (set l 0 (made (getD l 0 0) .place))
-    leaves-some l e = leaves-at _ _ _ _ (is-some l e)
+pub start-by : (w : List ℕ) (n : ℕ) (blockCounts buffer l : List ℕ) → ByPlace (startAt w n blockCounts buffer l) (unplaced (start-answer.Refused ListTooShort) (runOf w) [] []) (recordedStartIn (length w) n blockCounts buffer) buffer l
+unfolding startAt
+start-by w n blockCounts buffer l = by-place _ _ buffer l
 
-module _ (w : List ℕ) (n : ℕ) (blockCounts buffer l : List ℕ) where
-  pub start-none : length l ≡ 0 → LeavesAt (startAt w n blockCounts buffer l) (unplaced (start-answer.Refused ListTooShort) (runOf w) [] []) buffer l
-  unfolding startAt
-  start-none e = leaves-none _ _ buffer l e
+pub checkpoint-by : (s : Run) (i : ℕ) (deleted buffer l : List ℕ) → ByPlace (checkpointAt s i deleted buffer l) (unplaced (checkpoint-answer.Refused ListTooShort) s deleted []) (recordedCheckpoint s i deleted buffer) buffer l
+unfolding checkpointAt
+checkpoint-by s i deleted buffer l = by-place _ _ buffer l
 
-  pub start-some : (length l ≡ 0 → ⊥) → LeavesAt (startAt w n blockCounts buffer l) (recordedStartIn (length w) n blockCounts buffer (getD l 0 0) .outcome) (recordedStartIn (length w) n blockCounts buffer (getD l 0 0) .buffer) (set l 0 (recordedStartIn (length w) n blockCounts buffer (getD l 0 0) .place))
-  unfolding startAt
-  start-some e = leaves-some _ (recordedStartIn (length w) n blockCounts buffer) buffer l e
+pub send-by : (s : Run) (i j : ℕ) (buffer l : List ℕ) → ByPlace (sendAt s i j buffer l) (unplaced (send-answer.Refused ListTooShort) s [] []) (recordedSend s i j buffer) buffer l
+unfolding sendAt
+send-by s i j buffer l = by-place _ _ buffer l
 
-module _ (s : Run) (i : ℕ) (deleted buffer l : List ℕ) where
-  pub checkpoint-none : length l ≡ 0 → LeavesAt (checkpointAt s i deleted buffer l) (unplaced (checkpoint-answer.Refused ListTooShort) s deleted []) buffer l
-  unfolding checkpointAt
-  checkpoint-none e = leaves-none _ _ buffer l e
+pub deliver-by : (s : Run) (m : ℕ) (deleted buffer l : List ℕ) → ByPlace (deliverAt s m deleted buffer l) (unplaced (deliver-answer.Refused ListTooShort) s deleted []) (recordedDeliver s m deleted buffer) buffer l
+unfolding deliverAt
+deliver-by s m deleted buffer l = by-place _ _ buffer l
 
-  pub checkpoint-some : (length l ≡ 0 → ⊥) → LeavesAt (checkpointAt s i deleted buffer l) (recordedCheckpoint s i deleted buffer (getD l 0 0) .outcome) (recordedCheckpoint s i deleted buffer (getD l 0 0) .buffer) (set l 0 (recordedCheckpoint s i deleted buffer (getD l 0 0) .place))
-  unfolding checkpointAt
-  checkpoint-some e = leaves-some _ (recordedCheckpoint s i deleted buffer) buffer l e
+pub lose-by : (s : Run) (m : ℕ) (buffer l : List ℕ) → ByPlace (loseAt s m buffer l) (unplaced (lose-answer.Refused ListTooShort) s [] []) (recordedLose s m buffer) buffer l
+unfolding loseAt
+lose-by s m buffer l = by-place _ _ buffer l
 
-module _ (s : Run) (i j : ℕ) (buffer l : List ℕ) where
-  pub send-none : length l ≡ 0 → LeavesAt (sendAt s i j buffer l) (unplaced (send-answer.Refused ListTooShort) s [] []) buffer l
-  unfolding sendAt
-  send-none e = leaves-none _ _ buffer l e
+pub line-by : (s : Run) (F : ℕ) (line buffer l : List ℕ) → ByPlace (lineAt s F line buffer l) (unplaced (line-answer.Refused ListTooShort) s [] line) (recordedLine s F line buffer) buffer l
+unfolding lineAt
+line-by s F line buffer l = by-place _ _ buffer l
 
-  pub send-some : (length l ≡ 0 → ⊥) → LeavesAt (sendAt s i j buffer l) (recordedSend s i j buffer (getD l 0 0) .outcome) (recordedSend s i j buffer (getD l 0 0) .buffer) (set l 0 (recordedSend s i j buffer (getD l 0 0) .place))
-  unfolding sendAt
-  send-some e = leaves-some _ (recordedSend s i j buffer) buffer l e
+pub recover-by : (s : Run) (F : ℕ) (deleted line buffer l : List ℕ) → ByPlace (recoverAt s F deleted line buffer l) (unplaced (recover-answer.Refused ListTooShort) s deleted line) (recordedRecover s F deleted line buffer) buffer l
+unfolding recoverAt
+recover-by s F deleted line buffer l = by-place _ _ buffer l
 
-module _ (s : Run) (m : ℕ) (deleted buffer l : List ℕ) where
-  pub deliver-none : length l ≡ 0 → LeavesAt (deliverAt s m deleted buffer l) (unplaced (deliver-answer.Refused ListTooShort) s deleted []) buffer l
-  unfolding deliverAt
-  deliver-none e = leaves-none _ _ buffer l e
-
-  pub deliver-some : (length l ≡ 0 → ⊥) → LeavesAt (deliverAt s m deleted buffer l) (recordedDeliver s m deleted buffer (getD l 0 0) .outcome) (recordedDeliver s m deleted buffer (getD l 0 0) .buffer) (set l 0 (recordedDeliver s m deleted buffer (getD l 0 0) .place))
-  unfolding deliverAt
-  deliver-some e = leaves-some _ (recordedDeliver s m deleted buffer) buffer l e
-
-module _ (s : Run) (m : ℕ) (buffer l : List ℕ) where
-  pub lose-none : length l ≡ 0 → LeavesAt (loseAt s m buffer l) (unplaced (lose-answer.Refused ListTooShort) s [] []) buffer l
-  unfolding loseAt
-  lose-none e = leaves-none _ _ buffer l e
-
-  pub lose-some : (length l ≡ 0 → ⊥) → LeavesAt (loseAt s m buffer l) (recordedLose s m buffer (getD l 0 0) .outcome) (recordedLose s m buffer (getD l 0 0) .buffer) (set l 0 (recordedLose s m buffer (getD l 0 0) .place))
-  unfolding loseAt
-  lose-some e = leaves-some _ (recordedLose s m buffer) buffer l e
-
-module _ (s : Run) (F : ℕ) (line buffer l : List ℕ) where
-  pub line-none : length l ≡ 0 → LeavesAt (lineAt s F line buffer l) (unplaced (line-answer.Refused ListTooShort) s [] line) buffer l
-  unfolding lineAt
-  line-none e = leaves-none _ _ buffer l e
-
-  pub line-some : (length l ≡ 0 → ⊥) → LeavesAt (lineAt s F line buffer l) (recordedLine s F line buffer (getD l 0 0) .outcome) (recordedLine s F line buffer (getD l 0 0) .buffer) (set l 0 (recordedLine s F line buffer (getD l 0 0) .place))
-  unfolding lineAt
-  line-some e = leaves-some _ (recordedLine s F line buffer) buffer l e
-
-module _ (s : Run) (F : ℕ) (deleted line buffer l : List ℕ) where
-  pub recover-none : length l ≡ 0 → LeavesAt (recoverAt s F deleted line buffer l) (unplaced (recover-answer.Refused ListTooShort) s deleted line) buffer l
-  unfolding recoverAt
-  recover-none e = leaves-none _ _ buffer l e
-
-  pub recover-some : (length l ≡ 0 → ⊥) → LeavesAt (recoverAt s F deleted line buffer l) (recordedRecover s F deleted line buffer (getD l 0 0) .outcome) (recordedRecover s F deleted line buffer (getD l 0 0) .buffer) (set l 0 (recordedRecover s F deleted line buffer (getD l 0 0) .place))
-  unfolding recoverAt
-  recover-some e = leaves-some _ (recordedRecover s F deleted line buffer) buffer l e
-
-module _ (s : Run) (x : List Named) (line buffer l : List ℕ) where
-  pub earliest-none : length l ≡ 0 → LeavesAt (earliestAt s x line buffer l) (unplaced (line-answer.Refused ListTooShort) s [] line) buffer l
-  unfolding earliestAt
-  earliest-none e = leaves-none _ _ buffer l e
-
-  pub earliest-some : (length l ≡ 0 → ⊥) → LeavesAt (earliestAt s x line buffer l) (recordedEarliest s x line buffer (getD l 0 0) .outcome) (recordedEarliest s x line buffer (getD l 0 0) .buffer) (set l 0 (recordedEarliest s x line buffer (getD l 0 0) .place))
-  unfolding earliestAt
-  earliest-some e = leaves-some _ (recordedEarliest s x line buffer) buffer l e
+pub earliest-by : (s : Run) (x : List Named) (line buffer l : List ℕ) → ByPlace (earliestAt s x line buffer l) (unplaced (line-answer.Refused ListTooShort) s [] line) (recordedEarliest s x line buffer) buffer l
+unfolding earliestAt
+earliest-by s x line buffer l = by-place _ _ buffer l
 
 module _ (w : List ℕ) (n : ℕ) (blockCounts buffer : List ℕ) where
   pub words-none : (l : List ℕ) → length l ≡ 0 → w ≡ startWordsAt w n blockCounts buffer l

@@ -1,3 +1,4 @@
+pub mod Changes
 pub mod Console
 pub mod Programs
 pub mod Recording

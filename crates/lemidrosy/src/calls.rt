@@ -1,14 +1,15 @@
 // The calls in place: each works on the 6,464 words that the caller lends, which hold a state (`words`, specs/Layout). Words that stand for no sound state are refused
 // with number 2. A refused call leaves every word and every entry of its lists as it was; a refused start makes the words zero.
 ghost use Rattle.laws.specs.Basics.{_≡_, length};
-ghost use Rattle.model.specs.{declared.Refusal.Refusal, declared.StartAnswer.the-variants.Started, Sound.sound};
+ghost use Rattle.model.specs.{declared.StartAnswer.the-variants.Started, Sound.sound};
 ghost use Rattle.whole_runs.specs.Outcomes.{checkpointOutcome, sendOutcome, deliverOutcome, loseOutcome, lineOutcome, recoverOutcome};
 ghost use Rattle.whole_runs.specs.{WholeRuns.LinePromise, WholeRuns.StartPromise, WholeRuns.StatePromise, WholeRuns.EarliestPromise, Earliest.earliestOutcome};
 ghost use Rattle.whole_runs.specs.{Clean.CleanPromise, Sweep.EmptyLinePromise, Sweep.SweepPromise};
 ghost use Rattle.listing.specs.answers.Codes.{startCode, checkpointCode, sendCode, deliverCode, loseCode, lineCode, recoverCode};
 ghost use Rattle.words.specs.{Clean.Clean, Layout.runOf, Layout.stateSize};
 ghost use Rattle.words_line.specs.Through.{namedIn};
-ghost use Rattle.in_place.specs.{Left.Leaves, Starting.startOutcomeIn, Starting.startWords};
+ghost use Rattle.in_place.specs.Starting.{startOutcomeIn, startWords};
+ghost use Rattle.lemidrosy.specs.Changes.{Changes};
 ghost use Rattle.model.specs.declared.CheckpointAnswer.the-variants as storing;
 ghost use Rattle.model.specs.declared.SendAnswer.the-variants as sending;
 ghost use Rattle.model.specs.declared.DeliverAnswer.the-variants as delivering;
@@ -27,11 +28,11 @@ pub extern "C" fn lemidrosy_is_sound(words: &[u16]) -> bool
 // A run of n processes with the block count of each begins in the words.
 #[no_mangle]
 pub extern "C" fn lemidrosy_start(words: &mut [u16], n: usize, block_counts: &[u32]) -> u64
-    ensures { λ r. ⌜ r ≡ startCode (startOutcomeIn (length (now (words .entry))) n (now («block_counts» .entry)) .answer) ⌝ }
-    ensures { λ r. ⌜ runOf (now (words .exit)) ≡ startOutcomeIn (length (now (words .entry))) n (now («block_counts» .entry)) .run ⌝ }
+    ensures { λ r. let o = startOutcomeIn (length (now (words .entry))) n (now («block_counts» .entry)) in
+        ⌜ (r ≡ startCode (o .answer)) × (runOf (now (words .exit)) ≡ o .run)
+        × (o .answer ≡ Started → StartPromise n (now («block_counts» .entry)) (runOf (now (words .exit)))) ⌝ }
     ensures { λ r. ⌜ now (words .exit) ≡ startWords (now (words .entry)) n (now («block_counts» .entry)) ⌝ }
     ensures { λ r. ⌜ (length (now (words .entry)) ≡ stateSize → Clean (now (words .exit))) ⌝ }
-    ensures { λ r. ⌜ (startOutcomeIn (length (now (words .entry))) n (now («block_counts» .entry)) .answer ≡ Started → StartPromise n (now («block_counts» .entry)) (runOf (now (words .exit)))) ⌝ }
 {
     let answer = in_place::start::start(words, n, block_counts);
     listing::answers::of_start(answer)
@@ -44,11 +45,8 @@ pub extern "C" fn lemidrosy_checkpoint(
     process: usize,
     deleted: &mut [u16],
 ) -> u64
-    ensures { λ r. ⌜ r ≡ checkpointCode (checkpointOutcome (runOf (now (words .entry))) process (now (deleted .entry)) .answer) ⌝ }
-    ensures { λ r. ⌜ runOf (now (words .exit)) ≡ checkpointOutcome (runOf (now (words .entry))) process (now (deleted .entry)) .run ⌝ }
-    ensures { λ r. ⌜ now (deleted .exit) ≡ checkpointOutcome (runOf (now (words .entry))) process (now (deleted .entry)) .deleted ⌝ }
-    ensures { λ r. ⌜ ((why : Refusal) → checkpointOutcome (runOf (now (words .entry))) process (now (deleted .entry)) .answer ≡ storing.Refused why → now (words .exit) ≡ now (words .entry)) ⌝ }
-    ensures { λ r. ⌜ Leaves (now (words .entry)) (now (words .exit)) ⌝ }
+    ensures { λ r. let o = checkpointOutcome (runOf (now (words .entry))) process (now (deleted .entry)) in
+        ⌜ (r ≡ checkpointCode (o .answer)) × (now (deleted .exit) ≡ o .deleted) × Changes storing.Refused o (now (words .entry)) (now (words .exit)) ⌝ }
     ensures { λ r. ⌜ StatePromise (runOf (now (words .entry))) (made.checkpoint process (now (deleted .entry))) (runOf (now (words .exit))) ⌝ }
 {
     let answer = in_place::checkpoint::checkpoint(words, process, deleted);
@@ -58,10 +56,8 @@ pub extern "C" fn lemidrosy_checkpoint(
 // A process sends a message to another. The value is the message's number.
 #[no_mangle]
 pub extern "C" fn lemidrosy_send(words: &mut [u16], sender: usize, receiver: usize) -> u64
-    ensures { λ r. ⌜ r ≡ sendCode (sendOutcome (runOf (now (words .entry))) sender receiver .answer) ⌝ }
-    ensures { λ r. ⌜ runOf (now (words .exit)) ≡ sendOutcome (runOf (now (words .entry))) sender receiver .run ⌝ }
-    ensures { λ r. ⌜ ((why : Refusal) → sendOutcome (runOf (now (words .entry))) sender receiver .answer ≡ sending.Refused why → now (words .exit) ≡ now (words .entry)) ⌝ }
-    ensures { λ r. ⌜ Leaves (now (words .entry)) (now (words .exit)) ⌝ }
+    ensures { λ r. let o = sendOutcome (runOf (now (words .entry))) sender receiver in
+        ⌜ (r ≡ sendCode (o .answer)) × Changes sending.Refused o (now (words .entry)) (now (words .exit)) ⌝ }
     ensures { λ r. ⌜ StatePromise (runOf (now (words .entry))) (made.send sender receiver) (runOf (now (words .exit))) ⌝ }
 {
     let answer = in_place::send::send(words, sender, receiver);
@@ -72,11 +68,9 @@ pub extern "C" fn lemidrosy_send(words: &mut [u16], sender: usize, receiver: usi
 // pairs of a process and an index. The set has the entries of the receiver's vector that rose.
 #[no_mangle]
 pub extern "C" fn lemidrosy_deliver(words: &mut [u16], message: u32, deleted: &mut [u16]) -> u64
-    ensures { λ r. ⌜ r ≡ deliverCode (deliverOutcome (runOf (now (words .entry))) message (now (deleted .entry)) .answer) (deliverOutcome (runOf (now (words .entry))) message (now (deleted .entry)) .rose) ⌝ }
-    ensures { λ r. ⌜ runOf (now (words .exit)) ≡ deliverOutcome (runOf (now (words .entry))) message (now (deleted .entry)) .run ⌝ }
-    ensures { λ r. ⌜ now (deleted .exit) ≡ deliverOutcome (runOf (now (words .entry))) message (now (deleted .entry)) .deleted ⌝ }
-    ensures { λ r. ⌜ ((why : Refusal) → deliverOutcome (runOf (now (words .entry))) message (now (deleted .entry)) .answer ≡ delivering.Refused why → now (words .exit) ≡ now (words .entry)) ⌝ }
-    ensures { λ r. ⌜ Leaves (now (words .entry)) (now (words .exit)) ⌝ }
+    ensures { λ r. let o = deliverOutcome (runOf (now (words .entry))) message (now (deleted .entry)) in
+        ⌜ (r ≡ deliverCode (o .answer) (o .rose)) × (now (deleted .exit) ≡ o .deleted)
+        × Changes delivering.Refused o (now (words .entry)) (now (words .exit)) ⌝ }
     ensures { λ r. ⌜ StatePromise (runOf (now (words .entry))) (made.deliver message (now (deleted .entry))) (runOf (now (words .exit))) ⌝ }
 {
     let delivered = in_place::deliver::deliver(words, message, deleted);
@@ -87,10 +81,8 @@ pub extern "C" fn lemidrosy_deliver(words: &mut [u16], message: u32, deleted: &m
 // A message is lost.
 #[no_mangle]
 pub extern "C" fn lemidrosy_lose(words: &mut [u16], message: u32) -> u64
-    ensures { λ r. ⌜ r ≡ loseCode (loseOutcome (runOf (now (words .entry))) message .answer) ⌝ }
-    ensures { λ r. ⌜ runOf (now (words .exit)) ≡ loseOutcome (runOf (now (words .entry))) message .run ⌝ }
-    ensures { λ r. ⌜ ((why : Refusal) → loseOutcome (runOf (now (words .entry))) message .answer ≡ losing.Refused why → now (words .exit) ≡ now (words .entry)) ⌝ }
-    ensures { λ r. ⌜ Leaves (now (words .entry)) (now (words .exit)) ⌝ }
+    ensures { λ r. let o = loseOutcome (runOf (now (words .entry))) message in
+        ⌜ (r ≡ loseCode (o .answer)) × Changes losing.Refused o (now (words .entry)) (now (words .exit)) ⌝ }
     ensures { λ r. ⌜ StatePromise (runOf (now (words .entry))) (made.lose message) (runOf (now (words .exit))) ⌝ }
 {
     let answer = in_place::lose::lose(words, message);
@@ -100,10 +92,10 @@ pub extern "C" fn lemidrosy_lose(words: &mut [u16], message: u32) -> u64
 // The line for a failed set, bit p of which stands for process p: its n indexes go to the front of the lent list. An empty set is a sweep's.
 #[no_mangle]
 pub extern "C" fn lemidrosy_line(words: &[u16], failed: u32, line: &mut [u16]) -> u64
-    ensures { λ r. ⌜ r ≡ lineCode (lineOutcome (runOf (now (words .entry))) failed (now (line .entry)) .answer) ⌝ }
-    ensures { λ r. ⌜ now (line .exit) ≡ lineOutcome (runOf (now (words .entry))) failed (now (line .entry)) .line ⌝ }
+    ensures { λ r. let o = lineOutcome (runOf (now (words .entry))) failed (now (line .entry)) in
+        ⌜ (r ≡ lineCode (o .answer)) × (now (line .exit) ≡ o .line)
+        × EmptyLinePromise (runOf (now (words .entry))) failed (now (line .entry)) (o .answer) (now (line .exit)) ⌝ }
     ensures { λ r. ⌜ LinePromise (runOf (now (words .entry))) failed ⌝ }
-    ensures { λ r. ⌜ EmptyLinePromise (runOf (now (words .entry))) failed (now (line .entry)) (lineOutcome (runOf (now (words .entry))) failed (now (line .entry)) .answer) (now (line .exit)) ⌝ }
 {
     let answer = in_place::line::line(words, failed, line);
     listing::answers::of_line(answer)
@@ -118,16 +110,13 @@ pub extern "C" fn lemidrosy_recover(
     deleted: &mut [u16],
     line: &mut [u16],
 ) -> u64
-    ensures { λ r. ⌜ r ≡ recoverCode (recoverOutcome (runOf (now (words .entry))) failed (now (deleted .entry)) (now (line .entry)) .answer) ⌝ }
-    ensures { λ r. ⌜ runOf (now (words .exit)) ≡ recoverOutcome (runOf (now (words .entry))) failed (now (deleted .entry)) (now (line .entry)) .run ⌝ }
-    ensures { λ r. ⌜ now (deleted .exit) ≡ recoverOutcome (runOf (now (words .entry))) failed (now (deleted .entry)) (now (line .entry)) .deleted ⌝ }
-    ensures { λ r. ⌜ now (line .exit) ≡ recoverOutcome (runOf (now (words .entry))) failed (now (deleted .entry)) (now (line .entry)) .line ⌝ }
-    ensures { λ r. ⌜ ((why : Refusal) → recoverOutcome (runOf (now (words .entry))) failed (now (deleted .entry)) (now (line .entry)) .answer ≡ recovering.Refused why → now (words .exit) ≡ now (words .entry)) ⌝ }
-    ensures { λ r. ⌜ Leaves (now (words .entry)) (now (words .exit)) ⌝ }
+    ensures { λ r. let o = recoverOutcome (runOf (now (words .entry))) failed (now (deleted .entry)) (now (line .entry)) in
+        ⌜ (r ≡ recoverCode (o .answer)) × (now (deleted .exit) ≡ o .deleted) × (now (line .exit) ≡ o .line)
+        × Changes recovering.Refused o (now (words .entry)) (now (words .exit))
+        × SweepPromise (runOf (now (words .entry))) failed (now (deleted .entry)) (now (line .entry)) (o .answer) (now (line .exit)) (runOf (now (words .exit))) ⌝ }
     ensures { λ r. ⌜ LinePromise (runOf (now (words .entry))) failed ⌝ }
     ensures { λ r. ⌜ StatePromise (runOf (now (words .entry))) (made.recover failed (now (deleted .entry)) (now (line .entry))) (runOf (now (words .exit))) ⌝ }
     ensures { λ r. ⌜ CleanPromise (runOf (now (words .entry))) failed (now (deleted .entry)) (now (line .entry)) (runOf (now (words .exit))) ⌝ }
-    ensures { λ r. ⌜ SweepPromise (runOf (now (words .entry))) failed (now (deleted .entry)) (now (line .entry)) (recoverOutcome (runOf (now (words .entry))) failed (now (deleted .entry)) (now (line .entry)) .answer) (now (line .exit)) (runOf (now (words .exit))) ⌝ }
 {
     let answer = in_place_recover::recover(words, failed, deleted, line);
     listing::answers::of_recover(answer)
@@ -136,8 +125,8 @@ pub extern "C" fn lemidrosy_recover(
 // The earliest consistent line through the named checkpoints, pairs of a process and an index: its n indexes go to the front of the lent list.
 #[no_mangle]
 pub extern "C" fn lemidrosy_earliest(words: &[u16], named: &[u32], line: &mut [u16]) -> u64
-    ensures { λ r. ⌜ r ≡ lineCode (earliestOutcome (runOf (now (words .entry))) (namedIn (now (named .entry))) (now (line .entry)) .answer) ⌝ }
-    ensures { λ r. ⌜ now (line .exit) ≡ earliestOutcome (runOf (now (words .entry))) (namedIn (now (named .entry))) (now (line .entry)) .line ⌝ }
+    ensures { λ r. let o = earliestOutcome (runOf (now (words .entry))) (namedIn (now (named .entry))) (now (line .entry)) in
+        ⌜ (r ≡ lineCode (o .answer)) × (now (line .exit) ≡ o .line) ⌝ }
     ensures { λ r. ⌜ EarliestPromise (runOf (now (words .entry))) (namedIn (now (named .entry))) (now (line .entry)) ⌝ }
 {
     let answer = in_place::through::earliest(words, named, line);

@@ -4,14 +4,12 @@
 // number other than 25 makes the words zero.
 use theory_roles::ListAnswer;
 ghost use Rattle.laws.specs.Basics.{_≡_, length};
-ghost use Rattle.model.specs.declared.Refusal.{Refusal};
 ghost use Rattle.listing.specs.answers.Codes.{Fits, startCode, checkpointCode, sendCode, deliverCode, loseCode, lineCode, recoverCode};
 ghost use Rattle.words.specs.{Clean.Clean, Layout.runOf, Layout.stateSize};
 ghost use Rattle.words_line.specs.Through.{namedIn};
-ghost use Rattle.in_place.specs.Left.{Leaves};
 ghost use Rattle.theory_roles.specs.Console.{listReport};
 ghost use Rattle.library_console.specs.Asked.{startAs, startWordsAs, checkpointAs, sendAs, deliverAs, loseAs, recoverAs, lineAs, earliestAs, listAs, countsAs};
-ghost use Rattle.lemidrosy.specs.Console.{listCode};
+ghost use Rattle.lemidrosy.specs.{Changes.Changes, Console.listCode};
 ghost use Rattle.model.specs.declared.CheckpointAnswer.the-variants as storing;
 ghost use Rattle.model.specs.declared.SendAnswer.the-variants as sending;
 ghost use Rattle.model.specs.declared.DeliverAnswer.the-variants as delivering;
@@ -38,8 +36,8 @@ pub extern "C" fn lemidrosy_console_start(
     n: usize,
     block_counts: &[u32],
 ) -> u64
-    ensures { λ r. ⌜ r ≡ startCode (startAs role owned (now (words .entry)) n (now («block_counts» .entry)) .answer) ⌝ }
-    ensures { λ r. ⌜ runOf (now (words .exit)) ≡ startAs role owned (now (words .entry)) n (now («block_counts» .entry)) .run ⌝ }
+    ensures { λ r. let o = startAs role owned (now (words .entry)) n (now («block_counts» .entry)) in
+        ⌜ (r ≡ startCode (o .answer)) × (runOf (now (words .exit)) ≡ o .run) ⌝ }
     ensures { λ r. ⌜ now (words .exit) ≡ startWordsAs role owned (now (words .entry)) n (now («block_counts» .entry)) ⌝ }
     ensures { λ r. ⌜ (length (now (words .entry)) ≡ stateSize → Clean (now (words .entry)) → Clean (now (words .exit))) ⌝ }
 {
@@ -56,11 +54,8 @@ pub extern "C" fn lemidrosy_console_checkpoint(
     process: usize,
     deleted: &mut [u16],
 ) -> u64
-    ensures { λ r. ⌜ r ≡ checkpointCode (checkpointAs role owned (runOf (now (words .entry))) process (now (deleted .entry)) .answer) ⌝ }
-    ensures { λ r. ⌜ runOf (now (words .exit)) ≡ checkpointAs role owned (runOf (now (words .entry))) process (now (deleted .entry)) .run ⌝ }
-    ensures { λ r. ⌜ now (deleted .exit) ≡ checkpointAs role owned (runOf (now (words .entry))) process (now (deleted .entry)) .deleted ⌝ }
-    ensures { λ r. ⌜ ((why : Refusal) → checkpointAs role owned (runOf (now (words .entry))) process (now (deleted .entry)) .answer ≡ storing.Refused why → now (words .exit) ≡ now (words .entry)) ⌝ }
-    ensures { λ r. ⌜ Leaves (now (words .entry)) (now (words .exit)) ⌝ }
+    ensures { λ r. let o = checkpointAs role owned (runOf (now (words .entry))) process (now (deleted .entry)) in
+        ⌜ (r ≡ checkpointCode (o .answer)) × (now (deleted .exit) ≡ o .deleted) × Changes storing.Refused o (now (words .entry)) (now (words .exit)) ⌝ }
 {
     let answer = library_console::calls::checkpoint(role, owned, words, process, deleted);
     listing::answers::of_checkpoint(answer)
@@ -75,10 +70,8 @@ pub extern "C" fn lemidrosy_console_send(
     sender: usize,
     receiver: usize,
 ) -> u64
-    ensures { λ r. ⌜ r ≡ sendCode (sendAs role owned (runOf (now (words .entry))) sender receiver .answer) ⌝ }
-    ensures { λ r. ⌜ runOf (now (words .exit)) ≡ sendAs role owned (runOf (now (words .entry))) sender receiver .run ⌝ }
-    ensures { λ r. ⌜ ((why : Refusal) → sendAs role owned (runOf (now (words .entry))) sender receiver .answer ≡ sending.Refused why → now (words .exit) ≡ now (words .entry)) ⌝ }
-    ensures { λ r. ⌜ Leaves (now (words .entry)) (now (words .exit)) ⌝ }
+    ensures { λ r. let o = sendAs role owned (runOf (now (words .entry))) sender receiver in
+        ⌜ (r ≡ sendCode (o .answer)) × Changes sending.Refused o (now (words .entry)) (now (words .exit)) ⌝ }
 {
     let answer = library_console::calls::send(role, owned, words, sender, receiver);
     listing::answers::of_send(answer)
@@ -93,11 +86,9 @@ pub extern "C" fn lemidrosy_console_deliver(
     message: u32,
     deleted: &mut [u16],
 ) -> u64
-    ensures { λ r. ⌜ r ≡ deliverCode (deliverAs role owned (runOf (now (words .entry))) message (now (deleted .entry)) .answer) (deliverAs role owned (runOf (now (words .entry))) message (now (deleted .entry)) .rose) ⌝ }
-    ensures { λ r. ⌜ runOf (now (words .exit)) ≡ deliverAs role owned (runOf (now (words .entry))) message (now (deleted .entry)) .run ⌝ }
-    ensures { λ r. ⌜ now (deleted .exit) ≡ deliverAs role owned (runOf (now (words .entry))) message (now (deleted .entry)) .deleted ⌝ }
-    ensures { λ r. ⌜ ((why : Refusal) → deliverAs role owned (runOf (now (words .entry))) message (now (deleted .entry)) .answer ≡ delivering.Refused why → now (words .exit) ≡ now (words .entry)) ⌝ }
-    ensures { λ r. ⌜ Leaves (now (words .entry)) (now (words .exit)) ⌝ }
+    ensures { λ r. let o = deliverAs role owned (runOf (now (words .entry))) message (now (deleted .entry)) in
+        ⌜ (r ≡ deliverCode (o .answer) (o .rose)) × (now (deleted .exit) ≡ o .deleted)
+        × Changes delivering.Refused o (now (words .entry)) (now (words .exit)) ⌝ }
 {
     let delivered = library_console::calls::deliver(role, owned, words, message, deleted);
     let answer = delivered.answer;
@@ -112,10 +103,8 @@ pub extern "C" fn lemidrosy_console_lose(
     words: &mut [u16],
     message: u32,
 ) -> u64
-    ensures { λ r. ⌜ r ≡ loseCode (loseAs role owned (runOf (now (words .entry))) message .answer) ⌝ }
-    ensures { λ r. ⌜ runOf (now (words .exit)) ≡ loseAs role owned (runOf (now (words .entry))) message .run ⌝ }
-    ensures { λ r. ⌜ ((why : Refusal) → loseAs role owned (runOf (now (words .entry))) message .answer ≡ losing.Refused why → now (words .exit) ≡ now (words .entry)) ⌝ }
-    ensures { λ r. ⌜ Leaves (now (words .entry)) (now (words .exit)) ⌝ }
+    ensures { λ r. let o = loseAs role owned (runOf (now (words .entry))) message in
+        ⌜ (r ≡ loseCode (o .answer)) × Changes losing.Refused o (now (words .entry)) (now (words .exit)) ⌝ }
 {
     let answer = library_console::calls::lose(role, owned, words, message);
     listing::answers::of_lose(answer)
@@ -130,8 +119,8 @@ pub extern "C" fn lemidrosy_console_line(
     failed: u32,
     line: &mut [u16],
 ) -> u64
-    ensures { λ r. ⌜ r ≡ lineCode (lineAs role owned (runOf (now (words .entry))) failed (now (line .entry)) .answer) ⌝ }
-    ensures { λ r. ⌜ now (line .exit) ≡ lineAs role owned (runOf (now (words .entry))) failed (now (line .entry)) .line ⌝ }
+    ensures { λ r. let o = lineAs role owned (runOf (now (words .entry))) failed (now (line .entry)) in
+        ⌜ (r ≡ lineCode (o .answer)) × (now (line .exit) ≡ o .line) ⌝ }
 {
     let answer = library_console::shown::line(role, owned, words, failed, line);
     listing::answers::of_line(answer)
@@ -147,12 +136,9 @@ pub extern "C" fn lemidrosy_console_recover(
     deleted: &mut [u16],
     line: &mut [u16],
 ) -> u64
-    ensures { λ r. ⌜ r ≡ recoverCode (recoverAs role owned (runOf (now (words .entry))) failed (now (deleted .entry)) (now (line .entry)) .answer) ⌝ }
-    ensures { λ r. ⌜ runOf (now (words .exit)) ≡ recoverAs role owned (runOf (now (words .entry))) failed (now (deleted .entry)) (now (line .entry)) .run ⌝ }
-    ensures { λ r. ⌜ now (deleted .exit) ≡ recoverAs role owned (runOf (now (words .entry))) failed (now (deleted .entry)) (now (line .entry)) .deleted ⌝ }
-    ensures { λ r. ⌜ now (line .exit) ≡ recoverAs role owned (runOf (now (words .entry))) failed (now (deleted .entry)) (now (line .entry)) .line ⌝ }
-    ensures { λ r. ⌜ ((why : Refusal) → recoverAs role owned (runOf (now (words .entry))) failed (now (deleted .entry)) (now (line .entry)) .answer ≡ recovering.Refused why → now (words .exit) ≡ now (words .entry)) ⌝ }
-    ensures { λ r. ⌜ Leaves (now (words .entry)) (now (words .exit)) ⌝ }
+    ensures { λ r. let o = recoverAs role owned (runOf (now (words .entry))) failed (now (deleted .entry)) (now (line .entry)) in
+        ⌜ (r ≡ recoverCode (o .answer)) × (now (deleted .exit) ≡ o .deleted) × (now (line .exit) ≡ o .line)
+        × Changes recovering.Refused o (now (words .entry)) (now (words .exit)) ⌝ }
 {
     let answer = library_console::calls::recover(role, owned, words, failed, deleted, line);
     listing::answers::of_recover(answer)
@@ -167,8 +153,8 @@ pub extern "C" fn lemidrosy_console_earliest(
     named: &[u32],
     line: &mut [u16],
 ) -> u64
-    ensures { λ r. ⌜ r ≡ lineCode (earliestAs role owned (runOf (now (words .entry))) (namedIn (now (named .entry))) (now (line .entry)) .answer) ⌝ }
-    ensures { λ r. ⌜ now (line .exit) ≡ earliestAs role owned (runOf (now (words .entry))) (namedIn (now (named .entry))) (now (line .entry)) .line ⌝ }
+    ensures { λ r. let o = earliestAs role owned (runOf (now (words .entry))) (namedIn (now (named .entry))) (now (line .entry)) in
+        ⌜ (r ≡ lineCode (o .answer)) × (now (line .exit) ≡ o .line) ⌝ }
 {
     let answer = library_console::calls::earliest(role, owned, words, named, line);
     listing::answers::of_line(answer)
@@ -182,8 +168,8 @@ pub extern "C" fn lemidrosy_console_list(
     words: &[u16],
     deleted: &mut [u16],
 ) -> u64
-    ensures { λ r. ⌜ r ≡ listCode (listAs role owned (runOf (now (words .entry))) (now (deleted .entry)) .answer) ⌝ }
-    ensures { λ r. ⌜ now (deleted .exit) ≡ listAs role owned (runOf (now (words .entry))) (now (deleted .entry)) .deleted ⌝ }
+    ensures { λ r. let o = listAs role owned (runOf (now (words .entry))) (now (deleted .entry)) in
+        ⌜ (r ≡ listCode (o .answer)) × (now (deleted .exit) ≡ o .deleted) ⌝ }
 {
     let answer = library_console::list::list(role, owned, words, deleted);
     of_list(answer)
@@ -197,8 +183,8 @@ pub extern "C" fn lemidrosy_console_counts(
     words: &[u16],
     line: &mut [u16],
 ) -> u64
-    ensures { λ r. ⌜ r ≡ lineCode (countsAs role owned (runOf (now (words .entry))) (now (line .entry)) .answer) ⌝ }
-    ensures { λ r. ⌜ now (line .exit) ≡ countsAs role owned (runOf (now (words .entry))) (now (line .entry)) .line ⌝ }
+    ensures { λ r. let o = countsAs role owned (runOf (now (words .entry))) (now (line .entry)) in
+        ⌜ (r ≡ lineCode (o .answer)) × (now (line .exit) ≡ o .line) ⌝ }
 {
     let answer = library_console::shown::counts(role, owned, words, line);
     listing::answers::of_line(answer)

@@ -15,8 +15,7 @@ pub extern "C" fn lemidrosy_numbers(words: &[u16], numbers: &mut [u64]) -> u64
     ensures { λ r. ⌜ r ≡ coded (numbersReading (runOf (now (words .entry))) (now (numbers .entry)) .report) 0 ⌝ }
     ensures { λ r. ⌜ now (numbers .exit) ≡ numbersReading (runOf (now (words .entry))) (now (numbers .entry)) .list ⌝ }
 {
-    let sound = words_sound::is_sound(words);
-    if !sound {
+    if !words_sound::is_sound(words) {
         return UNSOUND;
     }
     library_readers::numbers_on(words, numbers)
@@ -28,8 +27,7 @@ pub extern "C" fn lemidrosy_vector(words: &[u16], process: usize, vector: &mut [
     ensures { λ r. ⌜ r ≡ coded (vectorReading (runOf (now (words .entry))) process (now (vector .entry)) .report) 0 ⌝ }
     ensures { λ r. ⌜ now (vector .exit) ≡ vectorReading (runOf (now (words .entry))) process (now (vector .entry)) .list ⌝ }
 {
-    let sound = words_sound::is_sound(words);
-    if !sound {
+    if !words_sound::is_sound(words) {
         return UNSOUND;
     }
     library_readers::vector_on(words, process, vector)
@@ -41,8 +39,7 @@ pub extern "C" fn lemidrosy_pins(words: &[u16], process: usize, pins: &mut [u16]
     ensures { λ r. ⌜ r ≡ coded (pinsReading (runOf (now (words .entry))) process (now (pins .entry)) .report) 0 ⌝ }
     ensures { λ r. ⌜ now (pins .exit) ≡ pinsReading (runOf (now (words .entry))) process (now (pins .entry)) .list ⌝ }
 {
-    let sound = words_sound::is_sound(words);
-    if !sound {
+    if !words_sound::is_sound(words) {
         return UNSOUND;
     }
     library_readers::pins_on(words, process, pins)
@@ -55,8 +52,7 @@ pub extern "C" fn lemidrosy_kept(words: &[u16], process: usize, kept: &mut [u32]
     ensures { λ r. ⌜ r ≡ coded (keptReading (runOf (now (words .entry))) process (now (kept .entry)) .report) 0 ⌝ }
     ensures { λ r. ⌜ now (kept .exit) ≡ keptReading (runOf (now (words .entry))) process (now (kept .entry)) .list ⌝ }
 {
-    let sound = words_sound::is_sound(words);
-    if !sound {
+    if !words_sound::is_sound(words) {
         return UNSOUND;
     }
     library_readers::kept_on(words, process, kept)
@@ -69,8 +65,7 @@ pub extern "C" fn lemidrosy_messages(words: &[u16], messages: &mut [u32]) -> u64
     ensures { λ r. ⌜ r ≡ coded (messagesReading (runOf (now (words .entry))) (now (messages .entry)) .report) 0 ⌝ }
     ensures { λ r. ⌜ now (messages .exit) ≡ messagesReading (runOf (now (words .entry))) (now (messages .entry)) .list ⌝ }
 {
-    let sound = words_sound::is_sound(words);
-    if !sound {
+    if !words_sound::is_sound(words) {
         return UNSOUND;
     }
     library_readers::messages_on(words, messages)
@@ -82,8 +77,7 @@ pub extern "C" fn lemidrosy_carried(words: &[u16], message: u32, vector: &mut [u
     ensures { λ r. ⌜ r ≡ coded (carriedReading (runOf (now (words .entry))) message (now (vector .entry)) .report) 0 ⌝ }
     ensures { λ r. ⌜ now (vector .exit) ≡ carriedReading (runOf (now (words .entry))) message (now (vector .entry)) .list ⌝ }
 {
-    let sound = words_sound::is_sound(words);
-    if !sound {
+    if !words_sound::is_sound(words) {
         return UNSOUND;
     }
     library_readers::carried_on(words, message, vector)
@@ -96,8 +90,7 @@ pub extern "C" fn lemidrosy_lost(words: &[u16], failed: u32, messages: &mut [u32
     ensures { λ r. ⌜ r ≡ coded (lostReading (runOf (now (words .entry))) failed (now (messages .entry)) .report) 0 ⌝ }
     ensures { λ r. ⌜ now (messages .exit) ≡ lostReading (runOf (now (words .entry))) failed (now (messages .entry)) .list ⌝ }
 {
-    let sound = words_sound::is_sound(words);
-    if !sound {
+    if !words_sound::is_sound(words) {
         return UNSOUND;
     }
     library_readers::lost::lost_on(words, failed, messages)

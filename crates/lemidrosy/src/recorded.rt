@@ -3,11 +3,10 @@
 // record has no room after the place, and with 3, before any other number, one that is lent no place. A refused call leaves every word, entry and byte and the place as they
 // were; a start with a place that is refused makes the words zero. What a replay of the buffer gives is the theorem of `library_recorder`, specs/Recorded.
 ghost use Rattle.laws.specs.Basics.{_≡_, _≤_, length};
-ghost use Rattle.model.specs.declared.Refusal.{Refusal};
 ghost use Rattle.listing.specs.answers.Codes.{startCode, checkpointCode, sendCode, deliverCode, loseCode, lineCode, recoverCode};
 ghost use Rattle.words.specs.{Clean.Clean, Layout.runOf, Layout.stateSize};
 ghost use Rattle.words_line.specs.Through.{namedIn};
-ghost use Rattle.in_place.specs.Left.{Leaves};
+ghost use Rattle.lemidrosy.specs.Changes.{Changes};
 ghost use Rattle.lemidrosy.specs.Recording.{startAt, startWordsAt, checkpointAt, sendAt, deliverAt, loseAt, lineAt, recoverAt, earliestAt};
 ghost use Rattle.model.specs.declared.CheckpointAnswer.the-variants as storing;
 ghost use Rattle.model.specs.declared.SendAnswer.the-variants as sending;
@@ -27,10 +26,8 @@ pub extern "C" fn lemidrosy_record_start(
     buffer: &mut [u8],
     place: &mut [u64],
 ) -> u64
-    ensures { λ r. ⌜ r ≡ startCode (startAt (now (words .entry)) n (now («block_counts» .entry)) (now (buffer .entry)) (now (place .entry)) .outcome .answer) ⌝ }
-    ensures { λ r. ⌜ runOf (now (words .exit)) ≡ startAt (now (words .entry)) n (now («block_counts» .entry)) (now (buffer .entry)) (now (place .entry)) .outcome .run ⌝ }
-    ensures { λ r. ⌜ now (buffer .exit) ≡ startAt (now (words .entry)) n (now («block_counts» .entry)) (now (buffer .entry)) (now (place .entry)) .buffer ⌝ }
-    ensures { λ r. ⌜ now (place .exit) ≡ startAt (now (words .entry)) n (now («block_counts» .entry)) (now (buffer .entry)) (now (place .entry)) .places ⌝ }
+    ensures { λ r. let o = startAt (now (words .entry)) n (now («block_counts» .entry)) (now (buffer .entry)) (now (place .entry)) in
+        ⌜ (r ≡ startCode (o .outcome .answer)) × (runOf (now (words .exit)) ≡ o .outcome .run) × (now (buffer .exit) ≡ o .buffer) × (now (place .exit) ≡ o .places) ⌝ }
     ensures { λ r. ⌜ now (words .exit) ≡ startWordsAt (now (words .entry)) n (now («block_counts» .entry)) (now (buffer .entry)) (now (place .entry)) ⌝ }
     ensures { λ r. ⌜ (length (now (words .entry)) ≡ stateSize → 1 ≤ length (now (place .entry)) → Clean (now (words .exit))) ⌝ }
 {
@@ -53,13 +50,9 @@ pub extern "C" fn lemidrosy_record_checkpoint(
     buffer: &mut [u8],
     place: &mut [u64],
 ) -> u64
-    ensures { λ r. ⌜ r ≡ checkpointCode (checkpointAt (runOf (now (words .entry))) process (now (deleted .entry)) (now (buffer .entry)) (now (place .entry)) .outcome .answer) ⌝ }
-    ensures { λ r. ⌜ runOf (now (words .exit)) ≡ checkpointAt (runOf (now (words .entry))) process (now (deleted .entry)) (now (buffer .entry)) (now (place .entry)) .outcome .run ⌝ }
-    ensures { λ r. ⌜ now (deleted .exit) ≡ checkpointAt (runOf (now (words .entry))) process (now (deleted .entry)) (now (buffer .entry)) (now (place .entry)) .outcome .deleted ⌝ }
-    ensures { λ r. ⌜ now (buffer .exit) ≡ checkpointAt (runOf (now (words .entry))) process (now (deleted .entry)) (now (buffer .entry)) (now (place .entry)) .buffer ⌝ }
-    ensures { λ r. ⌜ now (place .exit) ≡ checkpointAt (runOf (now (words .entry))) process (now (deleted .entry)) (now (buffer .entry)) (now (place .entry)) .places ⌝ }
-    ensures { λ r. ⌜ ((why : Refusal) → checkpointAt (runOf (now (words .entry))) process (now (deleted .entry)) (now (buffer .entry)) (now (place .entry)) .outcome .answer ≡ storing.Refused why → now (words .exit) ≡ now (words .entry)) ⌝ }
-    ensures { λ r. ⌜ Leaves (now (words .entry)) (now (words .exit)) ⌝ }
+    ensures { λ r. let o = checkpointAt (runOf (now (words .entry))) process (now (deleted .entry)) (now (buffer .entry)) (now (place .entry)) in
+        ⌜ (r ≡ checkpointCode (o .outcome .answer)) × (now (deleted .exit) ≡ o .outcome .deleted) × (now (buffer .exit) ≡ o .buffer) × (now (place .exit) ≡ o .places)
+        × Changes storing.Refused (o .outcome) (now (words .entry)) (now (words .exit)) ⌝ }
 {
     if place.len() == 0 {
         return NO_PLACE;
@@ -80,12 +73,9 @@ pub extern "C" fn lemidrosy_record_send(
     buffer: &mut [u8],
     place: &mut [u64],
 ) -> u64
-    ensures { λ r. ⌜ r ≡ sendCode (sendAt (runOf (now (words .entry))) sender receiver (now (buffer .entry)) (now (place .entry)) .outcome .answer) ⌝ }
-    ensures { λ r. ⌜ runOf (now (words .exit)) ≡ sendAt (runOf (now (words .entry))) sender receiver (now (buffer .entry)) (now (place .entry)) .outcome .run ⌝ }
-    ensures { λ r. ⌜ now (buffer .exit) ≡ sendAt (runOf (now (words .entry))) sender receiver (now (buffer .entry)) (now (place .entry)) .buffer ⌝ }
-    ensures { λ r. ⌜ now (place .exit) ≡ sendAt (runOf (now (words .entry))) sender receiver (now (buffer .entry)) (now (place .entry)) .places ⌝ }
-    ensures { λ r. ⌜ ((why : Refusal) → sendAt (runOf (now (words .entry))) sender receiver (now (buffer .entry)) (now (place .entry)) .outcome .answer ≡ sending.Refused why → now (words .exit) ≡ now (words .entry)) ⌝ }
-    ensures { λ r. ⌜ Leaves (now (words .entry)) (now (words .exit)) ⌝ }
+    ensures { λ r. let o = sendAt (runOf (now (words .entry))) sender receiver (now (buffer .entry)) (now (place .entry)) in
+        ⌜ (r ≡ sendCode (o .outcome .answer)) × (now (buffer .exit) ≡ o .buffer) × (now (place .exit) ≡ o .places)
+        × Changes sending.Refused (o .outcome) (now (words .entry)) (now (words .exit)) ⌝ }
 {
     if place.len() == 0 {
         return NO_PLACE;
@@ -106,13 +96,10 @@ pub extern "C" fn lemidrosy_record_deliver(
     buffer: &mut [u8],
     place: &mut [u64],
 ) -> u64
-    ensures { λ r. ⌜ r ≡ deliverCode (deliverAt (runOf (now (words .entry))) message (now (deleted .entry)) (now (buffer .entry)) (now (place .entry)) .outcome .answer) (deliverAt (runOf (now (words .entry))) message (now (deleted .entry)) (now (buffer .entry)) (now (place .entry)) .outcome .rose) ⌝ }
-    ensures { λ r. ⌜ runOf (now (words .exit)) ≡ deliverAt (runOf (now (words .entry))) message (now (deleted .entry)) (now (buffer .entry)) (now (place .entry)) .outcome .run ⌝ }
-    ensures { λ r. ⌜ now (deleted .exit) ≡ deliverAt (runOf (now (words .entry))) message (now (deleted .entry)) (now (buffer .entry)) (now (place .entry)) .outcome .deleted ⌝ }
-    ensures { λ r. ⌜ now (buffer .exit) ≡ deliverAt (runOf (now (words .entry))) message (now (deleted .entry)) (now (buffer .entry)) (now (place .entry)) .buffer ⌝ }
-    ensures { λ r. ⌜ now (place .exit) ≡ deliverAt (runOf (now (words .entry))) message (now (deleted .entry)) (now (buffer .entry)) (now (place .entry)) .places ⌝ }
-    ensures { λ r. ⌜ ((why : Refusal) → deliverAt (runOf (now (words .entry))) message (now (deleted .entry)) (now (buffer .entry)) (now (place .entry)) .outcome .answer ≡ delivering.Refused why → now (words .exit) ≡ now (words .entry)) ⌝ }
-    ensures { λ r. ⌜ Leaves (now (words .entry)) (now (words .exit)) ⌝ }
+    ensures { λ r. let o = deliverAt (runOf (now (words .entry))) message (now (deleted .entry)) (now (buffer .entry)) (now (place .entry)) in
+        ⌜ (r ≡ deliverCode (o .outcome .answer) (o .outcome .rose)) × (now (deleted .exit) ≡ o .outcome .deleted)
+        × (now (buffer .exit) ≡ o .buffer) × (now (place .exit) ≡ o .places)
+        × Changes delivering.Refused (o .outcome) (now (words .entry)) (now (words .exit)) ⌝ }
 {
     if place.len() == 0 {
         return NO_PLACE;
@@ -132,12 +119,9 @@ pub extern "C" fn lemidrosy_record_lose(
     buffer: &mut [u8],
     place: &mut [u64],
 ) -> u64
-    ensures { λ r. ⌜ r ≡ loseCode (loseAt (runOf (now (words .entry))) message (now (buffer .entry)) (now (place .entry)) .outcome .answer) ⌝ }
-    ensures { λ r. ⌜ runOf (now (words .exit)) ≡ loseAt (runOf (now (words .entry))) message (now (buffer .entry)) (now (place .entry)) .outcome .run ⌝ }
-    ensures { λ r. ⌜ now (buffer .exit) ≡ loseAt (runOf (now (words .entry))) message (now (buffer .entry)) (now (place .entry)) .buffer ⌝ }
-    ensures { λ r. ⌜ now (place .exit) ≡ loseAt (runOf (now (words .entry))) message (now (buffer .entry)) (now (place .entry)) .places ⌝ }
-    ensures { λ r. ⌜ ((why : Refusal) → loseAt (runOf (now (words .entry))) message (now (buffer .entry)) (now (place .entry)) .outcome .answer ≡ losing.Refused why → now (words .exit) ≡ now (words .entry)) ⌝ }
-    ensures { λ r. ⌜ Leaves (now (words .entry)) (now (words .exit)) ⌝ }
+    ensures { λ r. let o = loseAt (runOf (now (words .entry))) message (now (buffer .entry)) (now (place .entry)) in
+        ⌜ (r ≡ loseCode (o .outcome .answer)) × (now (buffer .exit) ≡ o .buffer) × (now (place .exit) ≡ o .places)
+        × Changes losing.Refused (o .outcome) (now (words .entry)) (now (words .exit)) ⌝ }
 {
     if place.len() == 0 {
         return NO_PLACE;
@@ -158,10 +142,8 @@ pub extern "C" fn lemidrosy_record_line(
     buffer: &mut [u8],
     place: &mut [u64],
 ) -> u64
-    ensures { λ r. ⌜ r ≡ lineCode (lineAt (runOf (now (words .entry))) failed (now (line .entry)) (now (buffer .entry)) (now (place .entry)) .outcome .answer) ⌝ }
-    ensures { λ r. ⌜ now (line .exit) ≡ lineAt (runOf (now (words .entry))) failed (now (line .entry)) (now (buffer .entry)) (now (place .entry)) .outcome .line ⌝ }
-    ensures { λ r. ⌜ now (buffer .exit) ≡ lineAt (runOf (now (words .entry))) failed (now (line .entry)) (now (buffer .entry)) (now (place .entry)) .buffer ⌝ }
-    ensures { λ r. ⌜ now (place .exit) ≡ lineAt (runOf (now (words .entry))) failed (now (line .entry)) (now (buffer .entry)) (now (place .entry)) .places ⌝ }
+    ensures { λ r. let o = lineAt (runOf (now (words .entry))) failed (now (line .entry)) (now (buffer .entry)) (now (place .entry)) in
+        ⌜ (r ≡ lineCode (o .outcome .answer)) × (now (line .exit) ≡ o .outcome .line) × (now (buffer .exit) ≡ o .buffer) × (now (place .exit) ≡ o .places) ⌝ }
 {
     if place.len() == 0 {
         return NO_PLACE;
@@ -183,14 +165,10 @@ pub extern "C" fn lemidrosy_record_recover(
     buffer: &mut [u8],
     place: &mut [u64],
 ) -> u64
-    ensures { λ r. ⌜ r ≡ recoverCode (recoverAt (runOf (now (words .entry))) failed (now (deleted .entry)) (now (line .entry)) (now (buffer .entry)) (now (place .entry)) .outcome .answer) ⌝ }
-    ensures { λ r. ⌜ runOf (now (words .exit)) ≡ recoverAt (runOf (now (words .entry))) failed (now (deleted .entry)) (now (line .entry)) (now (buffer .entry)) (now (place .entry)) .outcome .run ⌝ }
-    ensures { λ r. ⌜ now (deleted .exit) ≡ recoverAt (runOf (now (words .entry))) failed (now (deleted .entry)) (now (line .entry)) (now (buffer .entry)) (now (place .entry)) .outcome .deleted ⌝ }
-    ensures { λ r. ⌜ now (line .exit) ≡ recoverAt (runOf (now (words .entry))) failed (now (deleted .entry)) (now (line .entry)) (now (buffer .entry)) (now (place .entry)) .outcome .line ⌝ }
-    ensures { λ r. ⌜ now (buffer .exit) ≡ recoverAt (runOf (now (words .entry))) failed (now (deleted .entry)) (now (line .entry)) (now (buffer .entry)) (now (place .entry)) .buffer ⌝ }
-    ensures { λ r. ⌜ now (place .exit) ≡ recoverAt (runOf (now (words .entry))) failed (now (deleted .entry)) (now (line .entry)) (now (buffer .entry)) (now (place .entry)) .places ⌝ }
-    ensures { λ r. ⌜ ((why : Refusal) → recoverAt (runOf (now (words .entry))) failed (now (deleted .entry)) (now (line .entry)) (now (buffer .entry)) (now (place .entry)) .outcome .answer ≡ recovering.Refused why → now (words .exit) ≡ now (words .entry)) ⌝ }
-    ensures { λ r. ⌜ Leaves (now (words .entry)) (now (words .exit)) ⌝ }
+    ensures { λ r. let o = recoverAt (runOf (now (words .entry))) failed (now (deleted .entry)) (now (line .entry)) (now (buffer .entry)) (now (place .entry)) in
+        ⌜ (r ≡ recoverCode (o .outcome .answer)) × (now (deleted .exit) ≡ o .outcome .deleted) × (now (line .exit) ≡ o .outcome .line)
+        × (now (buffer .exit) ≡ o .buffer) × (now (place .exit) ≡ o .places)
+        × Changes recovering.Refused (o .outcome) (now (words .entry)) (now (words .exit)) ⌝ }
 {
     if place.len() == 0 {
         return NO_PLACE;
@@ -211,10 +189,8 @@ pub extern "C" fn lemidrosy_record_earliest(
     buffer: &mut [u8],
     place: &mut [u64],
 ) -> u64
-    ensures { λ r. ⌜ r ≡ lineCode (earliestAt (runOf (now (words .entry))) (namedIn (now (named .entry))) (now (line .entry)) (now (buffer .entry)) (now (place .entry)) .outcome .answer) ⌝ }
-    ensures { λ r. ⌜ now (line .exit) ≡ earliestAt (runOf (now (words .entry))) (namedIn (now (named .entry))) (now (line .entry)) (now (buffer .entry)) (now (place .entry)) .outcome .line ⌝ }
-    ensures { λ r. ⌜ now (buffer .exit) ≡ earliestAt (runOf (now (words .entry))) (namedIn (now (named .entry))) (now (line .entry)) (now (buffer .entry)) (now (place .entry)) .buffer ⌝ }
-    ensures { λ r. ⌜ now (place .exit) ≡ earliestAt (runOf (now (words .entry))) (namedIn (now (named .entry))) (now (line .entry)) (now (buffer .entry)) (now (place .entry)) .places ⌝ }
+    ensures { λ r. let o = earliestAt (runOf (now (words .entry))) (namedIn (now (named .entry))) (now (line .entry)) (now (buffer .entry)) (now (place .entry)) in
+        ⌜ (r ≡ lineCode (o .outcome .answer)) × (now (line .exit) ≡ o .outcome .line) × (now (buffer .exit) ≡ o .buffer) × (now (place .exit) ≡ o .places) ⌝ }
 {
     if place.len() == 0 {
         return NO_PLACE;

@@ -4,6 +4,7 @@ use Rattle.listing.specs.answers.Codes.{recoverCode}
 use Rattle.listing.proofs.answers.Fit.{recover-fits}
 use Rattle.whole_runs.proofs.Sweep.{sweep-promise}
 use Rattle.words.specs.Layout.{runOf}
+use Rattle.lemidrosy.proofs.Changing.{changed}
 use Rattle.lemidrosy.proofs.calls.lemidrosy_recover.Statement.{statement}
 use Rattle.lemidrosy.proofs.calls.lemidrosy_recover.Tie as tie
 
@@ -15,10 +16,7 @@ abbrev start : tie.After-recover → tie.Start
 start r = r .before .before .before .before .before .before .before
 
 of-recover-requires : tie.Need-of-recover-requires
-of-recover-requires c κs =
-    let r = called c in
-    let a = start r .args in
-    rw (r .recover .ensures .1 .0) (recover-fits (runOf (a .words .now)) (a .failed) (a .deleted .now) (a .line .now))
+of-recover-requires c κs = rw (called c .recover .ensures .1 .0) (recover-fits _ _ _ _)
 
 returns : tie.Need-returns
 returns c =
@@ -27,7 +25,7 @@ returns c =
     let g = r .recover .ensures in
     let h = g .1 .1 .1 .1 in
     let sweep = sweep-promise (runOf (a .words .now)) (a .failed) (a .deleted .now) (a .line .now) refl (g .1 .1 .1 .0) (g .0) in
-    (c .of-recover .ensures ∙ ap recoverCode (g .1 .0), (g .0, (g .1 .1 .0, (g .1 .1 .1 .0, (λ why e. h .0 why (g .1 .0 ∙ e), (h .1 .0, (h .1 .1 .0, (h .1 .1 .1 .0, (h .1 .1 .1 .1 .0, sweep)))))))))
+    ((c .of-recover .ensures ∙ ap recoverCode (g .1 .0), g .1 .1 .0, g .1 .1 .1 .0, changed _ _ _ _ _ (g .1 .0) (g .0) (h .0) (h .1 .0), sweep), (h .1 .1 .0, (h .1 .1 .1 .0, h .1 .1 .1 .1 .0)))
 
 pub lemidrosy-recover-spec : {M : Type 1} → statement M
 lemidrosy-recover-spec =

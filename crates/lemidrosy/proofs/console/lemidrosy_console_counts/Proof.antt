@@ -1,12 +1,11 @@
 -- `lemidrosy::console::lemidrosy_console_counts` meets its contract. Assumes nothing.
-use Rattle.laws.specs.Basics.{_≡_, _∙_, ap, needs}
+use Rattle.laws.specs.Basics.{_∙_, ap, needs}
 use Rattle.listing.specs.answers.Codes.{lineCode}
-use Rattle.words.specs.Layout.{runOf}
 use Rattle.lemidrosy.proofs.{Consoles.counts-as-fits, console.lemidrosy_console_counts.Statement.statement}
 use Rattle.lemidrosy.proofs.console.lemidrosy_console_counts.Tie as tie
 
 of-line-requires : tie.Need-of-line-requires
-of-line-requires c κs = let a = c .before .before .before .before .before .before .args in rw (c .before .before .counts .ensures .1 .0) (counts-as-fits (a .role) (a .owned) (runOf (a .words .now)) (a .line .now))
+of-line-requires c κs = rw (c .before .before .counts .ensures .1 .0) (counts-as-fits _ _ _ _)
 
 returns : tie.Need-returns
 returns c =

@@ -1,13 +1,11 @@
 -- `lemidrosy::console::lemidrosy_console_earliest` meets its contract. Assumes nothing.
-use Rattle.laws.specs.Basics.{_≡_, _∙_, ap, needs}
+use Rattle.laws.specs.Basics.{_∙_, ap, needs}
 use Rattle.listing.specs.answers.Codes.{lineCode}
-use Rattle.words.specs.Layout.{runOf}
-use Rattle.words_line.specs.Through.{namedIn}
 use Rattle.lemidrosy.proofs.{Consoles.earliest-as-fits, console.lemidrosy_console_earliest.Statement.statement}
 use Rattle.lemidrosy.proofs.console.lemidrosy_console_earliest.Tie as tie
 
 of-line-requires : tie.Need-of-line-requires
-of-line-requires c κs = let a = c .before .before .before .before .before .before .before .args in rw (c .before .before .earliest .ensures .1 .0) (earliest-as-fits (a .role) (a .owned) (runOf (a .words .now)) (namedIn (a .named .now)) (a .line .now))
+of-line-requires c κs = rw (c .before .before .earliest .ensures .1 .0) (earliest-as-fits _ _ _ _ _)
 
 returns : tie.Need-returns
 returns c =

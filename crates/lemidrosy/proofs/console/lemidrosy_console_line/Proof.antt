@@ -1,12 +1,11 @@
 -- `lemidrosy::console::lemidrosy_console_line` meets its contract. Assumes nothing.
-use Rattle.laws.specs.Basics.{_≡_, _∙_, ap, needs}
+use Rattle.laws.specs.Basics.{_∙_, ap, needs}
 use Rattle.listing.specs.answers.Codes.{lineCode}
-use Rattle.words.specs.Layout.{runOf}
 use Rattle.lemidrosy.proofs.{Consoles.line-as-fits, console.lemidrosy_console_line.Statement.statement}
 use Rattle.lemidrosy.proofs.console.lemidrosy_console_line.Tie as tie
 
 of-line-requires : tie.Need-of-line-requires
-of-line-requires c κs = let a = c .before .before .before .before .before .before .args in rw (c .before .before .line .ensures .1 .0) (line-as-fits (a .role) (a .owned) (runOf (a .words .now)) (a .failed) (a .line .now))
+of-line-requires c κs = rw (c .before .before .line .ensures .1 .0) (line-as-fits _ _ _ _ _)
 
 returns : tie.Need-returns
 returns c =

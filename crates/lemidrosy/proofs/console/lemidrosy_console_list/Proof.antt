@@ -1,12 +1,11 @@
 -- `lemidrosy::console::lemidrosy_console_list` meets its contract. Assumes nothing.
-use Rattle.laws.specs.Basics.{_≡_, _∙_, ap, needs}
+use Rattle.laws.specs.Basics.{_∙_, ap, needs}
 use Rattle.lemidrosy.specs.Console.{listCode}
-use Rattle.words.specs.Layout.{runOf}
 use Rattle.lemidrosy.proofs.{Consoles.list-as-fits, console.lemidrosy_console_list.Statement.statement}
 use Rattle.lemidrosy.proofs.console.lemidrosy_console_list.Tie as tie
 
 of-list-requires : tie.Need-of-list-requires
-of-list-requires c κs = let a = c .before .before .before .before .before .before .args in rw (c .before .before .list .ensures .1 .0) (list-as-fits (a .role) (a .owned) (runOf (a .words .now)) (a .deleted .now))
+of-list-requires c κs = rw (c .before .before .list .ensures .1 .0) (list-as-fits _ _ _ _)
 
 returns : tie.Need-returns
 returns c =

@@ -1,17 +1,16 @@
 -- `lemidrosy::console::lemidrosy_console_send` meets its contract. Assumes nothing.
-use Rattle.laws.specs.Basics.{_≡_, _∙_, ap, needs}
+use Rattle.laws.specs.Basics.{_∙_, ap, needs}
 use Rattle.listing.specs.answers.Codes.{sendCode}
-use Rattle.words.specs.Layout.{runOf}
-use Rattle.lemidrosy.proofs.{Consoles.send-as-fits, console.lemidrosy_console_send.Statement.statement}
+use Rattle.lemidrosy.proofs.{Changing.changed, Consoles.send-as-fits, console.lemidrosy_console_send.Statement.statement}
 use Rattle.lemidrosy.proofs.console.lemidrosy_console_send.Tie as tie
 
 of-send-requires : tie.Need-of-send-requires
-of-send-requires c κs = let a = c .before .before .before .before .before .args in rw (c .before .before .send .ensures .1 .0) (send-as-fits (a .role) (a .owned) (runOf (a .words .now)) (a .sender) (a .receiver))
+of-send-requires c κs = rw (c .before .before .send .ensures .1 .0) (send-as-fits _ _ _ _ _)
 
 returns : tie.Need-returns
 returns c =
     let g = c .before .before .before .send .ensures in
-    (c .of-send .ensures ∙ ap sendCode (g .1 .0), (g .0, (λ why e. g .1 .1 .0 why (g .1 .0 ∙ e), g .1 .1 .1)))
+    (c .of-send .ensures ∙ ap sendCode (g .1 .0), changed _ _ _ _ _ (g .1 .0) (g .0) (g .1 .1 .0) (g .1 .1 .1))
 
 pub lemidrosy-console-send-spec : {M : Type 1} → statement M
 lemidrosy-console-send-spec = tie.close (tie.spec (λ c κs. search needs) of-send-requires (λ c. search needs) returns)
