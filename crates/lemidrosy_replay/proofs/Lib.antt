@@ -1,3 +1,3 @@
 -- Laws that belong to no one function.
 pub mod Blocks
-pub mod ReplayStepped
+pub mod Rooms

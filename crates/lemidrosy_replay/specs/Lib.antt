@@ -1,2 +1,2 @@
 pub mod Replaying
-pub mod ReplaySteps
+pub mod Steps

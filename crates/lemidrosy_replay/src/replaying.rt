@@ -1,5 +1,6 @@
 // A block of records applied to the words, for a run-time that hands its events over in batches: the words are tested once, and once more after each recovery that deletes a
 // checkpoint.
+use crate::LIST_TOO_SHORT;
 use library_replay::block::Progress;
 ghost use Rattle.laws.specs.Basics.{_≡_, [], _∷_, _≤_, _<_, length, sets, pick};
 ghost use Rattle.whole_runs.specs.WholeRuns.{Reachable};
@@ -8,10 +9,8 @@ ghost use Rattle.words.specs.Layout.{runOf};
 ghost use Rattle.in_place.specs.Left.{Leaves};
 ghost use Rattle.lemidrosy_replay.specs.Replaying.{replaying};
 
-// How many numbers say how far a replay of a block came, and the number of the answer to a list with fewer entries.
+// How many numbers say how far a replay of a block came.
 const PROGRESS: usize = 3;
-
-const LIST_TOO_SHORT: u64 = 3;
 
 fn one_if(going: bool) -> u64
     ensures { λ r. ⌜ r ≡ pick going 1 0 ⌝ }
@@ -45,10 +44,8 @@ pub extern "C" fn lemidrosy_replay(
     text: &mut [u8],
     progress: &mut [u64],
 ) -> u64
-    ensures { λ r. ⌜ r ≡ coded (replaying all done (runOf (now (words .entry))) (now (records .entry)) (now (text .entry)) (now (progress .entry)) .report) 0 ⌝ }
-    ensures { λ r. ⌜ runOf (now (words .exit)) ≡ replaying all done (runOf (now (words .entry))) (now (records .entry)) (now (text .entry)) (now (progress .entry)) .run ⌝ }
-    ensures { λ r. ⌜ now (text .exit) ≡ replaying all done (runOf (now (words .entry))) (now (records .entry)) (now (text .entry)) (now (progress .entry)) .text ⌝ }
-    ensures { λ r. ⌜ now (progress .exit) ≡ replaying all done (runOf (now (words .entry))) (now (records .entry)) (now (text .entry)) (now (progress .entry)) .progress ⌝ }
+    ensures { λ r. let o = replaying all done (runOf (now (words .entry))) (now (records .entry)) (now (text .entry)) (now (progress .entry)) in
+        ⌜ (r ≡ coded (o .report) 0) × (runOf (now (words .exit)) ≡ o .run) × (now (text .exit) ≡ o .text) × (now (progress .exit) ≡ o .progress) ⌝ }
     ensures { λ r. ⌜ (length (now (progress .entry)) < 3 → now (words .exit) ≡ now (words .entry)) ⌝ }
     ensures { λ r. ⌜ Leaves (now (words .entry)) (now (words .exit)) ⌝ }
     ensures { λ r. ⌜ (Reachable (runOf (now (words .entry))) → Reachable (runOf (now (words .exit)))) ⌝ }

@@ -9,7 +9,7 @@ returns : tie.Need-returns
 returns c =
     let a = c .before .before .before .before .before .args in
     let h = too-short (a .all) (a .done) (runOf (a .words .now)) (a .records .now) (a .text .now) (a .progress .now) (c .if1 .taken) in
-    (h .0, (h .1 .0, (h .1 .1 .0, (h .1 .1 .1, (λ few. refl, (same-words (a .words .now), λ v. v))))))
+    (h, (λ few. refl, (same-words (a .words .now), λ v. v)))
 
 returns-2 : tie.Need-returns-2
 returns-2 c =
@@ -19,7 +19,7 @@ returns-2 c =
     let k = g .1 .1 .1 in
     let h = long-enough (a .all) (a .done) (runOf (a .words .now)) (a .records .now) (a .text .now) (a .progress .now) long _ _ _ _ _ _ (g .0) (g .1 .0 .0) (g .1 .1 .0) (k .0) (k .1 .0)
     (c .before .before .write-progress .ensures) in
-    (h .0, (h .1 .0, (h .1 .1 .0, (h .1 .1 .1, (λ few. absurd (omega (arith, long)), (k .1 .1 .0, k .1 .1 .1))))))
+    (h, (λ few. absurd (omega (arith, long)), (k .1 .1 .0, k .1 .1 .1)))
 
 pub lemidrosy-replay-spec : {M : Type 1} → statement M
 lemidrosy-replay-spec = tie.close (tie.spec returns (λ c κs. search needs) (λ c κs. search needs) (λ c. search needs) (λ c. search needs) (λ c. search needs) returns-2)
