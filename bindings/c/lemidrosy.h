@@ -10,7 +10,7 @@
    Every function is re-entrant: threads may call any of them at the same time, on words and lists that nobody else writes meanwhile. None of them fails in another way,
    calls back, waits or touches errno.
 
-   What is proved of each function is its contract in crates/lemidrosy/src or crates/lemidrosy_replay/src. C11 or later, C++17 or later. */
+   What is proved of each function is its contract in crates/lemidrosy/src, crates/lemidrosy_machines/src or crates/lemidrosy_replay/src. C11 or later, C++17 or later. */
 #ifndef LEMIDROSY_H
 #define LEMIDROSY_H
 
