@@ -1,7 +1,4 @@
 // What works on no state: the judge of another run-time's trace (document 02, Note 7), the merge of two halves of one run (Note 12) and a simulation (Note 10).
-use listing::Summary;
-use listing::Value;
-use listing::answers::code_of;
 use model::MergeAnswer;
 use theory_patterns::Verdict;
 use theory_recording::spacing::TrialAnswer;
@@ -53,16 +50,8 @@ fn merge_code(a: MergeAnswer) -> u64
     ensures { λ r. ⌜ r ≡ mergeCode a ⌝ }
 {
     match a {
-        MergeAnswer::Refused(why) => listing::summaries::number_of(why) as u64,
-        MergeAnswer::Merged(bytes) => {
-            let value = Value::Number(bytes as u64);
-            let summary = Summary {
-                refused: 0,
-                value,
-                deletions: 0,
-            };
-            code_of(summary, 0)
-        }
+        MergeAnswer::Refused(why) => library_readers::refused(why),
+        MergeAnswer::Merged(bytes) => library_readers::counted(bytes),
     }
 }
 
