@@ -1,5 +1,5 @@
--- For C: what each call of a machine leaves in the lent lists. What is lent stands for a state, and what is asked for is what the machine asks for there. A step tests no list
--- but the last one; what no machine left behind has stopped.
+-- For C: what each call of a machine leaves in the lent lists; with a prime, a list is what it is afterwards. What is lent stands for a state, and what is asked for is what the
+-- machine asks for there. A step tests no list but the last one; what no machine left behind has stopped.
 -- Assumes nothing.
 use Rattle.laws.specs.Basics.{_≡_, false, not, List, [], ℕ, length}
 use Rattle.machines.specs.{Machines.stepped, Forms.answerOf, Packed.unpacked, Called.Called}
