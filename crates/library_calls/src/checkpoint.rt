@@ -1,4 +1,6 @@
 // Checkpoint, by value.
+use crate::run_words::fill;
+use crate::run_words::read;
 use model::CheckpointAnswer;
 use model::Refusal;
 use model::Run;
@@ -20,19 +22,20 @@ pub fn checkpoint(s: Run, i: usize, deleted: &mut [u16]) -> CheckpointOutcome
     ensures { λ r. ⌜ now (deleted .exit) ≡ checkpointOutcome s i (now (deleted .entry)) .deleted ⌝ }
     ensures { λ r. ⌜ StatePromise s (made.checkpoint i (now (deleted .entry))) (r .run) ⌝ }
 {
-    let mut w = [0u16; WORDS];
-    let fit = crate::run_words::fill::fill(&mut w, s);
-    let sound = super::judged::is_sound(&w, fit);
-    if !sound {
+    let few = fill::are_counts_fit(s.count, s.underway);
+    if !few {
         let answer = CheckpointAnswer::Refused(Refusal::UnsoundState);
         return CheckpointOutcome { run: s, answer };
     }
-    let answer = in_place::checkpoint::checkpoint_on(&mut w, i, deleted);
+    let mut run = s;
+    let mut w = [0u16; WORDS];
+    fill::fill(&mut w, run);
+    let answer = in_place::checkpoint::checkpoint(&mut w, i, deleted);
     match answer {
-        CheckpointAnswer::Refused(_) => CheckpointOutcome { run: s, answer },
+        CheckpointAnswer::Refused(_) => {}
         CheckpointAnswer::Stored(_, _) => {
-            let run = crate::run_words::read::read(&w);
-            CheckpointOutcome { run, answer }
+            run = read::read(&w);
         }
     }
+    CheckpointOutcome { run, answer }
 }

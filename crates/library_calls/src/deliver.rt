@@ -1,4 +1,6 @@
 // Deliver, by value.
+use crate::run_words::fill;
+use crate::run_words::read;
 use model::DeliverAnswer;
 use model::Refusal;
 use model::Run;
@@ -23,10 +25,8 @@ pub fn deliver(s: Run, m: u32, deleted: &mut [u16]) -> DeliverOutcome
     ensures { λ r. ⌜ now (deleted .exit) ≡ deliverOutcome s m (now (deleted .entry)) .deleted ⌝ }
     ensures { λ r. ⌜ StatePromise s (made.deliver m (now (deleted .entry))) (r .run) ⌝ }
 {
-    let mut w = [0u16; WORDS];
-    let fit = crate::run_words::fill::fill(&mut w, s);
-    let sound = super::judged::is_sound(&w, fit);
-    if !sound {
+    let few = fill::are_counts_fit(s.count, s.underway);
+    if !few {
         let answer = DeliverAnswer::Refused(Refusal::UnsoundState);
         return DeliverOutcome {
             run: s,
@@ -34,18 +34,17 @@ pub fn deliver(s: Run, m: u32, deleted: &mut [u16]) -> DeliverOutcome
             rose: 0,
         };
     }
-    let delivered = in_place::deliver::deliver_on(&mut w, m, deleted);
+    let mut run = s;
+    let mut w = [0u16; WORDS];
+    fill::fill(&mut w, run);
+    let delivered = in_place::deliver::deliver(&mut w, m, deleted);
     let answer = delivered.answer;
     let rose = delivered.rose;
     match answer {
-        DeliverAnswer::Refused(_) => DeliverOutcome {
-            run: s,
-            answer,
-            rose,
-        },
+        DeliverAnswer::Refused(_) => {}
         _ => {
-            let run = crate::run_words::read::read(&w);
-            DeliverOutcome { run, answer, rose }
+            run = read::read(&w);
         }
     }
+    DeliverOutcome { run, answer, rose }
 }

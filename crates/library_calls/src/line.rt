@@ -1,4 +1,5 @@
 // The line, by value.
+use crate::run_words::fill;
 use model::LineAnswer;
 use model::Refusal;
 use model::Run;
@@ -21,13 +22,13 @@ pub fn line(s: Run, failed: u16, line: &mut [u16]) -> LineOutcome
     ensures { λ r. ⌜ LinePromise s failed ⌝ }
     ensures { λ r. ⌜ EmptyLinePromise s failed (now (line .entry)) (r .answer) (now (line .exit)) ⌝ }
 {
-    let mut w = [0u16; WORDS];
-    let fit = crate::run_words::fill::fill(&mut w, s);
-    let sound = super::judged::is_sound(&w, fit);
-    if !sound {
+    let few = fill::are_counts_fit(s.count, s.underway);
+    if !few {
         let answer = LineAnswer::Refused(Refusal::UnsoundState);
         return LineOutcome { run: s, answer };
     }
-    let answer = in_place::line::line_on(&w, failed as u32, line);
+    let mut w = [0u16; WORDS];
+    fill::fill(&mut w, s);
+    let answer = in_place::line::line(&w, failed as u32, line);
     LineOutcome { run: s, answer }
 }

@@ -1,4 +1,6 @@
 // Lose, by value.
+use crate::run_words::fill;
+use crate::run_words::read;
 use model::LoseAnswer;
 use model::Refusal;
 use model::Run;
@@ -19,19 +21,20 @@ pub fn lose(s: Run, m: u32) -> LoseOutcome
     ensures { λ r. ⌜ r .answer ≡ loseOutcome s m .answer ⌝ }
     ensures { λ r. ⌜ StatePromise s (made.lose m) (r .run) ⌝ }
 {
-    let mut w = [0u16; WORDS];
-    let fit = crate::run_words::fill::fill(&mut w, s);
-    let sound = super::judged::is_sound(&w, fit);
-    if !sound {
+    let few = fill::are_counts_fit(s.count, s.underway);
+    if !few {
         let answer = LoseAnswer::Refused(Refusal::UnsoundState);
         return LoseOutcome { run: s, answer };
     }
-    let answer = in_place::lose::lose_on(&mut w, m);
+    let mut run = s;
+    let mut w = [0u16; WORDS];
+    fill::fill(&mut w, run);
+    let answer = in_place::lose::lose(&mut w, m);
     match answer {
-        LoseAnswer::Refused(_) => LoseOutcome { run: s, answer },
+        LoseAnswer::Refused(_) => {}
         LoseAnswer::Lost => {
-            let run = crate::run_words::read::read_lost(&w, s);
-            LoseOutcome { run, answer }
+            run = read::read_lost(&w, run);
         }
     }
+    LoseOutcome { run, answer }
 }

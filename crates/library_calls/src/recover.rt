@@ -1,4 +1,6 @@
 // The recovery of a failed set, and the sweep, by value.
+use crate::run_words::fill;
+use crate::run_words::read;
 use model::RecoverAnswer;
 use model::Refusal;
 use model::Run;
@@ -25,19 +27,20 @@ pub fn recover(s: Run, failed: u16, deleted: &mut [u16], line: &mut [u16]) -> Re
     ensures { λ r. ⌜ CleanPromise s failed (now (deleted .entry)) (now (line .entry)) (r .run) ⌝ }
     ensures { λ r. ⌜ SweepPromise s failed (now (deleted .entry)) (now (line .entry)) (r .answer) (now (line .exit)) (r .run) ⌝ }
 {
-    let mut w = [0u16; WORDS];
-    let fit = crate::run_words::fill::fill(&mut w, s);
-    let sound = super::judged::is_sound(&w, fit);
-    if !sound {
+    let few = fill::are_counts_fit(s.count, s.underway);
+    if !few {
         let answer = RecoverAnswer::Refused(Refusal::UnsoundState);
         return RecoverOutcome { run: s, answer };
     }
-    let answer = in_place_recover::recover_on(&mut w, failed as u32, deleted, line);
+    let mut run = s;
+    let mut w = [0u16; WORDS];
+    fill::fill(&mut w, run);
+    let answer = in_place_recover::recover(&mut w, failed as u32, deleted, line);
     match answer {
-        RecoverAnswer::Refused(_) => RecoverOutcome { run: s, answer },
+        RecoverAnswer::Refused(_) => {}
         RecoverAnswer::Recovered(_, _) => {
-            let run = crate::run_words::read::read(&w);
-            RecoverOutcome { run, answer }
+            run = read::read(&w);
         }
     }
+    RecoverOutcome { run, answer }
 }

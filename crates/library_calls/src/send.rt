@@ -1,4 +1,6 @@
 // Send, by value.
+use crate::run_words::fill;
+use crate::run_words::read;
 use model::Refusal;
 use model::Run;
 use model::SendAnswer;
@@ -19,19 +21,20 @@ pub fn send(s: Run, i: usize, j: usize) -> SendOutcome
     ensures { λ r. ⌜ r .answer ≡ sendOutcome s i j .answer ⌝ }
     ensures { λ r. ⌜ StatePromise s (made.send i j) (r .run) ⌝ }
 {
-    let mut w = [0u16; WORDS];
-    let fit = crate::run_words::fill::fill(&mut w, s);
-    let sound = super::judged::is_sound(&w, fit);
-    if !sound {
+    let few = fill::are_counts_fit(s.count, s.underway);
+    if !few {
         let answer = SendAnswer::Refused(Refusal::UnsoundState);
         return SendOutcome { run: s, answer };
     }
-    let answer = in_place::send::send_on(&mut w, i, j);
+    let mut run = s;
+    let mut w = [0u16; WORDS];
+    fill::fill(&mut w, run);
+    let answer = in_place::send::send(&mut w, i, j);
     match answer {
-        SendAnswer::Refused(_) => SendOutcome { run: s, answer },
+        SendAnswer::Refused(_) => {}
         SendAnswer::Sent(_) => {
-            let run = crate::run_words::read::read_sent(&w, s);
-            SendOutcome { run, answer }
+            run = read::read_sent(&w, run);
         }
     }
+    SendOutcome { run, answer }
 }

@@ -1,4 +1,5 @@
 // The earliest consistent line through named checkpoints, by value (document 02, Note 8).
+use crate::run_words::fill;
 use model::LineAnswer;
 use model::Named;
 use model::PROCESSES;
@@ -21,17 +22,17 @@ fn earliest_of(s: Run, copied: Copied, line: &mut [u16]) -> EarliestOutcome
     requires { ⌜ IsCopy copied ⌝ }
     ensures { λ r. ⌜ ((l : List Named) → copied ≡ copyOf l → (r .run ≡ earliestOutcome s l (now (line .entry)) .run) × (r .answer ≡ earliestOutcome s l (now (line .entry)) .answer) × (now (line .exit) ≡ earliestOutcome s l (now (line .entry)) .line)) ⌝ }
 {
-    let mut w = [0u16; WORDS];
-    let fit = crate::run_words::fill::fill(&mut w, s);
-    let sound = super::judged::is_sound(&w, fit);
-    if !sound {
+    let few = fill::are_counts_fit(s.count, s.underway);
+    if !few {
         let answer = LineAnswer::Refused(Refusal::UnsoundState);
         return EarliestOutcome { run: s, answer };
     }
+    let mut w = [0u16; WORDS];
+    fill::fill(&mut w, s);
     let pairs = words_line::earliest::pairs::pairs_of(copied);
     let numbers = pairs.numbers;
     let end = pairs.end;
-    let answer = in_place::through::earliest_on(&w, &numbers[0..end], line);
+    let answer = in_place::through::earliest(&w, &numbers[0..end], line);
     EarliestOutcome { run: s, answer }
 }
 

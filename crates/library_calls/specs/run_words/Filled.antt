@@ -1,11 +1,11 @@
 -- The words of a state that fits, thing by thing: what is put where, in the order in which it is put.
 -- Assumes nothing.
-use Rattle.laws.specs.Basics.{Bool, false, _&&_, List, [], _∷_, _++_, ℕ, _+_, _/_, _%_, ltb, leb, getD, pick}
+use Rattle.laws.specs.Basics.{_≡_, Bool, true, false, _&&_, List, [], _∷_, _++_, ℕ, _+_, _/_, _%_, ltb, leb, getD, pick}
 use Rattle.laws.specs.Loops.{iter}
 use Rattle.model.specs.declared.{Interval.Interval, Pin.Pin, Pin.the-variants.Nothing, Pin.the-variants.At, Checkpoint.Checkpoint, Message.Message, Disk.Disk}
 use Rattle.model.specs.declared.Run.{Run}
-use Rattle.model.specs.Words.{mostProcesses, pastEnd, mostUnderWay, keptPlaces}
-use Rattle.words.specs.Layout.{keptCountAt, markAt, blocksAt, partAt, pinsAt, indexAt, causeAt, storedAt, lowAt, highAt, senderAt, receiverAt, carriedAt}
+use Rattle.model.specs.{Sound.sound, Words.mostProcesses, Words.pastEnd, Words.mostUnderWay, Words.keptPlaces}
+use Rattle.words.specs.Layout.{runOf, keptCountAt, markAt, blocksAt, partAt, pinsAt, indexAt, causeAt, storedAt, lowAt, highAt, senderAt, receiverAt, carriedAt}
 use Rattle.words.specs.Puts.{Put, puts, one, vectorPut, puts2, puts4}
 use Rattle.library_calls.specs.run_words.Fits.{pastMessages, indexFits, messageFits}
 
@@ -67,3 +67,7 @@ filled s w = puts
     (iter mostProcesses (rowsFilled (s .count) (s .vectors .0) (s .pins .0) (s .«kept_count») (s .sent))
     (iter keptPlaces (keptFilled (s .kept .0) (s .«kept_count»)) w)))
     (numberPuts (s .count) (s .underway) (s .last) (s .disk))
+
+-- What is asked of the words that a call by value is made on: they stand for the state if it is sound, and for none that is sound if it is not.
+abbrev pub FilledFrom : Run → List ℕ → Type 0
+FilledFrom s w = (sound (runOf w) ≡ sound s) × (sound s ≡ true → runOf w ≡ s)

@@ -1,5 +1,5 @@
-// Words filled from a state. A state fits its words if, read back, it is the same: specs/Fits says when, and a sound one does. Nobody reads what is left in the words of a
-// state that does not fit. One pass puts each thing and tests it, so that each is read once.
+// Words filled from a state. A state fits its words if, read back, it is the same: specs/Fits says when, and a sound one does. Where it does not fit, the words stand for no
+// sound state either, so that a call in place refuses them as it would the state. One pass puts each thing and tests it, so that each is read once.
 use model::Checkpoint;
 use model::CheckpointIndex;
 use model::Disk;
@@ -11,14 +11,14 @@ use model::PROCESSES;
 use model::Pin;
 use model::Run;
 use words::places;
-ghost use Rattle.laws.specs.Basics.{_≡_, true, [], _∷_, _+_, _≤_, _<_, length, getD, pick};
+ghost use Rattle.laws.specs.Basics.{_≡_, true, _&&_, [], _∷_, _+_, _≤_, _<_, leb, length, getD, pick};
 ghost use Rattle.laws.specs.{Loops.iter, Search.allBelow};
 ghost use Rattle.model.specs.declared.Pin.the-variants.{Nothing};
 ghost use Rattle.model.specs.Sound.{zeroFrom, isNothing, nothingFrom, unusedCheckpoint, unusedMessage};
 ghost use Rattle.model.specs.Words.{mostProcesses, mostUnderWay, keptPlaces};
-ghost use Rattle.words.specs.{Layout.runOf, Layout.stateSize, Puts.puts};
-ghost use Rattle.library_calls.specs.run_words.Fits.{indexFits, pinFits, messageFits, placeFits, keptFits, rowFits, rowsFit, oneFits, messagesFit, fitsWords};
-ghost use Rattle.library_calls.specs.run_words.Filled.{pinWord, pinsPut, markWord, checkpointPuts, placeFilled, keptFilled, processPuts, rowFilled, rowsFilled, messagePuts, oneFilled, messagesFilled, numberPuts};
+ghost use Rattle.words.specs.{Layout.stateSize, Puts.puts};
+ghost use Rattle.library_calls.specs.run_words.Fits.{indexFits, pinFits, messageFits, placeFits, keptFits, rowFits, rowsFit, oneFits, messagesFit};
+ghost use Rattle.library_calls.specs.run_words.Filled.{pinWord, pinsPut, markWord, checkpointPuts, placeFilled, keptFilled, processPuts, rowFilled, rowsFilled, messagePuts, oneFilled, messagesFilled, numberPuts, FilledFrom};
 
 // The index that no word is one above.
 const NO_WORD: u16 = LAST_INTERVAL;
@@ -312,19 +312,26 @@ fn put_numbers(w: &mut [u16], n: usize, many: usize, last: u32, disk: Disk)
     w[places::END] = many as u16;
 }
 
-pub fn fill(w: &mut [u16], s: Run) -> bool
-    requires { ⌜ length (now w) ≡ stateSize ⌝ }
-    ensures { λ r. ⌜ r ≡ fitsWords s ⌝ }
-    ensures { λ r. ⌜ (r ≡ true → runOf (now (w .exit)) ≡ s) ⌝ }
+// Whether there are places for so many processes and messages.
+pub fn are_counts_fit(n: usize, many: usize) -> bool
+    ensures { λ r. ⌜ r ≡ (leb n mostProcesses && leb many mostUnderWay) ⌝ }
+{
+    (n <= PROCESSES) & (many <= MESSAGES)
+}
+
+// The count that the words get: 0 for a state that does not fit them, so that they stand for no sound state.
+fn count_for(n: usize, fit: bool) -> usize
+    ensures { λ r. ⌜ r ≡ pick fit n 0 ⌝ }
+{
+    if fit { n } else { 0 }
+}
+
+pub fn fill(w: &mut [u16], s: Run)
+    requires { ⌜ (length (now w) ≡ stateSize) × (s .count ≤ mostProcesses) × (s .underway ≤ mostUnderWay) ⌝ }
+    ensures { λ u. ⌜ FilledFrom s (now (w .exit)) ⌝ }
 {
     let n = s.count;
-    if PROCESSES < n {
-        return false;
-    }
     let many = s.underway;
-    if MESSAGES < many {
-        return false;
-    }
     let sent = s.sent;
     let kept_count = s.kept_count;
     let messages = s.messages;
@@ -334,6 +341,6 @@ pub fn fill(w: &mut [u16], s: Run) -> bool
     let places_fit = put_kept(w, kept, kept_count);
     let rows_fit = put_rows(w, n, vectors, pins, kept_count, sent);
     let messages_fit = put_messages(w, messages, many);
-    put_numbers(w, n, many, s.last, s.disk);
-    places_fit & rows_fit & messages_fit
+    let count = count_for(n, places_fit & rows_fit & messages_fit);
+    put_numbers(w, count, many, s.last, s.disk);
 }
