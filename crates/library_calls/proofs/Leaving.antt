@@ -7,13 +7,13 @@ use Rattle.model.specs.{Steps.marked, Steps.sentMessage, Steps.sendState, Steps
 use Rattle.model.proofs.simulation.Accepted.{send-out}
 use Rattle.whole_runs.specs.Outcomes.{Outcome, judged, sendOutcome, loseOutcome}
 use Rattle.words_process.proofs.receipts.Parts.{withMark, rows-back}
-use Rattle.library_calls.specs.{run_words.Fits.pastMessages, run_words.Readable.afterSend, run_words.Readable.afterLose}
+use Rattle.library_calls.specs.{run_words.Fits.pastMessages, run_words.Readable.afterMessages}
 use Rattle.library_calls.proofs.{run_words.Sizes.Sized, run_words.ReadBack.same-entry, Changing.either-run}
 use Rattle.words_process.specs.receipts.Sized as receipts
 
-pub lose-leaves : (s : Run) (m : ℕ) → loseOutcome s m .run ≡ afterLose s (loseOutcome s m .run)
-unfolding loseOutcome loseState withMessages afterLose
-lose-leaves s m = either-run (λ r. r ≡ afterLose s r) (loseRefusal s m) _ _ (λ r. refl) refl
+pub lose-leaves : (s : Run) (m : ℕ) → loseOutcome s m .run ≡ afterMessages s (loseOutcome s m .run)
+unfolding loseOutcome loseState withMessages afterMessages
+lose-leaves s m = either-run (λ r. r ≡ afterMessages s r) (loseRefusal s m) _ _ (λ r. refl) refl
 
 module _ (s : Run) (z : Sized s) (whole : sound s ≡ true) (i j : ℕ) where
   plain : receipts.Sized s
@@ -32,18 +32,18 @@ module _ (s : Run) (z : Sized s) (whole : sound s ≡ true) (i j : ℕ) where
   }
 
   -- The part of the sender is put back, with its mark set.
-  sent-leaves : i < s .count → sendState s i j ≡ afterSend s (sendState s i j)
-  unfolding sendState marked withMessages withMark afterSend
+  sent-leaves : i < s .count → sendState s i j ≡ afterMessages s (sendState s i j)
+  unfolding sendState marked withMessages withMark afterMessages
   sent-leaves lt =
       let after : Run → Run = λ r. withMessages r (underWay s ++ (sentMessage s i j ∷ [])) (s .last + 1) in
       let back : withProcess s i (marked (process s i)) ≡ withMark s i true = rows-back s whole plain i lt true in
-      ap after back ∙ sym (ap (λ (r : Run). afterSend s (after r)) back)
+      ap after back ∙ sym (ap (λ (r : Run). afterMessages s (after r)) back)
 
-  accepted : {A : Type 0} (o : Option Refusal) (a : Refusal → Outcome A) (b : Outcome A) → (o ≡ none → b .run ≡ afterSend s (b .run)) → ((r : Refusal) → a r .run ≡ afterSend s (a r .run))
-      → judged o a b .run ≡ afterSend s (judged o a b .run)
+  accepted : {A : Type 0} (o : Option Refusal) (a : Refusal → Outcome A) (b : Outcome A) → (o ≡ none → b .run ≡ afterMessages s (b .run)) → ((r : Refusal) → a r .run ≡ afterMessages s (a r .run))
+      → judged o a b .run ≡ afterMessages s (judged o a b .run)
   accepted none a b x y = x refl
   accepted (some r) a b x y = y r
 
-  pub send-leaves : sendOutcome s i j .run ≡ afterSend s (sendOutcome s i j .run)
-  unfolding sendOutcome afterSend
+  pub send-leaves : sendOutcome s i j .run ≡ afterMessages s (sendOutcome s i j .run)
+  unfolding sendOutcome afterMessages
   send-leaves = accepted (sendRefusal s i j) _ _ (λ e. sent-leaves (send-out s i j e .from)) (λ r. refl)

@@ -33,7 +33,7 @@ pub fn lose(s: Run, m: u32) -> LoseOutcome
     match answer {
         LoseAnswer::Refused(_) => {}
         LoseAnswer::Lost => {
-            run = read::read_lost(&w, run);
+            run = read::read_messages(&w, run);
         }
     }
     LoseOutcome { run, answer }

@@ -33,7 +33,7 @@ pub fn send(s: Run, i: usize, j: usize) -> SendOutcome
     match answer {
         SendAnswer::Refused(_) => {}
         SendAnswer::Sent(_) => {
-            run = read::read_sent(&w, run);
+            run = read::read_messages(&w, run);
         }
     }
     SendOutcome { run, answer }

@@ -6,7 +6,7 @@ use Rattle.model.specs.declared.{Checkpoint.Checkpoint, Message.Message, Disk.D
 use Rattle.model.specs.Words.{mostProcesses, mostUnderWay, zeroVector, noPins, noCheckpoint, noMessage, blank}
 use Rattle.words.specs.Layout.{word, wide2, wide4, countOf, keptCountAt, partAt, pinsAt, causeAt, vectorIn, pinsIn, markIn, checkpointIn, isKeptIn, keptIn, messagesIn, ofProcesses, decoded, fits, runOf}
 use Rattle.words.proofs.View.{run-fits, run-unfit, count-is, row-is}
-use Rattle.library_calls.specs.run_words.Readable.{Readable, afterSend, afterLose}
+use Rattle.library_calls.specs.run_words.Readable.{Readable, afterMessages}
 
 pub read-ends : (w : List ℕ) → Readable w → (vectors : Vectors) (pins : Pins) (sent : List Bool) (kept : Kept) (keptCount : List ℕ) (messages : List Message) (last : ℕ) (disk : Disk) (n many : ℕ)
     → vectors ≡ record { 0 = ofProcesses w (λ p. vectorIn w (partAt p)) zeroVector } → pins ≡ record { 0 = ofProcesses w (λ p. pinsIn w (pinsAt p)) noPins }
@@ -17,22 +17,17 @@ pub read-ends : (w : List ℕ) → Readable w → (vectors : Vectors) (pins : Pi
 unfolding decoded
 read-ends w r vectors pins sent kept keptCount messages last disk n many a b c d e f g h i j = rw (a, b, c, d, e, f, g, h, i, j) (sym (run-fits w (r .fit)))
 
--- The same after a send and after a loss, where the rest comes from the state before.
+-- The same after a send or a loss, where the rest comes from the state before.
 module _ (w : List ℕ) (s : Run) (r : Readable w) where
-  pub count-same : runOf w ≡ afterSend s (runOf w) → s .count ≡ countOf w
-  unfolding afterSend
+  pub count-same : runOf w ≡ afterMessages s (runOf w) → s .count ≡ countOf w
+  unfolding afterMessages
   count-same same = sym (ap (λ (x : Run). x .count) same) ∙ count-is w (r .fit)
 
-  pub sent-ends : runOf w ≡ afterSend s (runOf w) → (sent : List Bool) (messages : List Message) (last many : ℕ)
+  pub messages-ends : runOf w ≡ afterMessages s (runOf w) → (sent : List Bool) (messages : List Message) (last many : ℕ)
       → sent ≡ ofProcesses w (markIn w) false → messages ≡ placed mostUnderWay noMessage (messagesIn w) → last ≡ wide2 w 2 → many ≡ word w 1
       → record { count = s .count; vectors = s .vectors; pins = s .pins; sent = sent; kept = s .kept; «kept_count» = s .«kept_count»; messages = messages; underway = many; last = last; disk = s .disk } ≡ runOf w
-  unfolding decoded afterSend
-  sent-ends same sent messages last many a b c d = rw (a, b, c, d) (sym (same ∙ ap (afterSend s) (run-fits w (r .fit))))
-
-  pub lost-ends : runOf w ≡ afterLose s (runOf w) → (messages : List Message) (many : ℕ) → messages ≡ placed mostUnderWay noMessage (messagesIn w) → many ≡ word w 1
-      → record { count = s .count; vectors = s .vectors; pins = s .pins; sent = s .sent; kept = s .kept; «kept_count» = s .«kept_count»; messages = messages; underway = many; last = s .last; disk = s .disk } ≡ runOf w
-  unfolding decoded afterLose
-  lost-ends same messages many a b = rw (a, b) (sym (same ∙ ap (afterLose s) (run-fits w (r .fit))))
+  unfolding decoded afterMessages
+  messages-ends same sent messages last many a b c d = rw (a, b, c, d) (sym (same ∙ ap (afterMessages s) (run-fits w (r .fit))))
 
 -- Words are readable whose state has 1 to 16 processes and causes of 8 bits.
 module _ (w : List ℕ) (s : Run) (is : runOf w ≡ s) (some : 1 ≤ s .count) (few : s .count ≤ 16)

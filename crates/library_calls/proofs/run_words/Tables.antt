@@ -10,13 +10,18 @@ use Rattle.model.specs.{declared.Checkpoint.Checkpoint, declared.Message.Messag
 use Rattle.words.specs.Layout.{word, keptCountAt, indexAt, countOf, checkpointIn, isKeptIn, keptIn, messageIn, isMessage, ofProcesses}
 
 -- A row for each process.
-pub rows-of : {A : Type 0} (w : List ℕ) (n : ℕ) (part : ℕ → A) (unused : A) → n ≡ countOf w → n ≤ 16 → setBelow n part (replicate 16 unused) ≡ ofProcesses w part unused
-rows-of {A} w n part unused e few =
+rows-below : {A : Type 0} (w : List ℕ) (n : ℕ) (part : ℕ → A) (unused : A) → n ≡ countOf w → n ≤ 16 → setBelow n part (replicate 16 unused) ≡ ofProcesses w part unused
+rows-below {A} w n part unused e few =
     let long : length (replicate 16 unused) ≡ 16 = length-replicate 16 unused in
     table-is unused (setBelow n part (replicate 16 unused)) 16 (λ p. pick (ltb p (countOf w)) (part p) unused) (below-length part (replicate 16 unused) n ∙ long)
     (λ p lt. by-lt p n
     (λ less. below-at part (replicate 16 unused) n p unused less (omega (arith, long)) ∙ sym (ap (λ (b : Bool). pick b (part p) unused) (lt-ltb p (countOf w) (omega arith))))
     (λ le. below-above part (replicate 16 unused) n p unused le ∙ getD-replicate 16 p unused unused lt ∙ sym (ap (λ (b : Bool). pick b (part p) unused) (le-ltb p (countOf w) (omega arith)))))
+
+-- What a loop over the processes leaves of rows that were all the unused one.
+pub rows-of : {A : Type 0} (w : List ℕ) (n p : ℕ) (part : ℕ → A) (unused first : A) (rows : List A) → rows ≡ setBelow p part (replicate 16 first) → p ≡ n → first ≡ unused
+    → n ≡ countOf w → n ≤ 16 → rows ≡ ofProcesses w part unused
+rows-of w n p part unused first rows inv all none e few = rw (all, none) at inv ∙ rows-below w n part unused e few
 
 -- The kept checkpoints of the first q places, of all processes.
 module _ (w : List ℕ) where

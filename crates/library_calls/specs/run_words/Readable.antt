@@ -12,9 +12,9 @@ pub record Readable (w : List ℕ) : Type 0 where
   -- and a cause is a number of 8 bits.
   pub causes : (p k : ℕ) → p < countOf w → k < mostProcesses → isKeptIn w p k ≡ true → word w (causeAt p k) < 256
 
--- What a send and what a loss changes of a run s, taken from the run r after it.
-unfoldable pub afterSend : Run → Run → Run
-afterSend s r = record {
+-- What a send or a loss changes of a run s, taken from the run r after it.
+unfoldable pub afterMessages : Run → Run → Run
+afterMessages s r = record {
   count = s .count;
   vectors = s .vectors;
   pins = s .pins;
@@ -24,19 +24,5 @@ afterSend s r = record {
   messages = r .messages;
   underway = r .underway;
   last = r .last;
-  disk = s .disk;
-}
-
-unfoldable pub afterLose : Run → Run → Run
-afterLose s r = record {
-  count = s .count;
-  vectors = s .vectors;
-  pins = s .pins;
-  sent = s .sent;
-  kept = s .kept;
-  «kept_count» = s .«kept_count»;
-  messages = r .messages;
-  underway = r .underway;
-  last = s .last;
   disk = s .disk;
 }

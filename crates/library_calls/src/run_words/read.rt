@@ -12,7 +12,7 @@ ghost use Rattle.laws.specs.Basics.{_≡_, false, _+_, _≤_, _<_, length};
 ghost use Rattle.laws.specs.Lists.{placed};
 ghost use Rattle.model.specs.Words.{mostUnderWay, zeroVector, noPins, noMessage, mostProcesses};
 ghost use Rattle.words.specs.Layout.{word, wide4, countOf, endOf, keptCountAt, partAt, pinsAt, indexAt, causeAt, vectorIn, pinsIn, markIn, checkpointIn, isKeptIn, messageIn, messagesIn, ofProcesses, runOf, stateSize};
-ghost use Rattle.library_calls.specs.run_words.Readable.{Readable, afterSend, afterLose};
+ghost use Rattle.library_calls.specs.run_words.Readable.{Readable, afterMessages};
 
 fn pins_at(w: &[u16], at: usize) -> [Pin; PROCESSES]
     requires { ⌜ at + mostProcesses ≤ length (now w) ⌝ }
@@ -211,9 +211,9 @@ pub fn read(w: &[u16]) -> Run
     }
 }
 
-// What a send changes, read back: the sent marks, the messages and the last number. The rest comes from the state that the words were filled from.
-pub fn read_sent(w: &[u16], s: Run) -> Run
-    requires { ⌜ Readable (now w) × (runOf (now w) ≡ afterSend s (runOf (now w))) ⌝ }
+// What a send or a loss changes, read back: the sent marks, the messages and the last number. The rest comes from the state that the words were filled from.
+pub fn read_messages(w: &[u16], s: Run) -> Run
+    requires { ⌜ Readable (now w) × (runOf (now w) ≡ afterMessages s (runOf (now w))) ⌝ }
     ensures { λ r. ⌜ r ≡ runOf (now (w .entry)) ⌝ }
 {
     let sent = marks_of(w, s.count);
@@ -226,21 +226,6 @@ pub fn read_sent(w: &[u16], s: Run) -> Run
         messages,
         underway,
         last,
-        ..s
-    }
-}
-
-// What a loss changes, read back: the messages.
-pub fn read_lost(w: &[u16], s: Run) -> Run
-    requires { ⌜ Readable (now w) × (runOf (now w) ≡ afterLose s (runOf (now w))) ⌝ }
-    ensures { λ r. ⌜ r ≡ runOf (now (w .entry)) ⌝ }
-{
-    let end = number_of(w[places::END]);
-    let messages = messages_of(w, end);
-    let underway = number_of(w[places::UNDER_WAY]);
-    Run {
-        messages,
-        underway,
         ..s
     }
 }

@@ -7,7 +7,7 @@ use Rattle.model.specs.Sound.{sound}
 use Rattle.words.specs.Layout.{runOf}
 use Rattle.whole_runs.specs.Outcomes.{loseOutcome}
 use Rattle.whole_runs.proofs.{Unsound.lose-unsound, WholeRuns.lose-promise}
-use Rattle.library_calls.specs.run_words.Readable.{afterLose}
+use Rattle.library_calls.specs.run_words.Readable.{afterMessages}
 use Rattle.library_calls.proofs.{run_words.Sizes.sizes, Leaving.lose-leaves, lose.lose.Statement.statement}
 use Rattle.library_calls.proofs.Changing.{sound-small, small-readable, lose-small, over-unsound, within, says, stays, accepted}
 use Rattle.library_calls.proofs.lose.lose.Tie as tie
@@ -37,14 +37,14 @@ after c =
     let a = f .before .before .before .before .args in
     o .lose .ensures .0 ∙ ap (λ (x : Run). loseOutcome x (a .m) .run) (f .fill .ensures .1 (whole c))
 
-read-lost-requires : tie.Need-read-lost-requires
-read-lost-requires c κs =
+read-messages-requires : tie.Need-read-messages-requires
+read-messages-requires c κs =
     let t = c .before in
     let s = t .before .before .before .before .before .before .before .before .before .before in
     let a = s .args in
     let z = sizes (a .s) _ (s .good .0) in
     let run = after t in
-    (small-readable _ (loseOutcome (a .s) (a .m) .run) run (lose-small (a .s) (a .m) (sound-small (a .s) z (whole t))), run ∙ lose-leaves (a .s) (a .m) ∙ sym (ap (afterLose (a .s)) run))
+    (small-readable _ (loseOutcome (a .s) (a .m) .run) run (lose-small (a .s) (a .m) (sound-small (a .s) z (whole t))), run ∙ lose-leaves (a .s) (a .m) ∙ sym (ap (afterMessages (a .s)) run))
 
 answer-is : (o : tie.After-lose) → let a = o .before .before .before .before .before .before .before .args in o .lose .result ≡ loseOutcome (a .s) (a .m) .answer
 answer-is o =
@@ -65,12 +65,12 @@ returns-3 c =
     let t = c .before .before in
     let o = t .before .before .before in
     let a = o .before .before .before .before .before .before .before .args in
-    let run = c .read-lost .ensures ∙ after t in
-    (run, (answer-is o, lose-promise (a .s) (a .m) (c .read-lost .result) run))
+    let run = c .read-messages .ensures ∙ after t in
+    (run, (answer-is o, lose-promise (a .s) (a .m) (c .read-messages .result) run))
 
 pub lose-spec : {M : Type 1} → statement M
 lose-spec =
     tie.close
     (tie.spec (λ c κs. search needs) returns (λ c. search needs)
     (λ c κs. let e = c .before in let f = e .before in let h = within (f .before .args .s) _ (f .are-counts-fit .ensures) (e .if1 .left) in (search needs, h .0, h .1))
-    (λ c. search needs) (λ c κs. search needs) (λ c. search needs) (λ c. search needs) (λ c. search needs) read-lost-requires returns-2 returns-3)
+    (λ c. search needs) (λ c κs. search needs) (λ c. search needs) (λ c. search needs) (λ c. search needs) read-messages-requires returns-2 returns-3)

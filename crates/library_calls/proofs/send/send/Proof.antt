@@ -7,7 +7,7 @@ use Rattle.model.specs.Sound.{sound}
 use Rattle.words.specs.Layout.{runOf}
 use Rattle.whole_runs.specs.Outcomes.{sendOutcome}
 use Rattle.whole_runs.proofs.{Unsound.send-unsound, WholeRuns.send-promise}
-use Rattle.library_calls.specs.run_words.Readable.{afterSend}
+use Rattle.library_calls.specs.run_words.Readable.{afterMessages}
 use Rattle.library_calls.proofs.{run_words.Sizes.sizes, Leaving.send-leaves, send.send.Statement.statement}
 use Rattle.library_calls.proofs.Changing.{sound-small, small-readable, send-small, over-unsound, within, says, stays, accepted}
 use Rattle.library_calls.proofs.send.send.Tie as tie
@@ -37,14 +37,14 @@ after c =
     let a = f .before .before .before .before .args in
     o .send .ensures .0 ∙ ap (λ (x : Run). sendOutcome x (a .i) (a .j) .run) (f .fill .ensures .1 (whole c))
 
-read-sent-requires : tie.Need-read-sent-requires
-read-sent-requires c κs =
+read-messages-requires : tie.Need-read-messages-requires
+read-messages-requires c κs =
     let t = c .before in
     let s = t .before .before .before .before .before .before .before .before .before .before in
     let a = s .args in
     let z = sizes (a .s) _ (s .good .0) in
     let run = after t in
-    (small-readable _ (sendOutcome (a .s) (a .i) (a .j) .run) run (send-small (a .s) (a .i) (a .j) (sound-small (a .s) z (whole t))), run ∙ send-leaves (a .s) z (whole t) (a .i) (a .j) ∙ sym (ap (afterSend (a .s)) run))
+    (small-readable _ (sendOutcome (a .s) (a .i) (a .j) .run) run (send-small (a .s) (a .i) (a .j) (sound-small (a .s) z (whole t))), run ∙ send-leaves (a .s) z (whole t) (a .i) (a .j) ∙ sym (ap (afterMessages (a .s)) run))
 
 answer-is : (o : tie.After-send) → let a = o .before .before .before .before .before .before .before .args in o .send .result ≡ sendOutcome (a .s) (a .i) (a .j) .answer
 answer-is o =
@@ -65,12 +65,12 @@ returns-3 c =
     let t = c .before .before in
     let o = t .before .before .before in
     let a = o .before .before .before .before .before .before .before .args in
-    let run = c .read-sent .ensures ∙ after t in
-    (run, (answer-is o, send-promise (a .s) (a .i) (a .j) (c .read-sent .result) run))
+    let run = c .read-messages .ensures ∙ after t in
+    (run, (answer-is o, send-promise (a .s) (a .i) (a .j) (c .read-messages .result) run))
 
 pub send-spec : {M : Type 1} → statement M
 send-spec =
     tie.close
     (tie.spec (λ c κs. search needs) returns (λ c. search needs)
     (λ c κs. let e = c .before in let f = e .before in let h = within (f .before .args .s) _ (f .are-counts-fit .ensures) (e .if1 .left) in (search needs, h .0, h .1))
-    (λ c. search needs) (λ c κs. search needs) (λ c. search needs) (λ c. search needs) (λ c. search needs) read-sent-requires returns-2 returns-3)
+    (λ c. search needs) (λ c κs. search needs) (λ c. search needs) (λ c. search needs) (λ c. search needs) read-messages-requires returns-2 returns-3)

@@ -1,5 +1,5 @@
 -- `library_calls::run_words::read::kept_count_of` meets its contract. Assumes nothing.
-use Rattle.laws.specs.Basics.{_≡_, _∙_, _-_, _≤_, arith, needs}
+use Rattle.laws.specs.Basics.{_≡_, refl, _-_, _≤_, arith, needs}
 use Rattle.laws.specs.Loops.{setBelow, below-none, step-set}
 use Rattle.words.specs.Layout.{word, keptCountAt}
 use Rattle.library_calls.proofs.{run_words.Tables.rows-of, run_words.read.kept_count_of.Statement.statement}
@@ -21,8 +21,7 @@ returns : tie.Need-returns Inv-loop μ-loop
 returns c =
     let l = c .before .loop in
     let s = c .before .before .before in
-    let e : l .p ≡ s .args .n = omega arith in
-    rw e at (l .inv .1) ∙ rows-of (s .args .w .now) (s .args .n) (λ q. word (s .args .w .now) (keptCountAt q)) 0 (s .pre .1) (s .pre .2)
+    rows-of (s .args .w .now) (s .args .n) (l .p) (λ q. word (s .args .w .now) (keptCountAt q)) 0 _ _ (l .inv .1) (omega arith) refl (s .pre .1) (s .pre .2)
 
 pub kept-count-of-spec : {M : Type 1} → statement M
 kept-count-of-spec =

@@ -1,5 +1,5 @@
 -- `library_calls::run_words::read::marks_of` meets its contract. Assumes nothing.
-use Rattle.laws.specs.Basics.{_≡_, refl, _∙_, false, _-_, _≤_, arith, needs}
+use Rattle.laws.specs.Basics.{_≡_, refl, false, _-_, _≤_, arith, needs}
 use Rattle.laws.specs.Loops.{setBelow, below-none, step-set}
 use Rattle.words.specs.Layout.{markIn}
 use Rattle.library_calls.proofs.{run_words.Tables.rows-of, run_words.read.marks_of.Statement.statement}
@@ -22,8 +22,7 @@ returns : tie.Need-returns Inv-loop μ-loop
 returns c =
     let l = c .before .loop in
     let s = c .before .before in
-    let e : l .p ≡ s .args .n = omega arith in
-    rw e at (l .inv .1) ∙ rows-of (s .args .w .now) (s .args .n) (markIn (s .args .w .now)) false (s .pre .1) (s .pre .2)
+    rows-of (s .args .w .now) (s .args .n) (l .p) (markIn (s .args .w .now)) false _ _ (l .inv .1) (omega arith) refl (s .pre .1) (s .pre .2)
 
 pub marks-of-spec : {M : Type 1} → statement M
 marks-of-spec =

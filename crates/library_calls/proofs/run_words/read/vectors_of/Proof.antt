@@ -1,8 +1,7 @@
 -- `library_calls::run_words::read::vectors_of` meets its contract. Assumes nothing.
-use Rattle.laws.specs.Basics.{_≡_, _∙_, ap, List, _-_, _≤_, arith, replicate, needs}
+use Rattle.laws.specs.Basics.{_≡_, _-_, _≤_, arith, needs}
 use Rattle.laws.specs.Loops.{setBelow, below-none, step-set}
 use Rattle.words.specs.Layout.{partAt, vectorIn}
-use Rattle.model.specs.declared.Interval.{Interval}
 use Rattle.model.specs.Words.{zeroVector}
 use Rattle.library_calls.proofs.{run_words.Tables.rows-of, run_words.read.vectors_of.Statement.statement}
 use Rattle.library_calls.proofs.run_words.read.vectors_of.Tie as tie
@@ -24,10 +23,7 @@ returns c =
     let l = c .before .loop in
     let z = c .before .before in
     let s = z .before .before in
-    let e : l .p ≡ s .args .n = omega arith in
-    rw e at (l .inv .1)
-    ∙ ap (λ (v : List Interval). setBelow (s .args .n) (λ q. vectorIn (s .args .w .now) (partAt q)) (replicate 16 v)) (z .zero-vector .ensures)
-    ∙ rows-of (s .args .w .now) (s .args .n) (λ q. vectorIn (s .args .w .now) (partAt q)) zeroVector (s .pre .1) (s .pre .2)
+    rows-of (s .args .w .now) (s .args .n) (l .p) (λ q. vectorIn (s .args .w .now) (partAt q)) zeroVector _ _ (l .inv .1) (omega arith) (z .zero-vector .ensures) (s .pre .1) (s .pre .2)
 
 pub vectors-of-spec : {M : Type 1} → statement M
 vectors-of-spec =

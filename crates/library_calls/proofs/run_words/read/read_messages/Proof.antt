@@ -1,8 +1,8 @@
--- `library_calls::run_words::read::read_sent` meets its contract. Assumes nothing.
+-- `library_calls::run_words::read::read_messages` meets its contract. Assumes nothing.
 use Rattle.laws.specs.Basics.{_≡_, arith, length, needs}
 use Rattle.words.proofs.View.{fits-size, fits-end, end-most}
-use Rattle.library_calls.proofs.{run_words.ReadOut.count-same, run_words.ReadOut.sent-ends, run_words.read.read_sent.Statement.statement}
-use Rattle.library_calls.proofs.run_words.read.read_sent.Tie as tie
+use Rattle.library_calls.proofs.{run_words.ReadOut.count-same, run_words.ReadOut.messages-ends, run_words.read.read_messages.Statement.statement}
+use Rattle.library_calls.proofs.run_words.read.read_messages.Tie as tie
 
 -- How many words there are.
 sized : (c : tie.Start) → length (c .args .w .now) ≡ 6464
@@ -32,10 +32,10 @@ returns c =
     let firstMessages = two .before in
     let marks = firstMessages .before .before .before in
     let s = marks .before .before in
-    sent-ends (s .args .w .now) (s .args .s) (s .pre .0) (s .pre .1) _ _ _ _ (marks .marks-of .ensures) (firstMessages .messages-of .ensures) (two .wide2 .ensures) (many .number-of2 .ensures)
+    messages-ends (s .args .w .now) (s .args .s) (s .pre .0) (s .pre .1) _ _ _ _ (marks .marks-of .ensures) (firstMessages .messages-of .ensures) (two .wide2 .ensures) (many .number-of2 .ensures)
 
-pub read-sent-spec : {M : Type 1} → statement M
-read-sent-spec =
+pub read-messages-spec : {M : Type 1} → statement M
+read-messages-spec =
     tie.close
     (tie.spec marks-of-requires (λ c. let e = sized (c .before .before .before) in omega arith) (λ c κs. search needs) messages-of-requires wide2-requires
     underway-read (λ c κs. search needs) returns)
