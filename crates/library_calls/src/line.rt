@@ -27,8 +27,9 @@ pub fn line(s: Run, failed: u16, line: &mut [u16]) -> LineOutcome
         let answer = LineAnswer::Refused(Refusal::UnsoundState);
         return LineOutcome { run: s, answer };
     }
+    let run = s;
     let mut w = [0u16; WORDS];
-    fill::fill(&mut w, s);
+    fill::fill(&mut w, run);
     let answer = in_place::line::line(&w, failed as u32, line);
-    LineOutcome { run: s, answer }
+    LineOutcome { run, answer }
 }
