@@ -76,7 +76,7 @@ pub enum Column {
     Blocks,
 }
 
-fn report_failure(c: Checkpoint, column: Column) -> u64 {
+fn told(c: Checkpoint, column: Column) -> u64 {
     match column {
         Column::Index => {
             let index = c.index;
@@ -92,7 +92,7 @@ fn stored(row: [Checkpoint; PROCESSES], kept_count: usize, column: Column)
 {
     for k in 0..kept_count {
         let c = row[k];
-        say::value(report_failure(c, column));
+        say::value(told(c, column));
     }
     say::end();
 }

@@ -1,4 +1,4 @@
--- `exam::facts::named` meets its contract. Assumes nothing.
+-- `exam::facts::pin_row` meets its contract. Assumes nothing.
 use Rattle.laws.specs.Basics.{_-_, needs}
 use Rattle.exam.proofs.facts.pin_row.Statement.{statement}
 use Rattle.exam.proofs.facts.pin_row.Tie as tie
