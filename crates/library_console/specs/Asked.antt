@@ -1,4 +1,4 @@
--- Document 02, Note 13, for callers who give the number of a role and lend words: who asks, and what each call's outcome then is, by the definitions of the crate roles.
+-- Document 02, Note 13, for callers who give the number of a role and lend words: who asks, and what each call's outcome then is, by the definitions of `theory_roles`.
 -- Assumes nothing.
 use Rattle.laws.specs.Basics.{_≡_, Bool, true, false, List, [], ℕ, _≤_, eqb, length, pick}
 use Rattle.model.specs.declared.{Run.Run, Named.Named, Refusal.the-variants.Denied, StartAnswer.StartAnswer, CheckpointAnswer.CheckpointAnswer}

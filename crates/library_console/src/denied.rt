@@ -45,10 +45,7 @@ pub fn claim_of(role: u32) -> Claim
 fn has_bit(set: u32, p: usize) -> bool
     ensures { λ r. ⌜ r ≡ inSet set p ⌝ }
 {
-    let mut left = set;
-    for k in 0..p {
-        left = left / 2;
-    }
+    let left = admissions::above(set, p);
     left % 2 == 1
 }
 

@@ -1,6 +1,6 @@
 -- What a record does to the tables and to the progress of the reading.
 -- Assumes nothing.
-use Rattle.laws.specs.Basics.{_≡_, refl, sym, _∙_, ap, Bool, true, false, not, _&&_, false≢true, List, [], _∷_, Option, none, some, ℕ, zero, suc, _+_, _-_, _≤_, _<_, arith, eqb, ltb, leb, length, getD, set, replicate, length-set, length-replicate, getD-replicate, getD-set-same, getD-set-other, eq-eqb, ne-eqb, lt-ltb, ltb-true, le-leb, lt-leb, pick, by-bool, by-eq}
+use Rattle.laws.specs.Basics.{_≡_, refl, sym, _∙_, ap, Bool, true, false, not, _&&_, false≢true, List, [], _∷_, Option, none, some, ℕ, zero, suc, _+_, _-_, _≤_, _<_, arith, eqb, ltb, leb, length, getD, set, replicate, length-set, length-replicate, getD-replicate, getD-set-same, getD-set-other, eq-eqb, ne-eqb, lt-ltb, ltb-true, le-leb, lt-leb, not-true, not-false, pick, by-bool, by-eq}
 use Rattle.theory_patterns.specs.Patterns.{mostJudged}
 use Rattle.model.specs.{declared.Interval.Interval, declared.Refusal.Refusal, Steps.advanced, Steps.takenVector, Steps.started}
 use Rattle.model.specs.declared.Refusal.the-variants.{NoSuchProcess, NotUnderWay, IntervalsUsed}
@@ -196,11 +196,7 @@ module _ (passing : List ℕ) (last : ℕ) where
       (λ a. rw a (λ e. absurd (false≢true e)))
 
 pub is-found : (f g : Found) → f ≡ g → not (f .found) ≡ false → g .found ≡ true
-is-found f g e t = ap (λ (x : Found). x .found) (sym e) ∙ on (f .found) t
-  where
-    on : (b : Bool) → not b ≡ false → b ≡ true
-    on true t = refl
-    on false t = absurd (false≢true (sym t))
+is-found f g e t = ap (λ (x : Found). x .found) (sym e) ∙ not-false (f .found) t
 
 pub place-low : (f : Found) (passing : List ℕ) (last m : ℕ) → f ≡ foundIn passing last m → not (f .found) ≡ false → f .place < last
 place-low f passing last m e t = omega (arith, found-low passing last m (is-found f _ e t), ap (λ (x : Found). x .place) e)
@@ -223,19 +219,11 @@ one-less s e = ap (λ (u : ℕ). record { rows = s .rows; current = s .current; 
 module _ (s : Progress) (f g : Found) (is : f ≡ g) (passing : List ℕ) where
   pub drop-none : not (f .found) ≡ true → (refusedStep NotUnderWay s ≡ dropStep s g) × (passing ≡ dropPassing g passing)
   unfolding dropStep dropPassing
-  drop-none t = let e : g .found ≡ false = ap (λ (x : Found). x .found) (sym is) ∙ is-off (f .found) t in (rw e, rw e)
-    where
-      is-off : (b : Bool) → not b ≡ true → b ≡ false
-      is-off true t = absurd (false≢true t)
-      is-off false t = refl
+  drop-none t = let e : g .found ≡ false = ap (λ (x : Found). x .found) (sym is) ∙ not-true (f .found) t in (rw e, rw e)
 
   pub drop-one : not (f .found) ≡ false → (takenStep (withoutOne s) ≡ dropStep s g) × (set passing (f .place) 0 ≡ dropPassing g passing)
   unfolding dropStep dropPassing
-  drop-one t = let e : g .found ≡ true = ap (λ (x : Found). x .found) (sym is) ∙ is-on (f .found) t in (rw e, rw (e, is))
-    where
-      is-on : (b : Bool) → not b ≡ false → b ≡ true
-      is-on true t = refl
-      is-on false t = absurd (false≢true (sym t))
+  drop-one t = let e : g .found ≡ true = ap (λ (x : Found). x .found) (sym is) ∙ not-false (f .found) t in (rw e, rw (e, is))
 
 -- A delivery. Its tables have the rows that it names.
 pub record DeliverRoom (s : Progress) (m : ℕ) (vectors carried passing to : List ℕ) : Type 0 where
@@ -266,11 +254,7 @@ deliverTo s f to = pick (f .found) (set to (f .place) (getD (s .current) (f .rec
 module _ (s : Progress) (f g : Found) (is : f ≡ g) (vectors carried to : List ℕ) where
   pub deliver-none : not (f .found) ≡ true → (vectors ≡ deliverVectors s g carried vectors) × (to ≡ deliverTo s g to)
   unfolding deliverVectors deliverTo
-  deliver-none t = let e : g .found ≡ false = ap (λ (x : Found). x .found) (sym is) ∙ is-off (f .found) t in (rw e, rw e)
-    where
-      is-off : (b : Bool) → not b ≡ true → b ≡ false
-      is-off true t = absurd (false≢true t)
-      is-off false t = refl
+  deliver-none t = let e : g .found ≡ false = ap (λ (x : Found). x .found) (sym is) ∙ not-true (f .found) t in (rw e, rw e)
 
   pub deliver-one : not (f .found) ≡ false
       → (receiptVectors vectors (getD (s .current) (f .receiver) 0) (rowOf carried (f .place)) ≡ deliverVectors s g carried vectors)

@@ -1,6 +1,6 @@
 -- A trace that is read to its end leaves a pattern whose processes are among n and whose messages have the numbers 1 to the number of sends.
 -- Assumes nothing.
-use Rattle.laws.specs.Basics.{_≡_, refl, sym, _∙_, ap, Bool, true, false, not, false≢true, List, [], _∷_, Option, none, some, inl, inr, ℕ, zero, suc, _+_, _/_, _<_, arith, ltb, leb, length, leb-false, by-bool, by-eq}
+use Rattle.laws.specs.Basics.{_≡_, sym, _∙_, ap, true, false, false≢true, List, [], _∷_, Option, none, some, inl, inr, ℕ, zero, suc, _+_, _/_, _<_, arith, ltb, leb, length, leb-false, not-false, by-bool, by-eq}
 use Rattle.laws.specs.{Truth.or-none, Update.upd, Update.upd-same, Update.upd-other}
 use Rattle.model.specs.declared.{Event.Event, Refusal.Refusal}
 use Rattle.model.specs.declared.Event.the-variants.{Checkpoint, Send, Deliver, Lose, Recover}
@@ -60,10 +60,6 @@ placed-empty n = record {
   };
   waiting = λ m e. absurd (false≢true e);
 }
-
-on : (b : Bool) → not b ≡ false → b ≡ true
-on true e = refl
-on false e = absurd (false≢true (sym e))
 
 module _ (n : ℕ) (t : Pattern) (h : Placed n t) where
   abbrev Place : ℕ → ℕ → Type 0
@@ -131,7 +127,7 @@ module _ (n : ℕ) (t : Pattern) (h : Placed n t) where
   placed-taken (some (Send i j)) free =
       let w = or-none (leb n i) (leb n j) (no-rule _ free 0) in
       placed-send i j (leb-false n i (w .0)) (leb-false n j (w .1))
-  placed-taken (some (Deliver m)) free = placed-deliver m (on (t .underway m) (no-rule _ free 0))
+  placed-taken (some (Deliver m)) free = placed-deliver m (not-false (t .underway m) (no-rule _ free 0))
   placed-taken (some (Lose m)) free = placed-lose m
   placed-taken (some (Recover F)) free = not-some _ free
 

@@ -1,6 +1,6 @@
 -- What an owner's list, checkpoints, deliveries, losses, sends and lines depend on.
 -- Assumes nothing.
-use Rattle.laws.specs.Basics.{_≡_, refl, sym, _∙_, ap, Bool, true, false, not, _&&_, _||_, List, [], _∷_, Option, none, some, ℕ, _*_, eqb, ltb, leb, length, pick, by-bool}
+use Rattle.laws.specs.Basics.{_≡_, refl, sym, _∙_, ap, Bool, true, false, not, _&&_, _||_, List, [], _∷_, Option, none, some, ℕ, _*_, eqb, ltb, leb, length, not-false, pick, by-bool}
 use Rattle.laws.specs.{Lists.gather, Tables.gather-same, Truth.never-both}
 use Rattle.model.specs.declared.{Run.Run, Interval.Interval, Message.Message, Refusal.Refusal}
 use Rattle.model.specs.declared.Refusal.the-variants.{UnsoundState, ListTooShort, NoSuchProcess, SenderIsReceiver, NotUnderWay, TooManyUnderWay, MessageNumbersUsed, IntervalsUsed, BlocksUsed}
@@ -103,13 +103,9 @@ both-short : (s t : Run) (lent : List ℕ) → s .count ≡ t .count → shortDe
 both-short s t lent e = ap (λ (n : ℕ). ltb (length lent) (2 * n * n)) e
 
 -- What is not denied an owner is its own.
-not-denied : (b : Bool) → not b ≡ false → b ≡ true
-not-denied true e = refl
-not-denied false e = never-both true refl e
-
 owned-process : (owned : ℕ) (s : Run) (i : ℕ) → deniedProcess (owner owned) s Checkpointing i ≡ false → owns owned (s .count) i ≡ true
 unfolding deniedProcess entitled entitledBy may
-owned-process owned s i e = not-denied (owns owned (s .count) i) e
+owned-process owned s i e = not-false (owns owned (s .count) i) e
 
 -- A checkpoint goes by the vector, the pins and what is kept.
 abbrev unmarked : Process → Process
@@ -224,7 +220,7 @@ deliver-meets s m lent x e = rw e
 -- A message that is not denied an owner is under way to one of its own processes.
 owned-message : (owned : ℕ) (s : Run) (m : ℕ) → deniedMessage (owner owned) s Deliver m ≡ false → (x : Message) × (found s m ≡ some x) × (owns owned (s .count) (x .receiver) ≡ true)
 unfolding deniedMessage entitledMessage may
-owned-message owned s m e = by-message (found s m) refl (not-denied (entitledMessageBy JobOwner owned (s .count) (found s m)) e)
+owned-message owned s m e = by-message (found s m) refl (not-false (entitledMessageBy JobOwner owned (s .count) (found s m)) e)
   where
     by-message : (o : Option Message) → found s m ≡ o → entitledMessageBy JobOwner owned (s .count) o ≡ true → (x : Message) × (found s m ≡ some x) × (owns owned (s .count) (x .receiver) ≡ true)
     by-message none d e = unfold entitledMessageBy in never-both false e refl

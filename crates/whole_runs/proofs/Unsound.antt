@@ -1,6 +1,6 @@
 -- A state that is not sound is refused with 2 by every call, before any other number: the state, the answer and the lent lists then.
 -- Assumes nothing.
-use Rattle.laws.specs.Basics.{_≡_, refl, sym, _∙_, Bool, true, false, not, List, ℕ}
+use Rattle.laws.specs.Basics.{_≡_, refl, sym, _∙_, Bool, true, false, not, List, ℕ, not-true, not-false}
 use Rattle.model.specs.{declared.Named.Named, declared.Run.Run, declared.Refusal.the-variants.UnsoundState, Sound.sound}
 use Rattle.model.specs.Refusals.{firstOf, checkpointRefusal, sendRefusal, deliverRefusal, loseRefusal, lineRefusal, recoverRefusal}
 use Rattle.whole_runs.specs.Earliest.{earliestRefusal, earliestOutcome}
@@ -13,19 +13,11 @@ use Rattle.model.specs.declared.LineAnswer.the-variants as line-answer
 use Rattle.model.specs.declared.RecoverAnswer.the-variants as recover-answer
 
 -- What a test of soundness and the branch that was taken say of the state.
-negated : (b : Bool) → not b ≡ true → b ≡ false
-negated true e = sym e
-negated false e = refl
-
-affirmed : (b : Bool) → not b ≡ false → b ≡ true
-affirmed true e = refl
-affirmed false e = sym e
-
 pub is-unsound : (s : Run) {judged : Bool} → judged ≡ sound s → not judged ≡ true → sound s ≡ false
-is-unsound s {judged} e t = sym e ∙ negated judged t
+is-unsound s e t = sym e ∙ not-true _ t
 
 pub is-sound : (s : Run) {judged : Bool} → judged ≡ sound s → not judged ≡ false → sound s ≡ true
-is-sound s {judged} e t = sym e ∙ affirmed judged t
+is-sound s e t = sym e ∙ not-false _ t
 
 module _ (s : Run) (h : sound s ≡ false) where
   pub checkpoint-unsound : (i : ℕ) (deleted : List ℕ) → (s ≡ checkpointOutcome s i deleted .run)

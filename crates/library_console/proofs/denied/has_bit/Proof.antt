@@ -1,25 +1,7 @@
--- `library_console::denied::has_bit` meets its contract. The loop's invariant: what is left of the set is its bits from k on.
--- Assumes nothing.
-use Rattle.laws.specs.Basics.{_≡_, ap, ℕ, _-_, _/_, _%_, _^_, _≤_, arith, eqb, needs}
-use Rattle.laws.specs.Bits.{bits-all, bits-next}
+-- `library_console::denied::has_bit` meets its contract. Assumes nothing.
+use Rattle.laws.specs.Basics.{ap, ℕ, _%_, eqb, needs}
 use Rattle.library_console.proofs.denied.has_bit.Statement.{statement}
 use Rattle.library_console.proofs.denied.has_bit.Tie as tie
 
-abbrev Inv-loop : tie.InvT-loop
-Inv-loop set p left₀ k₀ left k = (k ≤ p) × (left ≡ set / (2 ^ k))
-
-abbrev μ-loop : tie.MeasureT-loop
-μ-loop set p left₀ k₀ left k = p - k
-
-loop-again : tie.Need-loop-again Inv-loop μ-loop
-loop-again c = (search needs, bits-next (c .before .before .args .set) (c .before .loop .k) _ (c .before .loop .inv .1))
-
-returns : tie.Need-returns Inv-loop μ-loop
-returns c =
-    let l = c .before .loop in
-    let a = c .before .before .args in
-    let e : l .k ≡ a .p = omega arith in
-    ap (λ (x : ℕ). eqb (x % 2) 1) (rw e at (l .inv .1))
-
 pub has-bit-spec : {M : Type 1} → statement M
-has-bit-spec = tie.close (tie.spec Inv-loop μ-loop (λ c. (search needs, bits-all _)) (λ c. search needs) (λ c. search needs) loop-again returns)
+has-bit-spec = tie.close (tie.spec (λ c κs. search needs) (λ c. search needs) (λ c. ap (λ (x : ℕ). eqb (x % 2) 1) (c .above .ensures)))
