@@ -10,6 +10,7 @@ pub mod Front
 pub mod Lists
 pub mod Loops
 pub mod Members
+pub mod Options
 pub mod Prefixes
 pub mod Ranges
 pub mod Rows
