@@ -1,11 +1,11 @@
 -- The numbers of a state, and the states that they stand for.
 -- Assumes nothing.
 use Rattle.laws.specs.Basics.{_≡_, refl, sym, _∙_, ap, true, false, List, [], _∷_, ℕ, _+_, _≤_, _<_, arith, eqb, length, getD, take, length-take-le, eq-eqb, ne-eqb, lt-ltb, le-ltb, le-leb, by-bool}
-use lib.Seq.{length-sets, take-take}
+use lib.Seq.{take-take}
 use Rattle.model.specs.declared.Run.{Run}
 use Rattle.model.specs.Refusals.{number}
 use Rattle.listing.specs.Printed.{Printed}
-use Rattle.machines.proofs.programs.Texts.{front-text}
+use Rattle.machines.proofs.programs.Texts.{front-text, front-inside}
 use Rattle.words.specs.Layout.{runOf}
 use Rattle.machines.specs.Machines.{Answer, stepped}
 use Rattle.machine_console.specs.{Made.madeOn, Made.opened, Text.firstCall, Text.lineText, Text.callText, Text.refusedText, Text.refusedAt, Replied.Makes}
@@ -17,9 +17,6 @@ pub bounds : (m : Marks) (out : ℕ) → m .done ≤ mostDone (m .phase) → m .
 unfolding inBounds
 bounds m out a b c = rw (le-leb (m .done) (mostDone (m .phase)) a, le-leb (m .kept) 7 b, le-leb (m .size) out c) refl
 
-pub printed-inside : (out text out′ : List ℕ) (size : ℕ) → size ≤ length out → Printed out 0 text out′ size → size ≤ length out′
-printed-inside out text out′ size h p = omega (arith, h, ap (λ (x : List ℕ). length x) (p .holds), length-sets out 0 text)
-
 module _ (words input : List ℕ) where
   -- A phase in which nothing is counted.
   pub arrives-at : (phase : ℕ) (out : List ℕ) → let m : Marks = record { phase = phase; done = 0; kept = 0; size = 0 } in Arrives m words input out (stateIn m words input out)
@@ -29,7 +26,7 @@ module _ (words input : List ℕ) where
   pub arrives-text : (phase : ℕ) (state : List ℕ → State) (out text out′ : List ℕ) (size : ℕ) → size ≤ length out → Printed out 0 text out′ size
       → let m : Marks = record { phase = phase; done = 0; kept = 0; size = size } in stateIn m words input out′ ≡ state (take size out′) → Arrives m words input out′ (state text)
   arrives-text phase state out text out′ size h p is = record {
-    bounds = bounds _ (length out′) (omega arith) (omega arith) (printed-inside out text out′ size h p);
+    bounds = bounds _ (length out′) (omega arith) (omega arith) (front-inside out text out′ size p h);
     state = is ∙ ap state (front-text out text out′ size p h);
   }
 

@@ -5,7 +5,7 @@ use Rattle.laws.specs.Tests.{some-of}
 use native.Mathlib.Numerals.{add-one}
 use Rattle.model.specs.declared.{Run.Run, Refusal.the-variants.NoFirstByte, Refusal.the-variants.LeftOverBytes}
 use Rattle.machines.specs.Machines.{Request, Read, Write, Answer, Bytes, End, Done, Failed, Exchange, heard, heardRead, heardDone, stepped, exchanged, stateAfter, exchanges, written, errorText, writtenOf, errorTextOf, brought, readBy, readOf, gathered, isEnd, endMet, failed, failure, requestsOf}
-use Rattle.machines.proofs.{Runs.throughout, Runs.written-is, Runs.error-text-is, Runs.stops, Answers.by-read, Answers.by-done}
+use Rattle.machines.proofs.{Runs.throughout, Runs.written-is, Runs.error-text-is, Runs.stops, Answers.by-read, Answers.by-done, Leading.read-size}
 use Rattle.machines.proofs.Reporting.{Account, printedIn, more, reads, ends, writes, same-read, same-end, Fine, InWriting, InFailing, InStopped, fine-on, failed-read, failed-write, done-write, after-fail, after-stop, fine-says, failing-says}
 use Rattle.machine_console.specs.Made.{madeOn, opened}
 use Rattle.machine_console.specs.Text.{firstCall, callText, lineText, refusedText, refusedAt, callLines, runAfter, leftOver, linesOf, factsOf}
@@ -313,9 +313,6 @@ says-in (Ending line) talk h = fine-says account talk (h .quiet)
 says-in (Failing name) talk h = failing-says account name talk h
 says-in Stopped talk h = append-nil (errorTextOf (requestsOf talk)) ∙ h .why
 
-same-most : (n most : ℕ) → Read n ≡ Read most → n ≡ most
-same-most n most e = cc
-
 abbrev ReadsRight : List Exchange → ℕ → Type 0
 ReadsRight talk most = (endMet talk ≡ false) × (isOpen (readOf talk) ≡ true) × (failures talk ≡ []) × (length (readOf talk) + most ≤ 1 + 8 * mostCalls)
 
@@ -324,11 +321,11 @@ within front buffered done most all a b c d e = omega arith
 
 reads-in : (s : State) (talk : List Exchange) (most : ℕ) → Holds s talk → ask s ≡ Read most → ReadsRight talk most
 unfolding ask isOpen
-reads-in Opening talk most h e = (h .quiet .unended, rw (h .none), h .quiet .fine .fine, rw (h .none) (omega (arith, same-most _ _ e)))
+reads-in Opening talk most h e = (h .quiet .unended, rw (h .none), h .quiet .fine .fine, rw (h .none) (omega (arith, read-size _ _ e)))
 reads-in (Reading b) talk most h e =
     let r = h .reads in
     let all : length (readOf talk) ≡ 1 + (length (r .front) + length (b .buffered)) = ap length (r .read) ∙ omega (arith, length-append (r .front) (b .buffered)) in
-    (h .quiet .unended, rw (r .read) (r .starts), h .quiet .fine .fine, within (length (r .front)) (length (b .buffered)) (b .done) most (length (readOf talk)) (r .whole) (r .short) (same-most _ _ e) (h .more) all)
+    (h .quiet .unended, rw (r .read) (r .starts), h .quiet .fine .fine, within (length (r .front)) (length (b .buffered)) (b .done) most (length (readOf talk)) (r .whole) (r .short) (read-size _ _ e) (h .more) all)
 reads-in (Printing line b) talk most h e = absurd (let z : _≡_ {A = ℕ} 0 1 = cc in omega arith)
 reads-in (Ending line) talk most h e = absurd (let z : _≡_ {A = ℕ} 0 1 = cc in omega arith)
 reads-in (Failing name) talk most h e = absurd (let z : _≡_ {A = ℕ} 0 1 = cc in omega arith)

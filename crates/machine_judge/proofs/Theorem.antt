@@ -3,7 +3,7 @@
 use Rattle.laws.specs.Basics.{_≡_, refl, sym, _∙_, ap, Bool, false, _||_, List, [], _∷_, _++_, append-nil, ℕ, _+_, _≤_, arith, length, pick, by-bool}
 use Rattle.laws.specs.Tests.{some-of}
 use Rattle.machines.specs.Machines.{Read, Write, Answer, Bytes, End, Exchange, heard, heardRead, heardDone, stepped, exchanged, stateAfter, exchanges, written, errorText, writtenOf, errorTextOf, brought, readBy, readOf, gathered, isEnd, endMet, failed, failure, requestsOf}
-use Rattle.machines.proofs.{Runs.throughout, Runs.written-is, Runs.error-text-is, Runs.stops, Answers.by-read, Answers.by-done}
+use Rattle.machines.proofs.{Runs.throughout, Runs.written-is, Runs.error-text-is, Runs.stops, Answers.by-read, Answers.by-done, Leading.read-size}
 use Rattle.machines.proofs.Reporting.{Account, printedIn, more, reads, ends, writes, same-read, shownIn, Fine, InWriting, InFailing, InStopped, fine-on, failed-read, failed-write, done-write, after-fail, after-stop, fine-says, failing-says}
 use Rattle.theory_patterns.specs.Verdicts.{verdict}
 use Rattle.machine_judge.specs.Text.{verdictText}
@@ -113,15 +113,12 @@ says-in (Printing line) talk h = fine-says account talk (h .quiet)
 says-in (Failing name) talk h = failing-says account name talk h
 says-in Stopped talk h = append-nil (errorTextOf (requestsOf talk)) ∙ h .why
 
-same-most : (n most : ℕ) → Read n ≡ Read most → n ≡ most
-same-most n most e = cc
-
 reads-in : (s : State) (talk : List Exchange) (most : ℕ) → Holds s talk → ask s ≡ Read most
     → (isWhole talk ≡ false) × (failures talk ≡ []) × (length (readOf talk) + most ≤ mostRead)
 unfolding ask
 reads-in (Reading trace) talk most h e =
     let short = unsettled-short trace (h .unsettled) in
-    (rw (h .unended, h .all, h .unsettled), h .quiet .fine, rw (h .all) (omega (arith, same-most _ _ e, wanted-fits (length trace) (omega (arith, short)))))
+    (rw (h .unended, h .all, h .unsettled), h .quiet .fine, rw (h .all) (omega (arith, read-size _ _ e, wanted-fits (length trace) (omega (arith, short)))))
 reads-in (Printing line) talk most h e = absurd (let z : _≡_ {A = ℕ} 0 1 = cc in omega arith)
 reads-in (Failing name) talk most h e = absurd (let z : _≡_ {A = ℕ} 0 1 = cc in omega arith)
 reads-in Stopped talk most h e = absurd (let z : _≡_ {A = ℕ} 0 1 = cc in omega arith)

@@ -1,11 +1,10 @@
 -- The numbers of a state, and the states that they stand for.
 -- Assumes nothing.
 use Rattle.laws.specs.Basics.{_≡_, refl, sym, _∙_, ap, true, false, List, [], _∷_, ℕ, _+_, _≤_, _<_, arith, eqb, length, take, length-take-le, lt-ltb, le-ltb, le-leb, by-bool}
-use lib.Seq.{length-sets}
 use Rattle.model.specs.Refusals.{number}
 use Rattle.whole_runs.specs.Listing.{mostRecords}
 use Rattle.listing.specs.Printed.{Printed}
-use Rattle.machines.proofs.programs.Texts.{front-text}
+use Rattle.machines.proofs.programs.Texts.{front-text, front-inside}
 use Rattle.machines.specs.Machines.{Answer, stepped}
 use Rattle.machine_record.specs.declared.marks.Marks.{Marks}
 use Rattle.machine_record.specs.{Recorded.refusedLine, Recorded.endLine, Played.blockLines, Lent.inBounds, Lent.positionOf, Lent.stateIn, Lent.Arrives}
@@ -14,9 +13,6 @@ use Rattle.machine_record.specs.Machine.{Position, State, writing, repor
 pub bounds : (m : Marks) (out : ℕ) → m .left ≤ 4000000001 → m .done ≤ mostRecords → m .kept ≤ 3 → m .size ≤ out → m .pending ≤ blockLines → inBounds m out ≡ true
 unfolding inBounds
 bounds m out a b c d e = rw (le-leb (m .left) 4000000001 a, le-leb (m .done) mostRecords b, le-leb (m .kept) 3 c, le-leb (m .size) out d, le-leb (m .pending) blockLines e) refl
-
-pub printed-inside : (out text out′ : List ℕ) (size : ℕ) → size ≤ length out → Printed out 0 text out′ size → size ≤ length out′
-printed-inside out text out′ size h p = omega (arith, h, ap (λ (x : List ℕ). length x) (p .holds), length-sets out 0 text)
 
 module _ (words input lines : List ℕ) where
   -- A phase in which nothing is counted but the bytes of the buffer.
@@ -29,7 +25,7 @@ module _ (words input lines : List ℕ) where
       → let m : Marks = record { phase = phase; left = 0; done = 0; kept = 0; size = size; pending = 0 } in
       stateIn m words input out′ lines ≡ state (take size out′) → Arrives m words input out′ lines (state text)
   arrives-text phase state out text out′ size h p is = record {
-    bounds = bounds _ (length out′) (omega arith) (omega arith) (omega arith) (printed-inside out text out′ size h p) (omega arith);
+    bounds = bounds _ (length out′) (omega arith) (omega arith) (omega arith) (front-inside out text out′ size p h) (omega arith);
     state = is ∙ ap state (front-text out text out′ size p h);
   }
 
@@ -63,7 +59,7 @@ module _ (words input lines : List ℕ) where
       let many : length (take (m .pending) lines) ≡ m .pending = length-take-le (m .pending) lines d in
       let fits : size ≤ length out = omega (arith, many, e, p .next-place) in
       record {
-        bounds = bounds _ (length out′) a b c (printed-inside out (take (m .pending) lines) out′ size fits p) (omega arith);
+        bounds = bounds _ (length out′) a b c (front-inside out (take (m .pending) lines) out′ size p fits) (omega arith);
         state = ap (λ (x : List ℕ). reporting x (positionOf m words input)) (front-text out (take (m .pending) lines) out′ size p fits) ∙ sym (some-to-report (take (m .pending) lines) (positionOf m words input) (λ h. some (sym many ∙ h)));
       }
 

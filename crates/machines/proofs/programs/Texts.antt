@@ -28,10 +28,13 @@ front-text out text after written printed fits =
     ap (take written) (printed .holds ∙ written-front out text (omega (arith, printed .next-place)))
     ∙ take-at text (drop (length text) out) written (omega (arith, printed .next-place))
 
+pub front-inside : (out text after : List ℕ) (written : ℕ) → Printed out 0 text after written → written ≤ length out → written ≤ length after
+front-inside out text after written printed fits = omega (arith, fits, ap length (printed .holds), length-sets out 0 text)
+
 -- The same of a text that fits.
 module _ (out text after : List ℕ) (size : ℕ) (fits : length text ≤ length out) (p : Printed out 0 text after size) where
   pub printed-inside : size ≤ length after
-  printed-inside = omega (arith, p .next-place, ap length (p .holds), length-sets out 0 text, fits)
+  printed-inside = front-inside out text after size p (omega (arith, p .next-place, fits))
 
   pub printed-front : take size after ≡ text
   printed-front = front-text out text after size p (omega (arith, p .next-place, fits))
