@@ -47,7 +47,7 @@ module _ {M : Type 1} (𝓤 : URA M) (H : Heap 𝓤) (A : Atoms 𝓤) (R : Rattl
   Gives 𝓣 e = (x : R .Denot) → Is R x (val x ∷ []) → (Q : Val → SProp 𝓤) → ent 𝓤 (sem 𝓤 H A (R .own x (val x ∷ []))) (Q (result x))
       → ent 𝓤 (sep 𝓤 (emp 𝓤) (sem 𝓤 H A (owns (R ∷ []) (x, tt) (val x ∷ [], tt)))) (WpFn 𝓤 H (𝓣 .C) (𝓣 .Λ) e (val x ∷ []) Q)
 
--- A function of one parameter by value, that owns only facts, whose contract says: the result is `to` of the parameter.
+-- A function of one parameter, passed by value, whose contract says that the result is `to` of it.
 module _ (R T : RattleType) (to : R .Denot → T .Denot) where
   abbrev signature : Signature
   signature = record { lifetimes = 0; outlives = []; params = plain (λ _. R) ∷ []; result = plain (λ _. T) }
