@@ -4,18 +4,8 @@ use Rattle.laws.specs.Basics.{_≡_, refl, sym, ap, false, List, [], _∷_, _++
 use mathlib.Core.List.{List·Memᴰ, List·Memᴰ·head, List·Memᴰ·tail, List·Memᴰ·cases-cons, List·Memᴰ·not-nil}
 use Rattle.laws.specs.Truth.{never-both}
 use Rattle.histories.specs.History.{HistoryEvent, stored, sent, received, checkpoints, upTo, before}
-use Rattle.histories.proofs.Places.{Stands, first, stands-cases}
+use Rattle.histories.proofs.{Apart.same-sent, Apart.sent-stored, Apart.sent-received, Places.Stands, Places.first, Places.stands-cases}
 use Rattle.histories.proofs.Cuts.{past-stored, past-sent, past-received, stands-member, member-stands}
-
--- Sends are told apart by their numbers.
-pub same-sent : (m k : ℕ) → sent m ≡ sent k → m ≡ k
-same-sent m k e = cc
-
-pub sent-stored : (m : ℕ) → sent m ≡ stored → ⊥
-sent-stored m e = let z : _≡_ {A = ℕ} 0 1 = cc in omega arith
-
-pub sent-received : (m k : ℕ) → sent m ≡ received k → ⊥
-sent-received m k e = let z : _≡_ {A = ℕ} 0 1 = cc in omega arith
 
 not-sent : (m k : ℕ) → eqb k m ≡ false → sent m ≡ sent k → ⊥
 not-sent m k e q = never-both (eqb k m) (eq-eqb k m (sym (same-sent m k q))) e

@@ -1,6 +1,6 @@
 -- The start has what the invariant says.
-use Rattle.laws.specs.Basics.{_≡_, refl, sym, _∙_, ap, true, false, false≢true, [], Option, none, some, ℕ, suc, _≤_, _<_, arith, eqb, eq-eqb, ne-eqb, by-eq}
-use Rattle.laws.specs.Choice.{pick-same}
+use Rattle.laws.specs.Basics.{_≡_, refl, sym, _∙_, ap, true, false, false≢true, [], none, some, ℕ, suc, _≤_, _<_, arith, eqb, eq-eqb, ne-eqb, by-eq}
+use Rattle.laws.specs.{Choice.pick-same, Options.some-same, Options.none≢some}
 use Rattle.histories.specs.History.{HistoryEvent, stored, sent, received, checkpoints}
 use Rattle.histories.proofs.{Places.Stands, Places.stands-nil, Places.sent-before-stored, Places.received-before-stored, Run.begin}
 use Rattle.histories.proofs.{Times.times, Times.times-none, Times.single-end, Invariant.Inv, Invariant.Pinned}
@@ -65,14 +65,6 @@ module _ (n : ℕ) where
   no-transit : (m : ℕ) → begin n .transit m ≡ true → ⊥
   no-transit m e = false≢true (sym (begin-transit m) ∙ e)
 
-  -- Two names of one pin are equal.
-  one-pin : (k : ℕ) → _≡_ {A = Option ℕ} (some 0) (some k) → k ≡ 0
-  one-pin k e = cc
-
-  -- A pin that names nothing names no checkpoint.
-  no-pin : (k : ℕ) → _≡_ {A = Option ℕ} none (some k) → ⊥
-  no-pin k e = let z : _≡_ {A = ℕ} 0 1 = cc in omega arith
-
   -- A state's own entry is its index.
   self′ : (p k : ℕ) → k ≤ begin n .own p → begin n .vector p k p ≡ k
   self′ p k le = by-eq k 0
@@ -98,7 +90,7 @@ module _ (n : ℕ) where
   -- The own pin names checkpoint 0, and the next state is the live one.
   pins-own : (p k : ℕ) → begin n .pin p p ≡ some k → Pinned (begin n) p p k
   pins-own p k e =
-      let z : k ≡ 0 = one-pin k (sym (begin-pin-own p) ∙ e) in
+      let z : k ≡ 0 = sym (some-same (sym (begin-pin-own p) ∙ e)) in
       rw z (record {
         below = omega (arith, begin-own p);
         less = omega (arith, begin-own p, begin-blank p p, self′ p (begin n .own p) (omega arith));
@@ -109,7 +101,7 @@ module _ (n : ℕ) where
   pins′ : (p f k : ℕ) → f < n → begin n .pin p f ≡ some k → Pinned (begin n) p f k
   pins′ p f k hf = by-eq p f
       (λ e. rw (← e) (pins-own p k))
-      (λ ne d. absurd (no-pin k (sym (begin-pin-other p f ne) ∙ d)))
+      (λ ne d. absurd (none≢some (sym (begin-pin-other p f ne) ∙ d)))
 
   -- Where a process knows the current interval of f, its pin for f names a checkpoint.
   pinned′ : (p f : ℕ) → f < n → begin n .vector p (begin n .own p) f ≡ begin n .own f → (k : ℕ) × (begin n .pin p f ≡ some k)

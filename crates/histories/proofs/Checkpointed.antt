@@ -1,7 +1,8 @@
 -- A checkpoint keeps the invariant: the live state of i becomes a stored one, and the new live state differs at the own entry alone.
 use Rattle.laws.specs.Basics.{_≡_, sym, _∙_, ap, true, some, inl, inr, ℕ, suc, _≤_, _<_, arith, by-eq}
+use Rattle.laws.specs.Options.{some-same}
 use Rattle.histories.specs.History.{HistoryEvent, stored, sent, received, checkpoints}
-use Rattle.histories.proofs.{Places.Stands, Places.checkpoints-stored, Times.times, Times.single-end, Run.Ideal, Run.checkpointed, Rule.same-some}
+use Rattle.histories.proofs.{Places.Stands, Places.checkpoints-stored, Times.times, Times.single-end, Run.Ideal, Run.checkpointed}
 use Rattle.histories.proofs.{Invariant.Inv, Invariant.Proper, Invariant.SentOf, Invariant.Informed, Invariant.Pinned, Line.interval}
 use Rattle.histories.proofs.CheckpointedViews.{checkpointed-own, checkpointed-own-other, checkpointed-own-le, checkpointed-live-own, checkpointed-live, checkpointed-vector, checkpointed-row, checkpointed-row-other, checkpointed-mark-other, checkpointed-pin, checkpointed-pin-row, checkpointed-pin-column, checkpointed-events, checkpointed-events-other, checkpointed-state, checkpointed-still, checkpointed-sent, checkpointed-received}
 
@@ -160,7 +161,7 @@ module _ (r : Ideal) (i : ℕ) (v : Inv r) where
   -- The own pin names the checkpoint just stored.
   pins-new : (k : ℕ) → r′ .pin i i ≡ some k → Pinned r′ i i k
   pins-new k e =
-      let is : k ≡ r .own i = same-some (r′ .pin i i) k (r .own i) e (checkpointed-pin r i) in
+      let is : k ≡ r .own i = some-same (sym e ∙ checkpointed-pin r i) in
       rw is (record {
         below = omega (arith, (checkpointed-own r i));
         less = omega (arith, (checkpointed-own r i), self′ i (r′ .own i) (omega arith), self′ i (r .own i) (checkpointed-own-le r i i));

@@ -1,9 +1,9 @@
 -- How a checkpoint changes the run: one lemma for each view, and what it does to kept checkpoints and to the lists.
 use Rattle.laws.specs.Basics.{_≡_, refl, sym, _∙_, ap, true, false, [], _∷_, _++_, some, _⊎_, inl, inr, ℕ, suc, _≤_, _<_, arith, by-eq}
-use Rattle.laws.specs.Update.{upds}
+use Rattle.laws.specs.{Options.some-same, Update.upds}
 use Rattle.histories.specs.History.{HistoryEvent, stored, sent, received}
 use Rattle.histories.proofs.Places.{Stands, stands-still, sent-before-stored, received-before-stored}
-use Rattle.histories.proofs.{Run.Ideal, Run.checkpointed, Run.keeps, Rule.keeps-in, Rule.keeps-out, Rule.same-some}
+use Rattle.histories.proofs.{Run.Ideal, Run.checkpointed, Run.keeps, Rule.keeps-in, Rule.keeps-out}
 
 module _ (r : Ideal) (i : ℕ) where
   -- Views of the checkpoint.
@@ -133,7 +133,7 @@ module _ (r : Ideal) (i : ℕ) where
       let hf : w .0 < r .n = omega (arith, w .1, checkpointed-n) in
       by-eq (w .0) i
       (λ c. by-eq p i
-      (λ d. inl (d, same-some (checkpointed r i .pin i i) k (r .own i) (rw d at (rw c at (w .2))) checkpointed-pin))
+      (λ d. inl (d, some-same (sym (rw d at (rw c at (w .2))) ∙ checkpointed-pin)))
       (λ nd. inr (keeps-in r p (w .0) k hf (sym (checkpointed-pin-row p (w .0) nd) ∙ w .2))))
       (λ nc. inr (keeps-in r p (w .0) k hf (sym (checkpointed-pin-column p (w .0) nc) ∙ w .2)))
 

@@ -148,7 +148,7 @@ still-new r = new-none r r (λ p. omega arith)
 pub recovered-new : (r : Ideal) → Inv r → (F : Failed) → newIn r (recovered r F) ≡ 0
 recovered-new r v F = new-none r (recovered r F) (recovered-own-le r v F)
 
-recovered-ledger : (r : Ideal) (F : Failed) → recovered r F .ledger ≡ r .ledger
+pub recovered-ledger : (r : Ideal) (F : Failed) → recovered r F .ledger ≡ r .ledger
 unfolding recovered
 recovered-ledger r F = refl
 

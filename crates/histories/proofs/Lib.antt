@@ -1,4 +1,5 @@
 -- The run as functions, by the messages alone, and its laws.
+pub mod Apart
 pub mod Places
 pub mod Times
 pub mod Cuts

@@ -8,6 +8,10 @@ use Rattle.histories.proofs.Run.{Ideal, Failed, safe, keeps, member, li
 use Rattle.histories.proofs.Rule.{safe-out, safe-in, unsafe-out, rolled-out, stays-out, keeps-in, keeps-out}
 
 module _ (r : Ideal) (v : Inv r) where
+  -- The live state's own entry is its index.
+  pub live-self : (p : ℕ) → r .vector p (r .own p) p ≡ r .own p
+  live-self p = v .self p (r .own p) (omega arith)
+
   -- States of one process know more and more.
   pub rising : (p f a b : ℕ) → a ≤ b → b ≤ r .own p → r .vector p a f ≤ r .vector p b f
   rising p f a zero ab bo = rw (zero-of a ab) (omega arith)
@@ -25,9 +29,9 @@ module _ (r : Ideal) (v : Inv r) where
   -- The own pin names the last checkpoint.
   pub own-pin : (p : ℕ) → p < r .n → (k : ℕ) × (r .pin p p ≡ some k) × (suc k ≡ r .own p)
   own-pin p hp =
-      let w = v .pinned p p hp (v .self p (r .own p) (omega arith)) in
+      let w = v .pinned p p hp (live-self p) in
       let z = v .pins p p (w .0) hp (w .1) in
-      (w .0, w .1, omega (arith, z .next, v .self p (r .own p) (omega arith), v .self p (suc (w .0)) (z .below)))
+      (w .0, w .1, omega (arith, z .next, live-self p, v .self p (suc (w .0)) (z .below)))
 
   -- The same, for the checkpoint right below the live state.
   pub own-pin-is : (p k : ℕ) → p < r .n → suc k ≡ r .own p → r .pin p p ≡ some k

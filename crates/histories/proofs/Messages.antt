@@ -1,16 +1,12 @@
 -- What the invariant says of messages: each is sent and received at one place, and one under way carries what its sender knew.
-use Rattle.laws.specs.Basics.{_≡_, sym, _∙_, true, ℕ, _≤_, _<_, arith}
-use Rattle.histories.specs.History.{stored, sent}
-use Rattle.histories.proofs.{Places.Stands, Times.times, Times.one-place, Run.Ideal, Invariant.Inv, Invariant.Proper, Line.interval}
-
--- A send is no checkpoint.
-sent-not-stored : (m : ℕ) → sent m ≡ stored → ⊥
-sent-not-stored m e = let z : _≡_ {A = ℕ} 0 1 = cc in omega arith
+use Rattle.laws.specs.Basics.{_≡_, sym, _∙_, true, ℕ, suc, _≤_, _<_, arith}
+use Rattle.histories.specs.History.{sent}
+use Rattle.histories.proofs.{Apart.sent-stored, Places.Stands, Times.times, Times.one-place, Run.Ideal, Invariant.Inv, Invariant.Proper, Line.interval}
 
 module _ (r : Ideal) (v : Inv r) where
   -- A message is sent at most once, by one process.
   pub sent-at-most-once : (p m : ℕ) → times (sent m) (r .events p) ≤ 1
-  sent-at-most-once p m = v .single p (sent m) (sent-not-stored m)
+  sent-at-most-once p m = v .single p (sent m) (sent-stored m)
 
   -- So its send stands at one place.
   pub sent-once : (p g q h m : ℕ) → Stands (sent m) g (r .events p) → Stands (sent m) h (r .events q) → (p ≡ q) × (g ≡ h)
@@ -35,6 +31,9 @@ module _ (r : Ideal) (v : Inv r) where
     -- Its number is used, its sender and receiver are in the run and differ.
     pub underway-proper : Proper r m
     underway-proper = v .proper (r .sender m) sentIn m sentIn-stands .1
+
+    pub used-number : m < suc (r .last)
+    used-number = omega (arith, underway-proper .used)
 
     -- It carries the vector of the sender in that interval.
     pub underway-carries : (f : ℕ) → f < r .n → r .carried m f ≡ r .vector (r .sender m) sentIn f

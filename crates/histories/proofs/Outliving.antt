@@ -1,21 +1,12 @@
 -- Which messages outlive a recovery, by the lists: those that were under way and whose send still stands in the list of its sender.
 -- Assumes nothing.
-use Rattle.laws.specs.Basics.{_≡_, refl, true, false, _&&_, _||_, false≢true, List, [], _∷_, inl, inr, ℕ, _≤_, _<_, arith, eqb, leb, eq-eqb, eqb-true, leb-true, leb-false, by-bool}
+use Rattle.laws.specs.Basics.{_≡_, refl, sym, true, _&&_, false≢true, List, [], _∷_, inl, inr, ℕ, _≤_, arith, eqb, leb, eq-eqb, eqb-true, leb-true, leb-false, by-bool}
 use Rattle.laws.specs.{Search.any-in, Search.any-out, Truth.or-left, Truth.or-in-right}
 use Rattle.histories.specs.History.{HistoryEvent, stored, sent, received, isSent, stillSent}
 use Rattle.histories.proofs.{Places.Stands, Places.first, Places.stands-cons, Places.stands-nil, Cuts.past-stored, Cuts.past-sent, Cuts.past-received}
 use Rattle.histories.proofs.{Run.Ideal, Run.Failed, Run.line, Run.outlives, Run.recovered, Invariant.Inv, RecoveredStates.before, RecoveredStates.after}
 use Rattle.histories.proofs.Messages.{sentIn, sentIn-stands, underway-proper, underway-sent, sent-once}
-
--- A send is no other event; two sends are of one message.
-sent-stored : (m : ℕ) → sent m ≡ stored → ⊥
-sent-stored m e = let z : _≡_ {A = ℕ} 0 1 = cc in omega arith
-
-sent-received : (m k : ℕ) → sent m ≡ received k → ⊥
-sent-received m k e = let z : _≡_ {A = ℕ} 0 1 = cc in omega arith
-
-same-sent : (m k : ℕ) → sent m ≡ sent k → k ≡ m
-same-sent m k e = cc
+use Rattle.histories.proofs.Apart.{same-sent, sent-stored, sent-received}
 
 -- The test finds a send where it stands, and only there.
 sent-in : (m g : ℕ) (l : List HistoryEvent) → Stands (sent m) g l → isSent m l ≡ true
@@ -23,7 +14,7 @@ unfolding isSent
 sent-in m g [] s = absurd (stands-nil s)
 sent-in m g (stored ∷ l) s = elim (stands-cons s) [ inl w ↦ absurd (sent-stored m (w .0)) | inr w ↦ sent-in m (w .0) l (w .1) ]
 sent-in m g (sent k ∷ l) s = elim (stands-cons s) [
-  | inl w ↦ or-left (eqb k m) (isSent m l) (eq-eqb k m (same-sent m k (w .0)))
+  | inl w ↦ or-left (eqb k m) (isSent m l) (eq-eqb k m (sym (same-sent m k (w .0))))
   | inr w ↦ or-in-right (eqb k m) (isSent m l) (sent-in m (w .0) l (w .1))
 ]
 sent-in m g (received k ∷ l) s = elim (stands-cons s) [ inl w ↦ absurd (sent-received m k (w .0)) | inr w ↦ sent-in m (w .0) l (w .1) ]

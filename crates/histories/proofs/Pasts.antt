@@ -4,6 +4,7 @@ use Rattle.laws.specs.Basics.{_≡_, refl, ap, List, [], _∷_, inl, inr, ℕ, 
 use mathlib.Core.List.{List·Memᴰ, List·Memᴰ·head, List·Memᴰ·tail, List·Memᴰ·cases-cons, List·Memᴰ·not-nil}
 use native.Mathlib.Nat.{not-suc-le-zero}
 use Rattle.histories.specs.History.{HistoryEvent, stored, sent, received, checkpoints, beforeCheckpoint}
+use Rattle.histories.proofs.Apart.{received-stored}
 use Rattle.histories.proofs.Places.{Stands, first, weight, stands-cons, stands-nil}
 use Rattle.histories.proofs.Cuts.{past-stored, past-sent, past-received}
 
@@ -34,9 +35,6 @@ past-out k (received m ∷ l) s = elim (List·Memᴰ·cases-cons s) [
 ]
 
 -- A receipt with at most k checkpoints before it stands before checkpoint k.
-received-stored : (m : ℕ) → received m ≡ stored → ⊥
-received-stored m e = let z : _≡_ {A = ℕ} 0 1 = cc in omega arith
-
 pub past-in : {m g : ℕ} (k : ℕ) (l : List HistoryEvent) → Stands (received m) g l → g ≤ k → List·Memᴰ (received m) (beforeCheckpoint k l)
 unfolding beforeCheckpoint weight
 past-in k [] s le = absurd (stands-nil s)

@@ -2,6 +2,7 @@
 -- with it "before" and "after" a state are comparisons of numbers.
 use Rattle.laws.specs.Basics.{_≡_, refl, sym, _∙_, List, [], _∷_, _++_, _⊎_, inl, inr, ℕ, suc, _+_, _≤_, arith}
 use Rattle.histories.specs.History.{HistoryEvent, stored, sent, received, checkpoints}
+use Rattle.histories.proofs.Apart.{same-sent, same-received, sent-stored, received-stored, sent-received}
 
 -- The number of checkpoints that one event is: 1 for a checkpoint, else 0.
 unfoldable pub weight : HistoryEvent → ℕ
@@ -86,26 +87,6 @@ stands-cases (y ∷ l) x s = elim (stands-cons s) [
     | inr z ↦ inr (later z (w .2))
   ]
 ]
-
--- A send is no checkpoint.
-sent-stored : (m : ℕ) → sent m ≡ stored → ⊥
-sent-stored m e = let z : _≡_ {A = ℕ} 0 1 = cc in omega arith
-
--- A send is no receipt.
-sent-received : (m k : ℕ) → sent m ≡ received k → ⊥
-sent-received m k e = let z : _≡_ {A = ℕ} 0 1 = cc in omega arith
-
--- A receipt is no checkpoint.
-received-stored : (m : ℕ) → received m ≡ stored → ⊥
-received-stored m e = let z : _≡_ {A = ℕ} 0 1 = cc in omega arith
-
--- Equal sends are of one message.
-same-sent : (m k : ℕ) → sent m ≡ sent k → m ≡ k
-same-sent m k e = cc
-
--- Equal receipts are of one message.
-same-received : (m k : ℕ) → received m ≡ received k → m ≡ k
-same-received m k e = cc
 
 -- A send, in a list with one more checkpoint, receipt or send.
 pub sent-before-stored : {m g : ℕ} (l : List HistoryEvent) → Stands (sent m) g (l ++ (stored ∷ [])) → Stands (sent m) g l

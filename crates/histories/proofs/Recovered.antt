@@ -1,7 +1,7 @@
 -- A recovery keeps the invariant: here the pins, and then all clauses together.
-use Rattle.laws.specs.Basics.{_≡_, sym, _∙_, ap, Bool, true, false, Option, none, some, ℕ, suc, _≤_, _<_, arith, ltb, leb, lt-ltb, le-ltb, leb-true, leb-false, by-bool, by-eq}
-use Rattle.laws.specs.{Search.latest-is, Truth.and-both, Truth.and-no-right}
-use Rattle.histories.proofs.{Run.Ideal, Run.Failed, Run.keeps, Run.line, Run.rolled, Run.recovered, Rule.keeps-in, Rule.keeps-out, Rule.same-some}
+use Rattle.laws.specs.Basics.{_≡_, sym, _∙_, ap, Bool, true, false, some, ℕ, suc, _≤_, _<_, arith, ltb, leb, lt-ltb, le-ltb, leb-true, leb-false, by-bool, by-eq}
+use Rattle.laws.specs.{Options.some-same, Options.none≢some, Search.latest-is, Truth.and-both, Truth.and-no-right}
+use Rattle.histories.proofs.{Run.Ideal, Run.Failed, Run.keeps, Run.line, Run.rolled, Run.recovered, Rule.keeps-in, Rule.keeps-out}
 use Rattle.histories.proofs.{Invariant.Inv, Invariant.Pinned, Line.rising, Line.line-back}
 use Rattle.histories.proofs.RecoveredViews.{recovered-n, recovered-pin-none, recovered-pin-stays, recovered-pin-back}
 use Rattle.histories.proofs.RecoveredStates.{within, own-back, own-stays, own-ge, old, knows, live-other, underway′, pending′, counted′, positive′, self′, blank′, rises′, present′, knows′, proper′, carries′, arrived′, single′, takes′, marked′, known′, source′, learnt′}
@@ -108,10 +108,7 @@ module _ (r : Ideal) (v : Inv r) (F : Failed) where
   pub recovered-current : (p f k : ℕ) → r′ .pin p f ≡ some k → r′ .vector p (r′ .own p) f ≡ r′ .own f
   recovered-current p f k e = by-eq (r′ .vector p (r′ .own p) f) (r′ .own f)
       (λ d. d)
-      (λ nd. absurd (none-some k (sym (recovered-pin-none r F p f nd) ∙ e)))
-    where
-      none-some : (k : ℕ) → _≡_ {A = Option ℕ} none (some k) → ⊥
-      none-some k e = let z : _≡_ {A = ℕ} 0 1 = cc in omega arith
+      (λ nd. absurd (none≢some (sym (recovered-pin-none r F p f nd) ∙ e)))
 
   found-pin : (p f k : ℕ) → f < r .n → r′ .pin p f ≡ some k → Found p f
   found-pin p f k hf e = found p f hf (recovered-current p f k e)
@@ -124,12 +121,12 @@ module _ (r : Ideal) (v : Inv r) (F : Failed) where
   -- What a pin names is the checkpoint right before its process learnt all that it knows of f.
   pins′ : (p f k : ℕ) → f < r .n → r′ .pin p f ≡ some k → Pinned r′ p f k
   unfolding Found
-  pins′ p f k hf e = let w = found-pin p f k hf e in rw (same-some (r′ .pin p f) k (w .0) e (w .1)) (w .3)
+  pins′ p f k hf e = let w = found-pin p f k hf e in rw (some-same (sym e ∙ w .1)) (w .3)
 
   -- What a pin names was kept before.
   pin-kept : (p f k : ℕ) → f < r .n → r′ .pin p f ≡ some k → keeps r p k ≡ true
   unfolding Found
-  pin-kept p f k hf e = let w = found-pin p f k hf e in rw (same-some (r′ .pin p f) k (w .0) e (w .1)) (w .2)
+  pin-kept p f k hf e = let w = found-pin p f k hf e in rw (some-same (sym e ∙ w .1)) (w .2)
 
   -- Nothing that was not kept comes back.
   pub recovered-keeps-old : (p k : ℕ) → keeps (recovered r F) p k ≡ true → keeps r p k ≡ true

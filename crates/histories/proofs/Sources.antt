@@ -5,7 +5,7 @@ use mathlib.Core.List.{List·Memᴰ, List·Memᴰ·cases-cons, List·Memᴰ·not
 use Rattle.histories.specs.History.{HistoryEvent, stored, sent, received, upTo, before}
 use Rattle.histories.proofs.Run.{Ideal, Failed, begin, checkpointed, sending, forces, takenIn, delivered, lost, line, rolled, recovered}
 use Rattle.histories.proofs.{Invariant.Inv, Cuts.stands-member, Cuts.member-stands, Cuts.upTo-out, Delivered.delivered-forced, Delivered.delivered-plain}
-use Rattle.histories.proofs.Before.{same-sent, sent-stored, sent-received, before-end, before-new, before-upTo, member-end}
+use Rattle.histories.proofs.{Apart.same-sent, Apart.sent-stored, Apart.sent-received, Before.before-end, Before.before-new, Before.before-upTo, Before.member-end}
 use Rattle.histories.proofs.Sending.{sending-n, sending-carried, sending-carried-other, sending-events, sending-events-other}
 use Rattle.histories.proofs.CheckpointedViews.{checkpointed-n, checkpointed-carried, checkpointed-events, checkpointed-events-other}
 use Rattle.histories.proofs.TakenInViews.{takenIn-n, takenIn-carried, takenIn-events, takenIn-events-other}

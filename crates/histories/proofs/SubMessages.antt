@@ -4,7 +4,7 @@ use Rattle.laws.specs.Basics.{_≡_, refl, sym, _∙_, ap, Bool, true, false, _
 use Rattle.laws.specs.{Counting.count-same, Counting.count-off, Tests.countBelow, Truth.never-both, Truth.and-both}
 use Rattle.laws.specs.Update.{upd, upd-same, upd-other, upd-same₁, upd-other₁}
 use Rattle.histories.proofs.{Run.Ideal, Run.checkpointed, Run.sending, Run.forces, Run.takenIn, Run.takenBy, Run.delivered, Run.lost, Invariant.Inv}
-use Rattle.histories.proofs.Messages.{underway-proper}
+use Rattle.histories.proofs.Messages.{used-number}
 
 -- Message m is no longer under way; nothing else changed about messages.
 pub record Without (r r₁ : Ideal) (m : ℕ) : Type 0 where
@@ -80,21 +80,17 @@ module _ (f g : ℕ) where
       (λ c. never-both false (sym (upd-same (r .transit) m false) ∙ ap (upd (r .transit) m false) (sym c) ∙ d) refl)
       (λ ne. (ne, sym (upd-other (r .transit) m false x ne) ∙ d))
 
-  -- The number of a message under way is used.
-  used : (r : Ideal) → Inv r → (m : ℕ) → r .transit m ≡ true → m < suc (r .last)
-  used r v m e = omega (arith, underway-proper r v m e .used)
-
   -- A message goes in both.
   module _ (r r′ r₁ r₁′ : Ideal) (m : ℕ) (v : Inv r) (v′ : Inv r′) (a : SubMessages r r′) (e : r .transit m ≡ true) (p : passes r m ≡ true)
       (w : Without r r₁ m) (w′ : Without r′ r₁′ (a .number m)) where
     one-less : countBelow (suc (r′ .last)) (r′ .transit) ≡ suc (countBelow (suc (r′ .last)) (upd (r′ .transit) (a .number m) false))
     one-less = count-off (suc (r′ .last)) (r′ .transit) (upd (r′ .transit) (a .number m) false) (a .number m)
-        (used r′ v′ (a .number m) (a .counterpart m e p .under)) (a .counterpart m e p .under) (upd-same (r′ .transit) (a .number m) false)
+        (used-number r′ v′ (a .number m) (a .counterpart m e p .under)) (a .counterpart m e p .under) (upd-same (r′ .transit) (a .number m) false)
         (λ j lt ne. sym (upd-other (r′ .transit) (a .number m) false j ne))
 
     one-less-here : countBelow (suc (r .last)) (λ x. r .transit x && passes r x) ≡ suc (countBelow (suc (r .last)) (λ x. upd (r .transit) m false x && passes r x))
     one-less-here = count-off (suc (r .last)) (λ x. r .transit x && passes r x) (λ x. upd (r .transit) m false x && passes r x) m
-        (used r v m e) (and-both (r .transit m) (passes r m) e p) (rw (upd-same (r .transit) m false))
+        (used-number r v m e) (and-both (r .transit m) (passes r m) e p) (rw (upd-same (r .transit) m false))
         (λ j lt ne. rw (upd-other (r .transit) m false j ne))
 
     counted : countBelow (suc (r₁′ .last)) (r₁′ .transit) ≡ countBelow (suc (r₁ .last)) (λ x. r₁ .transit x && passes r₁ x)
@@ -215,7 +211,7 @@ module _ (f g : ℕ) where
     number-old x ne = upd-other (a .number) (suc (r .last)) (suc (r′ .last)) x ne
 
     old-less : (x : ℕ) → r .transit x ≡ true → passes r x ≡ true → a .number x < suc (r′ .last)
-    old-less x t q = used r′ v′ (a .number x) (a .counterpart x t q .under)
+    old-less x t q = used-number r′ v′ (a .number x) (a .counterpart x t q .under)
 
     counted-added : countBelow (suc (r₁′ .last)) (r₁′ .transit) ≡ countBelow (suc (r₁ .last)) (λ x. r₁ .transit x && passes r₁ x)
     unfolding countBelow

@@ -37,22 +37,10 @@ module _ (r : Ideal) (v : Inv r) (m : ℕ) (under : r .transit m ≡ true)
   car-is : (f : ℕ) → f < r .n → r .carried m f ≡ r .vector q₀ at f
   car-is f hf = underway-carries r v m under f hf
 
-  -- Nothing that it carries lies in the future.
-  car-le : (f : ℕ) → f < r .n → r .carried m f ≤ r .own f
-  car-le f hf = underway-present r v m under f hf
-
-  -- The live state of the receiver takes the greater entries.
-  new : (f : ℕ) → r′ .vector i (r .own i) f ≡ max (r .vector i (r .own i) f) (r .carried m f)
-  new f = takenIn-live r m f
-
-  -- Every other state is as it was.
-  old : (p k f : ℕ) → (p ≡ i → k ≡ r .own i → ⊥) → r′ .vector p k f ≡ r .vector p k f
-  old p k f not-it = takenIn-vector r m p k f not-it
-
   -- No entry falls.
   risen : (p k f : ℕ) → r .vector p k f ≤ r′ .vector p k f
   risen p k f = elim (takenIn-state r m p k) [
-    | inl e ↦ rw (e .0, e .1) (omega (arith, new f))
+    | inl e ↦ rw (e .0, e .1) (omega (arith, takenIn-live r m f))
     | inr o ↦ omega (arith, o f)
   ]
 
@@ -63,22 +51,22 @@ module _ (r : Ideal) (v : Inv r) (m : ℕ) (under : r .transit m ≡ true)
   -- A state's own entry is its index.
   self′ : (p k : ℕ) → k ≤ r .own p → r′ .vector p k p ≡ k
   self′ p k le = elim (takenIn-state r m p k) [
-    | inl e ↦ rw (e .0, e .1) (omega (arith, new i, car-le i hi, v .self i (r .own i) (omega arith)))
+    | inl e ↦ rw (e .0, e .1) (omega (arith, takenIn-live r m i, underway-present r v m under i hi, v .self i (r .own i) (omega arith)))
     | inr o ↦ o p ∙ v .self p k le
   ]
 
   -- Checkpoint 0 knows nothing.
   blank′ : (p f : ℕ) → r′ .vector p 0 f ≡ 0
-  blank′ p f = old p 0 f (λ a b. omega (arith, v .positive i)) ∙ v .blank p f
+  blank′ p f = takenIn-vector r m p 0 f (λ a b. omega (arith, v .positive i)) ∙ v .blank p f
 
   -- States of one process know more and more.
   rises′ : (p k f : ℕ) → k < r .own p → r′ .vector p k f ≤ r′ .vector p (suc k) f
-  rises′ p k f lt = omega (arith, old p k f (λ a b. omega (arith, ap (r .own) a)), v .rises p k f lt, risen p (suc k) f)
+  rises′ p k f lt = omega (arith, takenIn-vector r m p k f (λ a b. omega (arith, ap (r .own) a)), v .rises p k f lt, risen p (suc k) f)
 
   -- Nobody knows the future.
   present′ : (p k f : ℕ) → f < r .n → k ≤ r .own p → r′ .vector p k f ≤ r .own f
   present′ p k f hf le = elim (takenIn-state r m p k) [
-    | inl e ↦ rw (e .0, e .1) (omega (arith, new f, car-le f hf, v .present i (r .own i) f hf (omega arith)))
+    | inl e ↦ rw (e .0, e .1) (omega (arith, takenIn-live r m f, underway-present r v m under f hf, v .present i (r .own i) f hf (omega arith)))
     | inr o ↦ omega (arith, o f, v .present p k f hf le)
   ]
 
@@ -88,9 +76,9 @@ module _ (r : Ideal) (v : Inv r) (m : ℕ) (under : r .transit m ≡ true)
       (λ e. by-eq g (r .own i)
       (λ q. rw (e, q) (
       let t : Stands (sent x) (r .own i) (r .events i) = rw (e, q) at s in
-      omega (arith, new f, quiet (v .marked i x t) f hf, v .carries i (r .own i) x f t hf)))
-      (λ nq. v .carries p g x f s hf ∙ sym (old p g f (λ a b. nq b))))
-      (λ ne. v .carries p g x f s hf ∙ sym (old p g f (λ a b. ne a)))
+      omega (arith, takenIn-live r m f, quiet (v .marked i x t) f hf, v .carries i (r .own i) x f t hf)))
+      (λ nq. v .carries p g x f s hf ∙ sym (takenIn-vector r m p g f (λ a b. nq b))))
+      (λ ne. v .carries p g x f s hf ∙ sym (takenIn-vector r m p g f (λ a b. ne a)))
 
   -- A message carried the vector of the interval in which it was sent.
   carries′ : (p g x f : ℕ) → Stands (sent x) g (r′ .events p) → f < r .n → r .carried x f ≡ r′ .vector p g f
@@ -124,7 +112,7 @@ module _ (r : Ideal) (v : Inv r) (m : ℕ) (under : r .transit m ≡ true)
   -- A receiver knows what the message carried.
   takes′ : (p g x f : ℕ) → Stands (received x) g (r′ .events p) → f < r .n → r .carried x f ≤ r′ .vector p g f
   takes′ p g x f s hf = elim (takenIn-received r m p g x s) [
-    | inl w ↦ (let g-is : g ≡ r .own i = w .2 ∙ sym (v .counted i) in rw (w .0, w .1, g-is) (omega (arith, new f)))
+    | inl w ↦ (let g-is : g ≡ r .own i = w .2 ∙ sym (v .counted i) in rw (w .0, w .1, g-is) (omega (arith, takenIn-live r m f)))
     | inr o ↦ omega (arith, risen p g f, v .takes p g x f o hf)
   ]
 
@@ -143,7 +131,7 @@ module _ (r : Ideal) (v : Inv r) (m : ℕ) (under : r .transit m ≡ true)
 
   -- Where another process knows the live interval of i, nothing of that state changes.
   unmoved : (p k f : ℕ) → k ≤ r .own p → (p ≡ i → ⊥) → r .vector p k i ≡ r .own i → f < r .n → r′ .vector i (r .own i) f ≡ r .vector i (r .own i) f
-  unmoved p k f le np d hf = omega (arith, new f, quiet (v .known p k i le hi np d) f hf)
+  unmoved p k f le np d hf = omega (arith, takenIn-live r m f, quiet (v .known p k i le hi np d) f hf)
 
   -- What a state of before knows, unless it is the live one of i.
   knows-old : (p k q f : ℕ) → k ≤ r .own p → q < r .n → f < r .n → (r′ .vector q (r .vector p k q) f ≤ r .vector p k f) ⊎ ((p ≡ i) × (k ≡ r .own i))
@@ -167,13 +155,13 @@ module _ (r : Ideal) (v : Inv r) (m : ℕ) (under : r .transit m ≡ true)
   knows-live : (q f : ℕ) → q < r .n → f < r .n → r′ .vector q (r′ .vector i (r .own i) q) f ≤ r′ .vector i (r .own i) f
   knows-live q f hq hf = by-eq q i
       (λ c. rw c (omega (arith, ap (λ g. r′ .vector i g f) (self′ i (r .own i) (omega arith)))))
-      (λ nc. rw (old q (r′ .vector i (r .own i) q) f (λ a b. nc a)) (by-bool (leb (r .carried m q) (r .vector i (r .own i) q))
+      (λ nc. rw (takenIn-vector r m q (r′ .vector i (r .own i) q) f (λ a b. nc a)) (by-bool (leb (r .carried m q) (r .vector i (r .own i) q))
       (λ e.
-      let is : r′ .vector i (r .own i) q ≡ r .vector i (r .own i) q = omega (arith, new q, leb-true) in
+      let is : r′ .vector i (r .own i) q ≡ r .vector i (r .own i) q = omega (arith, takenIn-live r m q, leb-true) in
       rw is (omega (arith, v .knows i (r .own i) q f (omega arith) hq hf, risen i (r .own i) f)))
       (λ e.
-      let is : r′ .vector i (r .own i) q ≡ r .vector q₀ at q = omega (arith, new q, car-is q hq, leb-false) in
-      rw is (omega (arith, v .knows q₀ at q f at-le hq hf, new f, car-is f hf)))))
+      let is : r′ .vector i (r .own i) q ≡ r .vector q₀ at q = omega (arith, takenIn-live r m q, car-is q hq, leb-false) in
+      rw is (omega (arith, v .knows q₀ at q f at-le hq hf, takenIn-live r m f, car-is f hf)))))
 
   -- A state that knows an interval knows what that interval knew.
   knows′ : (p k q f : ℕ) → k ≤ r .own p → q < r .n → f < r .n → r′ .vector q (r′ .vector p k q) f ≤ r′ .vector p k f
@@ -200,7 +188,7 @@ module _ (r : Ideal) (v : Inv r) (m : ℕ) (under : r .transit m ≡ true)
   known′ : (p k q : ℕ) → k ≤ r .own p → q < r .n → (p ≡ q → ⊥) → r′ .vector p k q ≡ r .own q → r .mark q ≡ true
   known′ p k q le hq ne d = elim (takenIn-state r m p k) [
     | inl e ↦ (
-        let live : max (r .vector i (r .own i) q) (r .carried m q) ≡ r .own q = sym (new q) ∙ (rw (e .0, e .1) at d) in
+        let live : max (r .vector i (r .own i) q) (r .carried m q) ≡ r .own q = sym (takenIn-live r m q) ∙ (rw (e .0, e .1) at d) in
         by-bool (leb (r .carried m q) (r .vector i (r .own i) q))
         (λ b. v .known i (r .own i) q (omega arith) hq (λ c. ne (e .0 ∙ c)) (omega (arith, leb-true)))
         (λ b. informed-live q hq (omega (arith, car-is q hq, leb-false))))
@@ -221,9 +209,9 @@ module _ (r : Ideal) (v : Inv r) (m : ℕ) (under : r .transit m ≡ true)
   unfolding takenIn takenBy
   learnt-live f hf ne pos = by-bool (leb (r .carried m f) (r .vector i (r .own i) f))
       (λ e.
-      let is : r′ .vector i (r .own i) f ≡ r .vector i (r .own i) f = omega (arith, new f, leb-true) in
+      let is : r′ .vector i (r .own i) f ≡ r .vector i (r .own i) f = omega (arith, takenIn-live r m f, leb-true) in
       rw is (informed i (r .own i) (suc (r .last)) f _ (v .learnt i (r .own i) f (omega arith) hf ne (omega (arith, is)))))
-      (λ e. (m, r .own i, takenIn-new r m (r .own i) (v .counted i), omega arith, omega (arith, underway-proper r v m under .used), omega (arith, new f, leb-false)))
+      (λ e. (m, r .own i, takenIn-new r m (r .own i) (v .counted i), omega arith, omega (arith, underway-proper r v m under .used), omega (arith, takenIn-live r m f, leb-false)))
 
   -- What a state knows of another process came by a message.
   learnt′ : (p k f : ℕ) → k ≤ r .own p → f < r .n → (p ≡ f → ⊥) → 1 ≤ r′ .vector p k f → Informed r′ p k (suc (r .last)) f (r′ .vector p k f)

@@ -1,5 +1,5 @@
 -- The pins after a message is taken in: what each of them names is still the checkpoint right before its process learnt all that it knows.
-use Rattle.laws.specs.Basics.{_≡_, sym, _∙_, ap, true, some, inl, inr, ℕ, suc, _≤_, _<_, max, arith, leb, leb-true, leb-false, by-bool, by-eq}
+use Rattle.laws.specs.Basics.{_≡_, sym, _∙_, ap, true, some, inl, inr, ℕ, suc, _≤_, _<_, arith, leb, leb-true, leb-false, by-bool, by-eq}
 use Rattle.histories.proofs.{Run.Ideal, Run.takenBy, Run.takenIn, Invariant.Inv, Invariant.Pinned, Line.rising, Line.own-pin, Messages.underway-proper}
 use Rattle.histories.proofs.TakenInViews.{takenIn-live, takenIn-vector, takenIn-pin-risen, takenIn-pin-same, takenIn-pin-other, takenIn-state}
 
@@ -16,25 +16,17 @@ module _ (r : Ideal) (v : Inv r) (m : ℕ) (under : r .transit m ≡ true) where
   hi : i < r .n
   hi = underway-proper r v m under .to
 
-  -- The live state of the receiver takes the greater entries.
-  new : (f : ℕ) → r′ .vector i (r .own i) f ≡ max (r .vector i (r .own i) f) (r .carried m f)
-  new f = takenIn-live r m f
-
-  -- Every other state is as it was.
-  old : (p k f : ℕ) → (p ≡ i → k ≡ r .own i → ⊥) → r′ .vector p k f ≡ r .vector p k f
-  old p k f not-it = takenIn-vector r m p k f not-it
-
   -- The pin of i for f, where i knows the current interval of f.
   pinned-live : (f : ℕ) → f < r .n → r′ .vector i (r .own i) f ≡ r .own f → (k : ℕ) × (r′ .pin i f ≡ some k)
   pinned-live f hf d = by-bool (leb (r .carried m f) (r .vector i (r .own i) f))
-      (λ e. let w = v .pinned i f hf (omega (arith, new f, leb-true)) in (w .0, takenIn-pin-same r m f (leb-true _ _ e) ∙ w .1))
+      (λ e. let w = v .pinned i f hf (omega (arith, takenIn-live r m f, leb-true)) in (w .0, takenIn-pin-same r m f (leb-true _ _ e) ∙ w .1))
       (λ e. let w = own-pin r v i hi in (w .0, takenIn-pin-risen r m f (leb-false _ _ e) ∙ w .1))
 
   -- Where a process knows the current interval of f, its pin for f names a checkpoint.
   pub pinned′ : (p f : ℕ) → f < r .n → r′ .vector p (r .own p) f ≡ r .own f → (k : ℕ) × (r′ .pin p f ≡ some k)
   pinned′ p f hf d = by-eq p i
       (λ e. rw e (pinned-live f hf (rw e at d)))
-      (λ ne. let w = v .pinned p f hf (sym (old p (r .own p) f (λ a b. ne a)) ∙ d) in (w .0, takenIn-pin-other r m p f ne ∙ w .1))
+      (λ ne. let w = v .pinned p f hf (sym (takenIn-vector r m p (r .own p) f (λ a b. ne a)) ∙ d) in (w .0, takenIn-pin-other r m p f ne ∙ w .1))
 
   -- The pin of an entry that rose names the last checkpoint, and the entry rose after it.
   pins-risen : (f k : ℕ) → f < r .n → r .vector i (r .own i) f < r .carried m f → r′ .pin i f ≡ some k → Pinned r′ i f k
@@ -44,7 +36,7 @@ module _ (r : Ideal) (v : Inv r) (m : ℕ) (under : r .transit m ≡ true) where
       let top : suc k ≡ r .own i = omega (arith, w .next, v .self i (suc k) (w .below), v .self i (r .own i) (omega arith)) in
       record {
         below = w .below;
-        less = omega (arith, new f, old i k f (λ a b. omega arith), rising r v i f k (r .own i) (omega (arith, w .below)) (omega arith));
+        less = omega (arith, takenIn-live r m f, takenIn-vector r m i k f (λ a b. omega arith), rising r v i f k (r .own i) (omega (arith, w .below)) (omega arith));
         next = ap (λ g. r′ .vector i g f) top;
       }
 
@@ -53,10 +45,10 @@ module _ (r : Ideal) (v : Inv r) (m : ℕ) (under : r .transit m ≡ true) where
   unfolding takenIn takenBy
   pins-same f k hf le e =
       let w = v .pins i f k hf (sym (takenIn-pin-same r m f le) ∙ e) in
-      let live : r′ .vector i (r .own i) f ≡ r .vector i (r .own i) f = omega (arith, new f) in
+      let live : r′ .vector i (r .own i) f ≡ r .vector i (r .own i) f = omega (arith, takenIn-live r m f) in
       record {
         below = w .below;
-        less = omega (arith, live, w .less, old i k f (λ a b. omega (arith, w .below)));
+        less = omega (arith, live, w .less, takenIn-vector r m i k f (λ a b. omega (arith, w .below)));
         next = elim (takenIn-state r m i (suc k)) [
           | inl z ↦ ap (λ g. r′ .vector i g f) (z .1)
           | inr o ↦ o f ∙ w .next ∙ sym live
@@ -76,8 +68,8 @@ module _ (r : Ideal) (v : Inv r) (m : ℕ) (under : r .transit m ≡ true) where
       let w = v .pins p f k hf (sym (takenIn-pin-other r m p f ne) ∙ e) in
       record {
         below = w .below;
-        less = omega (arith, w .less, old p k f (λ a b. ne a), old p (r .own p) f (λ a b. ne a));
-        next = omega (arith, w .next, old p (suc k) f (λ a b. ne a), old p (r .own p) f (λ a b. ne a));
+        less = omega (arith, w .less, takenIn-vector r m p k f (λ a b. ne a), takenIn-vector r m p (r .own p) f (λ a b. ne a));
+        next = omega (arith, w .next, takenIn-vector r m p (suc k) f (λ a b. ne a), takenIn-vector r m p (r .own p) f (λ a b. ne a));
       }
 
   -- What a pin names is the checkpoint right before its process learnt all that it knows of f.

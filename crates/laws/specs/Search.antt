@@ -6,6 +6,7 @@ use Prim.Native.Nat.{ℕ, zero, suc, _≤_, _<_}
 use native.Mathlib.Nat.{not-suc-le-zero}
 use native.Mathlib.Omega.{arith}
 use Rattle.laws.specs.Choice.{pick, by-bool, by-eq}
+use Rattle.laws.specs.Options.{some-same, none≢some}
 use Rattle.laws.specs.Truth.{never-both, and-left, and-right}
 
 -- Some number below the bound passes the test.
@@ -76,13 +77,10 @@ latest-is (suc n) t k h e above = by-eq k n
 -- What the latest that passes is: below the bound, it passes, and none above it does.
 pub latest-out : (n : ℕ) (t : ℕ → Bool) (k : ℕ) → latest n t ≡ some k → (k < n) × (t k ≡ true) × ((j : ℕ) → k < j → j < n → t j ≡ false)
 unfolding latest
-latest-out zero t k e = absurd (let z : _≡_ {A = ℕ} 0 1 = cc in omega arith)
+latest-out zero t k e = absurd (none≢some e)
 latest-out (suc n) t k e = by-bool (t n)
-    (λ q. let c : n ≡ k = found n k (rw q at e) in (omega arith, rw (← c) q, λ j a b. absurd (omega arith)))
+    (λ q. let c : n ≡ k = some-same (rw q at e) in (omega arith, rw (← c) q, λ j a b. absurd (omega arith)))
     (λ q. let w = latest-out n t k (rw q at e) in (omega (arith, w .0), w .1, λ j a b. by-eq j n (λ c. rw c q) (λ c. w .2 j a (omega arith))))
-  where
-    found : (n k : ℕ) → _≡_ {A = Option ℕ} (some n) (some k) → n ≡ k
-    found n k e = cc
 
 -- A number that fails does not count.
 pub latest-skip : (n : ℕ) (t : ℕ → Bool) → t n ≡ false → latest (suc n) t ≡ latest n t
