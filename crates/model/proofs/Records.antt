@@ -2,7 +2,7 @@
 -- A record goes to its word of 32 bits, to its three fields, to its event; each of these steps is undone by the step back.
 -- Assumes nothing.
 use Rattle.laws.specs.Basics.{_≡_, refl, sym, _∙_, ap, true, _&&_, false≢true, List, [], _∷_, Option, none, some, ℕ, zero, suc, _/_, _%_, _≤_, _<_, arith, eqb, ltb, length, eqb-true, lt-ltb, ltb-true, by-bool}
-use Rattle.laws.specs.{Truth.and-left, Truth.and-right, Tests.every}
+use Rattle.laws.specs.{Options.some-same, Options.none≢some, Truth.and-left, Truth.and-right, Tests.every}
 use Rattle.model.specs.declared.{Fields.Fields, Event.Event}
 use Rattle.model.specs.declared.Event.the-variants.{Checkpoint, Send, Deliver, Lose, Recover}
 use Rattle.model.specs.Trace.{word, fields, ifZero, eventOf, decoded, isRecord, stands, wellFormed, fieldsOf, fits, wordOf, bytesOf, encoded, RecordsAreEvents}
@@ -13,10 +13,6 @@ parts k p a = record { kind = k; process = p; argument = a }
 
 same-parts : {k l p q a b : ℕ} → k ≡ l → p ≡ q → a ≡ b → parts k p a ≡ parts l q b
 same-parts e f g = rw (e, f, g)
-
--- Where two options are the same, so is what they hold.
-the-same : {A : Type 0} {x y : A} → some x ≡ some y → x ≡ y
-the-same h = cc
 
 -- The fields of an event stand for that event.
 event-of-fields : (e : Event) → eventOf (fieldsOf e) ≡ some e
@@ -46,17 +42,14 @@ fields-of-event r e h =
     by-bool (eqb (r .kind) 0)
     (λ k. let w = if-zero _ _ _ (rw k at h) in rw (← w .1) (same-parts (sym (eqb-true _ _ k)) refl (sym (w .0))))
     (λ n0. by-bool (eqb (r .kind) 1)
-    (λ k. rw (← the-same (rw (n0, k) at h)) (same-parts (sym (eqb-true _ _ k)) refl refl))
+    (λ k. rw (← some-same (rw (n0, k) at h)) (same-parts (sym (eqb-true _ _ k)) refl refl))
     (λ n1. by-bool (eqb (r .kind) 2)
     (λ k. process-zero r 2 (Deliver (r .argument)) e refl k (rw (n0, n1, k) at h))
     (λ n2. by-bool (eqb (r .kind) 3)
     (λ k. process-zero r 3 (Lose (r .argument)) e refl k (rw (n0, n1, n2, k) at h))
     (λ n3. by-bool (eqb (r .kind) 4)
     (λ k. process-zero r 4 (Recover (r .argument)) e refl k (rw (n0, n1, n2, n3, k) at h))
-    (λ n4. never-some (rw (n0, n1, n2, n3, n4) at h))))))
-  where
-    never-some : {P : Type 0} {e : Event} → _≡_ {A = Option Event} none (some e) → P
-    never-some h = absurd (let z : _≡_ {A = ℕ} 0 1 = cc in omega arith)
+    (λ n4. absurd (none≢some (rw (n0, n1, n2, n3, n4) at h)))))))
 
 -- No event has a kind above 4.
 pub kind-small : (e : Event) → fieldsOf e .kind ≤ 4
@@ -150,8 +143,8 @@ no-second-record : (one other : List ℕ) → wellFormed one ≡ true → wellFo
 no-second-record one other g h same =
     let v = one-event one g in
     let w = one-event other h in
-    let e : v .0 ≡ w .0 = the-same (sym (v .1) ∙ same ∙ w .1) in
-    the-same (sym (v .3) ∙ ap encoded e ∙ w .3)
+    let e : v .0 ≡ w .0 = some-same (sym (v .1) ∙ same ∙ w .1) in
+    some-same (sym (v .3) ∙ ap encoded e ∙ w .3)
 
 pub records-are-events : RecordsAreEvents
 records-are-events = record { one-event = one-event; one-record = one-record; no-second-record = no-second-record }

@@ -2,16 +2,11 @@
 -- And what a failed set is that no number of the table refuses.
 -- Assumes nothing.
 use Rattle.laws.specs.Basics.{_≡_, refl, Bool, true, false, not, _||_, List, Option, none, some, ℕ, _+_, _*_, _^_, _≤_, _<_, leb, length, getD, ne-eqb, eqb-false, le-ltb, ltb-false, le-leb, lt-leb, leb-true, leb-false, not-false, by-bool}
-use Rattle.laws.specs.{Search.anyBelow, Search.any-out, Search.any-none, Truth.never-both, Truth.and-left, Truth.and-right, Truth.and-both}
+use Rattle.laws.specs.{Search.anyBelow, Search.any-out, Search.any-none, Truth.never-both, Truth.and-left, Truth.and-right, Truth.and-both, Truth.or-none}
 use Rattle.model.specs.declared.{Message.Message, Run.Run}
 use Rattle.model.specs.Words.{mostProcesses, mostUnderWay, mostMessages, mostInterval, mostBlocks, blockCount, process, own}
 use Rattle.model.specs.{Steps.found, Steps.forces, Sound.isBlockCount, Sound.sound, laws.Refusals.refusal-in, laws.Refusals.no-rule}
 use Rattle.model.specs.Refusals.{startRefusal, shortDeletions, shortLine, absent, checkpointRefusal, sendRefusal, missing, forcesPast, forcesOver, deliverRefusal, loseRefusal, noMember, outside, lineRefusal, recoverRefusal}
-
--- A disjunction that fails.
-or-out : (a b : Bool) → (a || b) ≡ false → (a ≡ false) × (b ≡ false)
-or-out true b e = never-both true refl e
-or-out false b e = (refl, e)
 
 -- Two tests that fail.
 or-in : (a b : Bool) → a ≡ false → b ≡ false → (a || b) ≡ false
@@ -89,7 +84,7 @@ pub send-out : (s : Run) (i j : ℕ) → sendRefusal s i j ≡ none → SendFine
 unfolding sendRefusal
 send-out s i j e =
     let fails = no-rule _ e in
-    let g = or-out (absent s i) (absent s j) (fails 1) in
+    let g = or-none (absent s i) (absent s j) (fails 1) in
     record {
       whole = not-false _ (fails 0);
       from = leb-false _ _ (g .0);
@@ -257,7 +252,7 @@ pub recover-out : (s : Run) (F : ℕ) (deleted line : List ℕ) → recoverRefus
 unfolding recoverRefusal
 recover-out s F deleted line e =
     let fails = no-rule _ e in
-    let g = or-out (shortDeletions s deleted) (shortLine s line) (fails 1) in
+    let g = or-none (shortDeletions s deleted) (shortLine s line) (fails 1) in
     record {
       whole = not-false _ (fails 0);
       room = ltb-false _ _ (g .0);

@@ -4,7 +4,7 @@ use mathlib.Core.Option.{Option·map}
 use Rattle.laws.specs.{Lists.lastOf, Lists.table, Ranges.all-same, Search.allBelow, Search.latest, Tables.table-same}
 use Rattle.model.specs.Words.{mostProcesses, entry, below, process, own, failed}
 use Rattle.model.specs.Steps.{allowed, states, latestAllowed, lineOf, rolledBack}
-use Rattle.histories.proofs.{Run.Ideal, Run.safe, Run.member, Run.line, Run.rolled, Invariant.Inv, Line.line-found, Line.line-back, Line.line-live}
+use Rattle.histories.proofs.{Run.Ideal, Run.safe, Run.member, Run.line, Run.rolled, Invariant.Inv, Line.line-found, Line.line-back, Line.line-live, Line.live-self}
 use Rattle.model.proofs.simulation.View.{passing, checkpointOf, processOf, stateOf}
 use Rattle.model.proofs.simulation.Passing.{passing-same, select-passing, last-passing}
 use Rattle.model.proofs.simulation.Reads.{entry-is, count-is, process-is, own-is}
@@ -12,15 +12,11 @@ use Rattle.model.proofs.simulation.Rows.{standing, states-are}
 use Rattle.model.specs.Steps as steps
 
 module _ (r : Ideal) (v : Inv r) (few : r .n ≤ mostProcesses) (F : ℕ) where
-  -- The live state's own entry is its index.
-  pub self : (p : ℕ) → r .vector p (r .own p) p ≡ r .own p
-  self p = v .self p (r .own p) (omega arith)
-
   -- A state passes the rule in the state exactly if it does in the run.
   allowed-at : (p k f : ℕ) → f < r .n
       → (not (failed F f) || below (entry (checkpointOf r p k .vector) f) (own (stateOf r) f)) ≡ pick (failed F f) (ltb (r .vector p k f) (r .own f)) true
   unfolding checkpointOf
-  allowed-at p k f hf = rw (entry-is (r .n) (r .vector p k) f few hf, own-is r f few hf (self f)) (by-bool (failed F f) (λ e. rw e) (λ e. rw e))
+  allowed-at p k f hf = rw (entry-is (r .n) (r .vector p k) f few hf, own-is r f few hf (live-self r v f)) (by-bool (failed F f) (λ e. rw e) (λ e. rw e))
 
   pub allowed-is : (p k : ℕ) → allowed (stateOf r) F (checkpointOf r p k) ≡ safe r (failed F) p k
   unfolding allowed safe
@@ -31,7 +27,7 @@ module _ (r : Ideal) (v : Inv r) (few : r .n ≤ mostProcesses) (F : ℕ) where
   -- The states of a process, in order.
   pub states-is : (p : ℕ) → p < r .n → states p (process (stateOf r) p) ≡ passing (suc (r .own p)) (standing r p) (checkpointOf r p)
   unfolding states processOf
-  states-is p lt = rw (process-is r p few lt) (states-are r p few lt (self p))
+  states-is p lt = rw (process-is r p few lt) (states-are r p few lt (live-self r v p))
 
   line-member : (p : ℕ) → latest (suc (r .own p)) (λ k. standing r p k && safe r (failed F) p k) ≡ some (line r (failed F) p)
   unfolding member
@@ -66,6 +62,6 @@ module _ (r : Ideal) (v : Inv r) (few : r .n ≤ mostProcesses) (F : ℕ) where
   -- Who rolls back.
   pub rolled-is : (p : ℕ) → p < r .n → rolledBack (stateOf r) F p ≡ rolled r (failed F) p
   unfolding rolledBack
-  rolled-is p lt = rw (member-index p lt, own-is r p few lt (self p)) (by-bool (rolled r (failed F) p)
+  rolled-is p lt = rw (member-index p lt, own-is r p few lt (live-self r v p)) (by-bool (rolled r (failed F) p)
       (λ e. rw e (lt-ltb (line r (failed F) p) (r .own p) (line-back r v (failed F) p e .below)))
       (λ e. rw (e, line-live r v (failed F) p e) (le-ltb (r .own p) (r .own p) (omega arith))))

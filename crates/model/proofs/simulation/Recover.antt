@@ -2,7 +2,7 @@
 use Rattle.laws.specs.Basics.{_≡_, refl, sym, _∙_, ap, Bool, true, false, not, _&&_, List, Option, none, some, ℕ, suc, _≤_, _<_, arith, eqb, ltb, leb, lt-ltb, leb-true, leb-false, by-bool}
 use mathlib.Core.Option.{Option·map}
 use lib.Dec.{leb·suc-zero}
-use Rattle.laws.specs.{Choice.not-ltb, Lists.select, Lists.lastOf, Lists.gather, Search.latest, Search.latest-out, Sums.sumBelow, Sums.sum-same}
+use Rattle.laws.specs.{Choice.not-ltb, Lists.select, Lists.lastOf, Lists.gather, Rows.and-true, Search.latest, Search.latest-out, Sums.sumBelow, Sums.sum-same}
 use Rattle.laws.specs.{Tables.table-same, Tables.gather-same, Truth.and-left, Truth.and-no-right}
 use Rattle.model.specs.declared.{Interval.Interval, Pin.the-variants.Nothing, Checkpoint.Checkpoint, Disk.Disk}
 use Rattle.model.specs.Words.{mostProcesses, entry, below, isPinned, blocksOf, process, withMessages, withDisk, failed}
@@ -28,10 +28,6 @@ latest-pin r p (some k) = refl
 pin-none : Nothing ≡ pinOf none
 unfolding pinOf
 pin-none = refl
-
-and-true : (b : Bool) → (b && true) ≡ b
-and-true true = refl
-and-true false = refl
 
 module _ (r : Ideal) (v : Inv r) (G : Failed) where
   -- A pin after a recovery names a checkpoint that was kept and is not lost: nothing comes back.

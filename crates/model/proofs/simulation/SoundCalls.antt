@@ -1,13 +1,14 @@
 -- Calls on the state that stands for a run: what an accepted one says of the run, and which failed sets the table does not refuse.
 -- Assumes nothing.
-use Rattle.laws.specs.Basics.{_≡_, _∙_, ap, true, List, Option, none, some, ℕ, _+_, _*_, _≤_, _<_, arith, length, by-bool}
+use Rattle.laws.specs.Basics.{_≡_, sym, _∙_, ap, true, List, none, some, ℕ, _+_, _*_, _≤_, _<_, arith, length, by-bool}
+use Rattle.laws.specs.Options.{some-same, none≢some}
 use Rattle.model.specs.declared.{Disk.Disk, Message.Message}
 use Rattle.model.specs.{Words.mostInterval, Words.mostBlocks, Words.blockCount, Words.process, Words.own, Steps.found}
 use Rattle.model.specs.Refusals.{checkpointRefusal, sendRefusal, deliverRefusal, loseRefusal, lineRefusal, recoverRefusal}
-use Rattle.histories.proofs.{Run.Ideal, Run.sending, Run.forces, Invariant.Inv, Messages.underway-proper}
+use Rattle.histories.proofs.{Run.Ideal, Run.sending, Run.forces, Invariant.Inv, Messages.underway-proper, Messages.used-number}
 use Rattle.model.proofs.{simulation.View.messageOf, simulation.View.diskOf, simulation.View.stateOf, simulation.View.Limits, simulation.Billing.count-of}
 use Rattle.model.proofs.simulation.Reads.{count-is, last-is, underway-is, disk-is, process-is, own-is}
-use Rattle.model.proofs.simulation.Messages.{used-number, found-is, found-none}
+use Rattle.model.proofs.simulation.Messages.{found-is, found-none}
 use Rattle.model.proofs.{simulation.Deliver.deliver-forces, simulation.SoundLimits.limits-send}
 use Rattle.model.proofs.simulation.Accepted.{SetFine, checkpoint-out, send-out, deliver-out, lose-out, line-out, recover-out}
 
@@ -41,14 +42,8 @@ module _ (r : Ideal) (v : Inv r) (fit : Limits r) where
   -- The message that is found is one under way in the run.
   found-run : (m : ℕ) (x : Message) → found (stateOf r) m ≡ some x → (r .transit m ≡ true) × (x ≡ messageOf r m)
   found-run m x e = by-bool (r .transit m)
-      (λ q. (q, same x (messageOf r m) (found (stateOf r) m) e (found-is r m (used-number r v m q) q)))
-      (λ q. absurd (clash x (found (stateOf r) m) e (found-none r m q)))
-    where
-      same : (x y : Message) (o : Option Message) → o ≡ some x → o ≡ some y → x ≡ y
-      same x y o a b = cc
-
-      clash : (x : Message) (o : Option Message) → o ≡ some x → o ≡ none → ⊥
-      clash x o a b = let z : _≡_ {A = ℕ} 0 1 = cc in omega arith
+      (λ q. (q, some-same (sym e ∙ found-is r m (used-number r v m q) q)))
+      (λ q. absurd (none≢some (sym (found-none r m q) ∙ e)))
 
   -- An accepted delivery: the message is under way, the list has room, and the disk has room for the checkpoint that it forces.
   pub deliver-run : (m : ℕ) (deleted : List ℕ) → deliverRefusal (stateOf r) m deleted ≡ none

@@ -10,7 +10,7 @@ use Rattle.histories.proofs.{Invariant.Inv, Messages.underway-proper, Checkpoin
 use Rattle.histories.proofs.{Keeping.Moved, Keeping.checkpointed-moved, Keeping.delivered-moved, Keeping.recovered-moved, Checkpointed.checkpointed-inv}
 use Rattle.histories.proofs.DeliveredViews.{delivered-n, delivered-last, delivered-own-forced, delivered-own-plain, delivered-own-other}
 use Rattle.histories.proofs.{Delivered.delivered-inv, RecoveredStates.recovered-own-le, Recovered.recovered-inv}
-use Rattle.histories.proofs.Counted.{keptIn, Paid, paid-on, checkpointed-new, checkpointed-paid, delivered-new-forced, delivered-paid, delivered-ledger-forced, delivered-ledger-plain, recovered-paid}
+use Rattle.histories.proofs.Counted.{keptIn, Paid, paid-on, checkpointed-new, checkpointed-paid, delivered-new-forced, delivered-paid, delivered-ledger-forced, delivered-ledger-plain, recovered-ledger, recovered-paid}
 use Rattle.model.proofs.simulation.View.{messageOf, messagesOf, Fits, Limits}
 use Rattle.model.proofs.{simulation.Passing.length-passing, simulation.Start.start-kept-in}
 
@@ -163,10 +163,6 @@ limits-lose r m fit = limits-less r (lost r m) fit refl refl (λ j e. taken-off 
     fits = record { blockCounts = fit .ledger .blockCounts; causes = fit .ledger .causes; paid = omega (arith, fit .ledger .paid, lost-kept r m); room = fit .ledger .room }
 
 -- A recovery puts no message under way.
-recovered-ledger : (r : Ideal) (F : Failed) → recovered r F .ledger ≡ r .ledger
-unfolding recovered
-recovered-ledger r F = refl
-
 fits-recover : (r : Ideal) → Inv r → (F : Failed) → Fits r → Fits (recovered r F)
 fits-recover r v F fit = fits-quiet r (recovered r F) v (recovered-inv r v F) (recovered-moved r v F) (recovered-paid r v F) fit
     (ap (λ (l : Ledger). l .cause) (recovered-ledger r F)) (recovered-own-le r v F) (ap (λ (l : Ledger). l .written) (recovered-ledger r F))
