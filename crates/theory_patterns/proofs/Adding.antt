@@ -1,18 +1,15 @@
 -- One more event at the end of one list: what stands where then.
 -- Assumes nothing.
-use Rattle.laws.specs.Basics.{_≡_, refl, _∙_, ap, List, [], _∷_, _++_, none, some, _⊎_, inl, inr, ℕ, zero, suc, _+_, _≤_, arith, length, by-eq}
-use Rattle.laws.specs.Update.{upd-same, upd-other}
+use Rattle.laws.specs.Basics.{_≡_, refl, _∙_, ap, List, [], _∷_, _++_, some, _⊎_, inl, inr, ℕ, zero, suc, _≤_, arith, length, by-eq}
+use Rattle.laws.specs.{Options.none≢some, Update.upd-same, Update.upd-other}
 use Rattle.histories.specs.History.{HistoryEvent, stored, sent, received, Lists, checkpoints}
 use Rattle.whole_runs.specs.Survival.{added}
 use Rattle.theory_patterns.specs.Paths.{eventAt, interval, placeOf}
 
-nothing : {A : Type 0} {x : A} → none ≡ some x → ⊥
-nothing e = let z : _≡_ {A = ℕ} 0 1 = cc in omega arith
-
 -- In one list.
 old-at : (l : List HistoryEvent) (x : HistoryEvent) (i : ℕ) (e : HistoryEvent) → eventAt l i ≡ some e → eventAt (l ++ (x ∷ [])) i ≡ some e
 unfolding eventAt
-old-at [] x i e h = absurd (nothing h)
+old-at [] x i e h = absurd (none≢some h)
 old-at (y ∷ l) x zero e h = h
 old-at (y ∷ l) x (suc i) e h = old-at l x i e h
 
@@ -24,7 +21,7 @@ new-at (y ∷ l) x = new-at l x
 cases-at : (l : List HistoryEvent) (x : HistoryEvent) (i : ℕ) (e : HistoryEvent) → eventAt (l ++ (x ∷ [])) i ≡ some e → (eventAt l i ≡ some e) ⊎ ((i ≡ length l) × (x ≡ e))
 unfolding eventAt
 cases-at [] x zero e h = inr (refl, cc)
-cases-at [] x (suc i) e h = absurd (nothing h)
+cases-at [] x (suc i) e h = absurd (none≢some h)
 cases-at (y ∷ l) x zero e h = inl h
 cases-at (y ∷ l) x (suc i) e h = elim (cases-at l x i e h) [ inl w ↦ inl w | inr w ↦ inr (omega (arith, w .0), w .1) ]
 

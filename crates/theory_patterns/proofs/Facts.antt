@@ -1,6 +1,7 @@
 -- A trail gives what the verdict asks for: the vectors with their laws, and where knowledge comes from.
 -- Assumes nothing.
-use Rattle.laws.specs.Basics.{_≡_, refl, sym, _∙_, ap, List, [], _∷_, none, some, ℕ, zero, suc, _-_, _≤_, _<_, arith, eqb, eq-eqb, ne-eqb, pick, by-eq}
+use Rattle.laws.specs.Basics.{_≡_, refl, sym, _∙_, ap, List, [], _∷_, some, ℕ, zero, suc, _-_, _≤_, _<_, arith, eqb, eq-eqb, ne-eqb, pick, by-eq}
+use Rattle.laws.specs.Options.{some-same, none≢some}
 use Rattle.histories.specs.History.{HistoryEvent, stored, sent, received, checkpoints}
 use Rattle.theory_patterns.specs.Paths.{eventAt, interval, Path, one, onward}
 use Rattle.theory_patterns.proofs.{Core.Vectors, Causal.Sources, Placing.stands-at, Placing.interval-before, Trail.Trail, Trail.own, Trail.Right}
@@ -54,16 +55,10 @@ module _ (t : Trail) (v : Right t) where
 unfoldable pub begin : Trail
 begin = record { lists = λ p. stored ∷ []; last = 0; vector = λ p k f. pick (eqb k 0) 0 (pick (eqb p f) 1 0); carried = λ m f. 0 }
 
-nothing : {A : Type 0} {x y : A} → some x ≡ some y → x ≡ y
-nothing e = cc
-
-never : {A : Type 0} {x : A} → none ≡ some x → ⊥
-never e = let z : _≡_ {A = ℕ} 0 1 = cc in omega arith
-
 no-event : (p i : ℕ) (e : HistoryEvent) → eventAt (begin .lists p) i ≡ some e → e ≡ stored
 unfolding begin eventAt
-no-event p zero e h = sym (nothing h)
-no-event p (suc i) e h = absurd (never h)
+no-event p zero e h = sym (some-same h)
+no-event p (suc i) e h = absurd (none≢some h)
 
 no-sent : (p i m : ℕ) → eventAt (begin .lists p) i ≡ some (sent m) → ⊥
 no-sent p i m h = let c = no-event p i (sent m) h in let z : _≡_ {A = ℕ} 0 1 = cc in omega arith

@@ -2,7 +2,7 @@
 -- Assumes nothing.
 use Rattle.laws.specs.Basics.{_≡_, refl, sym, _∙_, ap, Bool, true, false, not, false≢true, [], _∷_, Option, none, some, ℕ, suc, _+_, arith, length, by-eq}
 use native.Mathlib.Numerals.{add-one}
-use Rattle.laws.specs.Update.{upd, upd-same, upd-other}
+use Rattle.laws.specs.{Options.none≢some, Update.upd, Update.upd-same, Update.upd-other}
 use Rattle.model.specs.declared.{Event.Event, Refusal.Refusal}
 use Rattle.model.specs.declared.Event.the-variants.{Checkpoint, Send, Deliver, Lose, Recover}
 use Rattle.histories.specs.History.{HistoryEvent, stored, sent, received, Lists}
@@ -90,14 +90,11 @@ unfolding firstOf
 on-way true r e = refl
 on-way false r e = absurd (let z : _≡_ {A = ℕ} 0 1 = cc in omega arith)
 
-never : {A : Type 0} {x : A} → some x ≡ none → ⊥
-never e = let z : _≡_ {A = ℕ} 0 1 = cc in omega arith
-
 pub taken-followed : (n : ℕ) (t : Pattern) (e : Option Event) → recordRefusal n t e ≡ none → Followed t → Followed (taken t e)
 unfolding recordRefusal
-taken-followed n t none h f = absurd (never h)
+taken-followed n t none h f = absurd (none≢some (sym h))
 taken-followed n t (some (Checkpoint i)) h f = stored-followed t f i
 taken-followed n t (some (Send i j)) h f = sent-followed t f i j
 taken-followed n t (some (Deliver m)) h f = received-followed t f m (on-way (t .underway m) _ h)
 taken-followed n t (some (Lose m)) h f = lost-followed t f m
-taken-followed n t (some (Recover F)) h f = absurd (never h)
+taken-followed n t (some (Recover F)) h f = absurd (none≢some (sym h))

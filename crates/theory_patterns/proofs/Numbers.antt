@@ -1,42 +1,19 @@
 -- A trace that is read to its end leaves a pattern whose processes are among n and whose messages have the numbers 1 to the number of sends.
 -- Assumes nothing.
 use Rattle.laws.specs.Basics.{_≡_, sym, _∙_, ap, true, false, false≢true, List, [], _∷_, Option, none, some, inl, inr, ℕ, zero, suc, _+_, _/_, _<_, arith, ltb, leb, length, leb-false, not-false, by-bool, by-eq}
-use Rattle.laws.specs.{Truth.or-none, Update.upd, Update.upd-same, Update.upd-other}
+use Rattle.laws.specs.{Options.some-same, Options.none≢some, Truth.or-none, Update.upd, Update.upd-same, Update.upd-other}
 use Rattle.model.specs.declared.{Event.Event, Refusal.Refusal}
 use Rattle.model.specs.declared.Event.the-variants.{Checkpoint, Send, Deliver, Lose, Recover}
 use Rattle.model.specs.{Words.ones, Refusals.startRefusal, laws.Refusals.no-rule, laws.Refusals.by-refusal, Trace.decoded}
 use Rattle.histories.specs.History.{HistoryEvent, stored, sent, received}
+use Rattle.histories.proofs.Apart.{same-sent, same-received, sent-stored, received-stored, sent-received}
 use Rattle.theory_patterns.specs.Paths.{eventAt}
 use Rattle.theory_patterns.specs.Patterns.{Pattern, empty, recordRefusal, taken, refused, whole, mostJudged, readFrom, reading}
 use Rattle.theory_patterns.proofs.{Adding.event-cases, Tested.Numbered}
 
--- Kinds of events differ.
-stored-sent : {P : Type 0} (m : ℕ) → stored ≡ sent m → P
-stored-sent m e = absurd (let z : _≡_ {A = ℕ} 0 1 = cc in omega arith)
-
-stored-received : {P : Type 0} (m : ℕ) → stored ≡ received m → P
-stored-received m e = absurd (let z : _≡_ {A = ℕ} 0 1 = cc in omega arith)
-
-sent-received : {P : Type 0} (m k : ℕ) → sent m ≡ received k → P
-sent-received m k e = absurd (let z : _≡_ {A = ℕ} 0 1 = cc in omega arith)
-
-same-sent : (m k : ℕ) → sent m ≡ sent k → m ≡ k
-same-sent m k e = cc
-
-same-received : (m k : ℕ) → received m ≡ received k → m ≡ k
-same-received m k e = cc
-
-same-event : {x y : HistoryEvent} → some x ≡ some y → x ≡ y
-same-event e = cc
-
-never : {P : Type 0} {x : HistoryEvent} → none ≡ some x → P
-never e = absurd (let z : _≡_ {A = ℕ} 0 1 = cc in omega arith)
-
+-- What is read to its end is not refused.
 not-refused : {P : Type 0} (r : Refusal) (t : Pattern) → refused r ≡ whole t → P
 not-refused r t e = absurd (let z : _≡_ {A = ℕ} 0 1 = cc in omega arith)
-
-not-some : {P : Type 0} (r : Refusal) → some r ≡ none → P
-not-some r e = absurd (let z : _≡_ {A = ℕ} 0 1 = cc in omega arith)
 
 same-whole : (t u : Pattern) → whole t ≡ whole u → t ≡ u
 same-whole t u e = cc
@@ -46,17 +23,17 @@ record Placed (n : ℕ) (t : Pattern) : Type 0 where
   events : Numbered n (t .sends) (t .lists)
   waiting : (m : ℕ) → t .underway m ≡ true → (t .receiver m < n) × (m < suc (t .sends))
 
-first-event : (i : ℕ) (e : HistoryEvent) → eventAt (stored ∷ []) i ≡ some e → stored ≡ e
+first-event : (i : ℕ) (e : HistoryEvent) → eventAt (stored ∷ []) i ≡ some e → e ≡ stored
 unfolding eventAt
-first-event zero e h = same-event h
-first-event (suc i) e h = never h
+first-event zero e h = sym (some-same h)
+first-event (suc i) e h = absurd (none≢some h)
 
 placed-empty : (n : ℕ) → Placed n empty
 unfolding empty
 placed-empty n = record {
   events = record {
-    sent-by = λ p i m e. stored-sent m (first-event i (sent m) e);
-    received-by = λ p i m e. stored-received m (first-event i (received m) e);
+    sent-by = λ p i m e. absurd (sent-stored m (first-event i (sent m) e));
+    received-by = λ p i m e. absurd (received-stored m (first-event i (received m) e));
   };
   waiting = λ m e. absurd (false≢true e);
 }
@@ -69,8 +46,8 @@ module _ (n : ℕ) (t : Pattern) (h : Placed n t) where
   unfolding taken
   placed-checkpoint i = record {
     events = record {
-      sent-by = λ p j m e. elim (event-cases (t .lists) i stored p j (sent m) e) [ inl u ↦ h .events .sent-by p j m u | inr u ↦ stored-sent m (u .2) ];
-      received-by = λ p j m e. elim (event-cases (t .lists) i stored p j (received m) e) [ inl u ↦ h .events .received-by p j m u | inr u ↦ stored-received m (u .2) ];
+      sent-by = λ p j m e. elim (event-cases (t .lists) i stored p j (sent m) e) [ inl u ↦ h .events .sent-by p j m u | inr u ↦ absurd (sent-stored m (sym (u .2))) ];
+      received-by = λ p j m e. elim (event-cases (t .lists) i stored p j (received m) e) [ inl u ↦ h .events .received-by p j m u | inr u ↦ absurd (received-stored m (sym (u .2))) ];
     };
     waiting = h .waiting;
   }
@@ -85,7 +62,7 @@ module _ (n : ℕ) (t : Pattern) (h : Placed n t) where
       ];
       received-by = λ p k m e. elim (event-cases (t .lists) i (sent (t .sends + 1)) p k (received m) e) [
         | inl u ↦ let w = h .events .received-by p k m u in (w .0, omega (arith, w .1))
-        | inr u ↦ sent-received (t .sends + 1) m (u .2)
+        | inr u ↦ absurd (sent-received (t .sends + 1) m (u .2))
       ];
     };
     waiting = λ m e. by-eq m (t .sends + 1)
@@ -106,7 +83,7 @@ module _ (n : ℕ) (t : Pattern) (h : Placed n t) where
     events = record {
       sent-by = λ p k x e. elim (event-cases (t .lists) (t .receiver m) (received m) p k (sent x) e) [
         | inl u ↦ h .events .sent-by p k x u
-        | inr u ↦ sent-received x m (sym (u .2))
+        | inr u ↦ absurd (sent-received x m (sym (u .2)))
       ];
       received-by = λ p k x e. elim (event-cases (t .lists) (t .receiver m) (received m) p k (received x) e) [
         | inl u ↦ h .events .received-by p k x u
@@ -122,14 +99,14 @@ module _ (n : ℕ) (t : Pattern) (h : Placed n t) where
 
   placed-taken : (e : Option Event) → recordRefusal n t e ≡ none → Placed n (taken t e)
   unfolding recordRefusal
-  placed-taken none free = not-some _ free
+  placed-taken none free = absurd (none≢some (sym free))
   placed-taken (some (Checkpoint i)) free = placed-checkpoint i
   placed-taken (some (Send i j)) free =
       let w = or-none (leb n i) (leb n j) (no-rule _ free 0) in
       placed-send i j (leb-false n i (w .0)) (leb-false n j (w .1))
   placed-taken (some (Deliver m)) free = placed-deliver m (not-false (t .underway m) (no-rule _ free 0))
   placed-taken (some (Lose m)) free = placed-lose m
-  placed-taken (some (Recover F)) free = not-some _ free
+  placed-taken (some (Recover F)) free = absurd (none≢some (sym free))
 
 placed-read : (n : ℕ) (t : Pattern) (l : List ℕ) (u : Pattern) → Placed n t → readFrom n t l ≡ whole u → Placed n u
 unfolding readFrom

@@ -1,11 +1,9 @@
 -- Places in one list: which interval an event at a place stands in, and the places of its states.
 -- Assumes nothing.
-use Rattle.laws.specs.Basics.{_≡_, refl, List, [], _∷_, none, some, ℕ, zero, suc, _≤_, _<_, arith, length, by-eq}
+use Rattle.laws.specs.Basics.{_≡_, refl, List, [], _∷_, some, ℕ, zero, suc, _≤_, _<_, arith, length, by-eq}
+use Rattle.laws.specs.Options.{none≢some}
 use Rattle.histories.specs.History.{HistoryEvent, stored, sent, received, Lists, checkpoints}
 use Rattle.theory_patterns.specs.Paths.{eventAt, interval, StandsIn, placeOf, Precedes, next, through}
-
-nothing : {A : Type 0} {x : A} → none ≡ some x → ⊥
-nothing e = let z : _≡_ {A = ℕ} 0 1 = cc in omega arith
 
 -- The interval of an event is that of its place, and at most the live one.
 pub stands-at : (l : List HistoryEvent) (i : ℕ) (e : HistoryEvent) → eventAt l i ≡ some e → StandsIn e (interval l i) l
@@ -80,7 +78,7 @@ place-rises (received m ∷ l) j k h c = omega (arith, place-rises l j k h c)
 -- A place with an event is in the list.
 pub place-in : (l : List HistoryEvent) (i : ℕ) (e : HistoryEvent) → eventAt l i ≡ some e → i < length l
 unfolding eventAt
-place-in [] i e h = absurd (nothing h)
+place-in [] i e h = absurd (none≢some h)
 place-in (x ∷ l) zero e h = omega arith
 place-in (x ∷ l) (suc i) e h = omega (arith, place-in l i e h)
 

@@ -1,7 +1,7 @@
 -- The search of specs/Judging finds the first pair that breaks a pattern, and none exactly where the pattern is trackable.
 -- Assumes nothing.
 use Rattle.laws.specs.Basics.{_≡_, refl, sym, _∙_, Bool, true, false, not, false≢true, Option, none, some, inl, inr, ℕ, zero, suc, _≤_, _<_, arith, pick, by-bool, by-eq}
-use Rattle.laws.specs.Truth.{never-both, and-out}
+use Rattle.laws.specs.{Options.some-same, Options.none≢some, Truth.never-both, Truth.and-out}
 use Rattle.histories.specs.History.{Lists, checkpoints}
 use Rattle.theory_patterns.specs.declared.{Verdict.Verdict, Verdict.the-variants.Breaks}
 use Rattle.theory_patterns.specs.Paths.{Breaking, Trackable, Earlier, FirstBreaking}
@@ -9,9 +9,6 @@ use Rattle.theory_patterns.specs.Judging.{hasZigzag, isBefore, isBreakin
 use Rattle.theory_patterns.proofs.Tested.{Numbered, zigzag-out, zigzag-in, before-out, before-in}
 
 -- The first that is there.
-never : {A : Type 0} {P : Type 0} {x : A} → none ≡ some x → P
-never e = absurd (let z : _≡_ {A = ℕ} 0 1 = cc in omega arith)
-
 pub by-there : {A : Type 0} {P : Type 0} (o : Option A) → (o ≡ none → P) → ((x : A) → o ≡ some x → P) → P
 by-there none f g = f refl
 by-there (some x) f g = g x refl
@@ -22,11 +19,11 @@ module _ {A : Type 0} where
   first-none zero f e k h = absurd (omega arith)
   first-none (suc n) f e k h = by-there (firstOfAll n f)
       (λ q. by-eq k n (λ c. rw c (rw q at e)) (λ ne. first-none n f q k (omega arith)))
-      (λ x q. never (sym (rw q at e)))
+      (λ x q. absurd (none≢some (sym (rw q at e))))
 
   first-out : (n : ℕ) (f : ℕ → Option A) (x : A) → firstOfAll n f ≡ some x → (k : ℕ) × (k < n) × (f k ≡ some x) × ((j : ℕ) → j < k → f j ≡ none)
   unfolding firstOfAll
-  first-out zero f x e = never e
+  first-out zero f x e = absurd (none≢some e)
   first-out (suc n) f x e = by-there (firstOfAll n f)
       (λ q. (n, omega arith, rw q at e, first-none n f q))
       (λ y q. let w = first-out n f x (q ∙ (rw q at e)) in (w .0, omega (arith, w .1), w .2, w .3))
@@ -75,7 +72,7 @@ module _ (n sends : ℕ) (lists : Lists) (w : Numbered n sends lists) where
   near-at a = firstOfAll (checkpoints (lists a)) (λ α. far a α)
 
   there : (a α b β : ℕ) → Breaking n lists a α b β → at a α b β ≡ none → ⊥
-  there a α b β k e = never (sym (rw (is-breaking a α b β k) at e))
+  there a α b β k e = none≢some (sym (rw (is-breaking a α b β k) at e))
 
   none-far-at : (a α b β : ℕ) → Breaking n lists a α b β → far-at a α b ≡ none → ⊥
   none-far-at a α b β k e = there a α b β k (first-none (suc (checkpoints (lists b))) (λ β. at a α b β) e β (omega (arith, k .far-there)))
@@ -106,11 +103,8 @@ module _ (n sends : ℕ) (lists : Lists) (w : Numbered n sends lists) where
 
   found : {x y : Verdict} {b : Bool} → pick b (some x) none ≡ some y → (b ≡ true) × (x ≡ y)
   found {x} {y} {b} e = by-bool b
-      (λ q. (q, same (rw q at e)))
-      (λ q. never (rw q at e))
-    where
-      same : some x ≡ some y → x ≡ y
-      same e = cc
+      (λ q. (q, some-same (rw q at e)))
+      (λ q. absurd (none≢some (rw q at e)))
 
   -- A pair is found: it is the first one that breaks.
   pub first-pair : (v : Verdict) → firstPair n sends lists ≡ some v

@@ -1,21 +1,16 @@
 -- The vectors of a run with recoveries are the vectors of a trail: what the invariant of whole runs says of them by interval, and by place where it says so.
 -- A run of n processes says nothing of entries at n and above; a trail has all, so there a state knows of its own process alone.
 -- Assumes nothing.
-use Rattle.laws.specs.Basics.{_≡_, refl, sym, _∙_, ap, List, [], _∷_, Option, none, some, inl, inr, ℕ, zero, suc, _+_, _≤_, _<_, arith, eqb, ltb, eq-eqb, ne-eqb, lt-ltb, le-ltb, ltb-true, ltb-false, pick, by-bool, by-eq}
+use Rattle.laws.specs.Basics.{_≡_, refl, sym, _∙_, ap, List, [], _∷_, some, inl, inr, ℕ, zero, suc, _+_, _≤_, _<_, arith, eqb, ltb, eq-eqb, ne-eqb, lt-ltb, le-ltb, ltb-true, ltb-false, pick, by-bool, by-eq}
 use mathlib.Core.List.{List·Memᴰ, List·Memᴰ·cases-cons, List·Memᴰ·not-nil}
+use Rattle.laws.specs.Options.{some-same, none≢some}
 use Rattle.histories.specs.History.{HistoryEvent, stored, sent, received, checkpoints, before}
-use Rattle.histories.proofs.{Places.Stands, Places.first, Places.later, Places.weight, Places.stands-cons, Places.stands-nil, Run.Ideal, Invariant.Inv}
+use Rattle.histories.proofs.{Apart.same-sent, Places.Stands, Places.first, Places.later, Places.weight, Places.stands-cons, Places.stands-nil, Run.Ideal, Invariant.Inv}
 use Rattle.histories.proofs.{Line.rising, Cuts.stands-member, Sources.Sources}
 use Rattle.theory_patterns.specs.Paths.{eventAt, interval, StandsIn, placeOf, Before, Trackable}
-use Rattle.theory_patterns.proofs.{Core.Crossing, Causal.by-entry, Causal.entry-by, First.trackable, Trail.Trail, Trail.own, Trail.Right}
+use Rattle.theory_patterns.proofs.{Core.Crossing, Causal.by-entry, Causal.entry-by, Causal.received-or-stored, First.trackable, Trail.Trail, Trail.own, Trail.Right}
 use Rattle.theory_patterns.proofs.Placing.{interval-after, place-stored, place-end, place-in, interval-le}
 use Rattle.theory_patterns.proofs.Facts.{interval-rises, vectors, sources}
-
-nothing : {A : Type 0} {x : A} → none ≡ some x → ⊥
-nothing e = let z : _≡_ {A = ℕ} 0 1 = cc in omega arith
-
-same-some : {A : Type 0} {x y : A} → some x ≡ some y → x ≡ y
-same-some e = cc
 
 -- An event that stands in an interval has a place there, and one at a place stands in its interval: the invariant's word for it, and the paths'.
 counted : (x : HistoryEvent) (l : List HistoryEvent) (i : ℕ) → interval (x ∷ l) (suc i) ≡ weight x + interval l i
@@ -34,8 +29,8 @@ placed (x ∷ l) e g s = elim (stands-cons s) [
 
 stands-at : (l : List HistoryEvent) (i : ℕ) (e : HistoryEvent) → eventAt l i ≡ some e → Stands e (interval l i) l
 unfolding eventAt interval
-stands-at [] i e h = absurd (nothing h)
-stands-at (x ∷ l) zero e h = first {x = x} (sym (same-some h)) refl
+stands-at [] i e h = absurd (none≢some h)
+stands-at (x ∷ l) zero e h = first {x = x} (sym (some-same h)) refl
 stands-at (x ∷ l) (suc i) e h = later {x = x} (stands-at l i e h) (counted x l i)
 
 stands-of : (l : List HistoryEvent) (e : HistoryEvent) (g : ℕ) → StandsIn e g l → Stands e g l
@@ -44,13 +39,10 @@ stands-of l e g s = rw (← s .2) (stands-at l (s .0) e (s .1))
 -- What stands before a send has a lower place.
 before-place : (m : ℕ) (l : List HistoryEvent) (i : ℕ) (e : HistoryEvent) → eventAt l i ≡ some (sent m) → List·Memᴰ e (before m l) → (j : ℕ) × (eventAt l j ≡ some e) × (j < i)
 unfolding before eventAt
-before-place m [] i e h s = absurd (nothing h)
+before-place m [] i e h s = absurd (none≢some h)
 before-place m (stored ∷ l) zero e h s = absurd (let z : _≡_ {A = ℕ} 0 1 = cc in omega arith)
 before-place m (received k ∷ l) zero e h s = absurd (let z : _≡_ {A = ℕ} 0 1 = cc in omega arith)
-before-place m (sent k ∷ l) zero e h s = absurd (List·Memᴰ·not-nil (rw (eq-eqb k m (same-number (same-some h))) at s))
-  where
-    same-number : {k m : ℕ} → sent k ≡ sent m → k ≡ m
-    same-number e = cc
+before-place m (sent k ∷ l) zero e h s = absurd (List·Memᴰ·not-nil (rw (eq-eqb k m (same-sent k m (some-same h))) at s))
 before-place m (stored ∷ l) (suc i) e h s = elim (List·Memᴰ·cases-cons s) [
   | inl q ↦ (zero, ap some (sym q), omega arith)
   | inr t ↦ (let w = before-place m l i e h t in (suc (w .0), w .1, omega (arith, w .2)))
@@ -66,9 +58,6 @@ before-place m (sent k ∷ l) (suc i) e h s = by-bool (eqb k m)
       | inr t ↦ (let w = before-place m l i e h t in (suc (w .0), w .1, omega (arith, w .2)))
     ])
 
-received-stored : {o : Option HistoryEvent} (m : ℕ) → o ≡ some (received m) → o ≡ some stored → ⊥
-received-stored m d e = let z : _≡_ {A = ℕ} 0 1 = cc in omega arith
-
 -- A receipt in an interval of at most k stands before state k.
 in-time : (l : List HistoryEvent) (j x k : ℕ) → eventAt l j ≡ some (received x) → interval l j ≤ k → k ≤ checkpoints l → j < placeOf k l
 in-time l j x k e le far = by-bool (ltb j (placeOf k l))
@@ -78,7 +67,7 @@ in-time l j x k e le far = by-bool (ltb j (placeOf k l))
     by-eq k (checkpoints l)
     (λ c. absurd (omega (arith, place-end l k (omega arith), place-in l j (received x) e)))
     (λ nc. by-eq (placeOf k l) j
-    (λ d. absurd (received-stored x e (rw d at (place-stored l k (omega arith)))))
+    (λ d. absurd (received-or-stored x e (rw d at (place-stored l k (omega arith)))))
     (λ nd. absurd (omega (arith, interval-after l j k (omega arith) (omega arith))))))
 
 module _ (r : Ideal) (v : Inv r) (w : Sources r) where

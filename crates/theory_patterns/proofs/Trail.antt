@@ -4,6 +4,7 @@ use Rattle.laws.specs.Basics.{_≡_, refl, sym, _∙_, ap, [], _∷_, some, _�
 use Rattle.laws.specs.Update.{upd, upd-same, upd-other}
 use Rattle.histories.specs.History.{HistoryEvent, stored, sent, received, Lists, checkpoints}
 use Rattle.whole_runs.specs.Survival.{added}
+use Rattle.histories.proofs.Apart.{same-sent, same-received, sent-stored, received-stored, sent-received}
 use Rattle.histories.proofs.Places.{checkpoints-stored, checkpoints-sent, checkpoints-received}
 use Rattle.theory_patterns.specs.Paths.{eventAt, interval, placeOf}
 use Rattle.theory_patterns.proofs.Placing.{stands-at, stands-le, place-le, place-end, place-rises, place-in}
@@ -38,24 +39,6 @@ pub record Right (t : Trail) : Type 0 where
 -- What state k of p knows of f, p received in a message before that state.
 abbrev Hears : Trail → ℕ → ℕ → ℕ → Type 0
 Hears t p k f = (x : ℕ) × (j : ℕ) × (eventAt (t .lists p) j ≡ some (received x)) × (j < placeOf k (t .lists p)) × (t .vector p k f ≤ t .carried x f)
-
-stored-sent : (m : ℕ) → stored ≡ sent m → ⊥
-stored-sent m e = let z : _≡_ {A = ℕ} 0 1 = cc in omega arith
-
-stored-received : (m : ℕ) → stored ≡ received m → ⊥
-stored-received m e = let z : _≡_ {A = ℕ} 0 1 = cc in omega arith
-
-sent-received : (m k : ℕ) → sent m ≡ received k → ⊥
-sent-received m k e = let z : _≡_ {A = ℕ} 0 1 = cc in omega arith
-
-received-sent : (m k : ℕ) → received m ≡ sent k → ⊥
-received-sent m k e = let z : _≡_ {A = ℕ} 0 1 = cc in omega arith
-
-same-sent : (m k : ℕ) → sent m ≡ sent k → m ≡ k
-same-sent m k e = cc
-
-same-received : (m k : ℕ) → received m ≡ received k → m ≡ k
-same-received m k e = cc
 
 module _ (t : Trail) (v : Right t) where
   -- States of one process know more and more; an event's interval is at most the live one.
@@ -117,11 +100,11 @@ module _ (t : Trail) (v : Right t) where
 
     sent-old : (p j m : ℕ) → eventAt (storing .lists p) j ≡ some (sent m) → eventAt (t .lists p) j ≡ some (sent m)
     unfolding storing
-    sent-old p j m h = elim (event-cases (t .lists) i stored p j (sent m) h) [ inl w ↦ w | inr w ↦ absurd (stored-sent m (w .2)) ]
+    sent-old p j m h = elim (event-cases (t .lists) i stored p j (sent m) h) [ inl w ↦ w | inr w ↦ absurd (sent-stored m (sym (w .2))) ]
 
     received-old : (p j m : ℕ) → eventAt (storing .lists p) j ≡ some (received m) → eventAt (t .lists p) j ≡ some (received m)
     unfolding storing
-    received-old p j m h = elim (event-cases (t .lists) i stored p j (received m) h) [ inl w ↦ w | inr w ↦ absurd (stored-received m (w .2)) ]
+    received-old p j m h = elim (event-cases (t .lists) i stored p j (received m) h) [ inl w ↦ w | inr w ↦ absurd (received-stored m (sym (w .2))) ]
 
     still : (p j : ℕ) (e : HistoryEvent) → eventAt (t .lists p) j ≡ some e → eventAt (storing .lists p) j ≡ some e
     unfolding storing
@@ -356,7 +339,7 @@ module _ (t : Trail) (v : Right t) where
 
     sent-before : (p j x : ℕ) → eventAt (receiving .lists p) j ≡ some (sent x) → eventAt (t .lists p) j ≡ some (sent x)
     unfolding receiving
-    sent-before p j x h = elim (event-cases (t .lists) i (received m) p j (sent x) h) [ inl w ↦ w | inr w ↦ absurd (received-sent m x (w .2)) ]
+    sent-before p j x h = elim (event-cases (t .lists) i (received m) p j (sent x) h) [ inl w ↦ w | inr w ↦ absurd (sent-received x m (sym (w .2))) ]
 
     received-cases : (p j x : ℕ) → eventAt (receiving .lists p) j ≡ some (received x) → (eventAt (t .lists p) j ≡ some (received x)) ⊎ ((p ≡ i) × (j ≡ length (t .lists i)) × (x ≡ m))
     unfolding receiving
