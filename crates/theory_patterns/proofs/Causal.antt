@@ -1,10 +1,11 @@
 -- Source document 001, equation 2: state α of a causally precedes state β of b exactly if α is less than entry a of that state's vector.
 -- Assumes nothing.
-use Rattle.laws.specs.Basics.{_≡_, refl, ap, Option, some, _⊎_, inl, inr, ℕ, zero, suc, _≤_, _<_, arith, ltb, length, ltb-true, ltb-false, by-bool, by-eq}
-use Rattle.histories.specs.History.{HistoryEvent, stored, sent, received, Lists, checkpoints}
-use Rattle.theory_patterns.specs.Paths.{eventAt, interval, placeOf, Precedes, next, message, through, Before}
+use Rattle.laws.specs.Basics.{_≡_, ap, some, inl, inr, ℕ, zero, suc, _≤_, _<_, arith, length, by-eq}
+use Rattle.histories.specs.History.{sent, received, Lists, checkpoints}
+use Rattle.theory_patterns.specs.Paths.{eventAt, interval, placeOf, Precedes, message, through, Before}
 use Rattle.theory_patterns.proofs.Core.{Vectors, higher}
-use Rattle.theory_patterns.proofs.Placing.{stands-at, interval-before, interval-after, place-stored, place-le, place-rises, place-in, along}
+use Rattle.theory_patterns.proofs.Placing.{stands-at, interval-before, interval-after, place-before, place-le, place-rises, place-in, along}
+use Rattle.theory_patterns.proofs.Reaching.{Knows, reached}
 
 -- What the proof uses besides the vectors: receipts before a send are carried by it, and what is carried or known of another process was received before.
 pub record Sources (lists : Lists) (v : Vectors lists) : Type 0 where
@@ -15,51 +16,18 @@ pub record Sources (lists : Lists) (v : Vectors lists) : Type 0 where
   pub heard : (p k f : ℕ) → k ≤ checkpoints (lists p) → (p ≡ f → ⊥) → 1 ≤ v .vector p k f
       → (x : ℕ) × (j : ℕ) × (eventAt (lists p) j ≡ some (received x)) × (j < placeOf k (lists p)) × (v .vector p k f ≤ v .carried x f)
 
--- Two events at one place are the same.
-pub sent-or-received : {o : Option HistoryEvent} (m x : ℕ) → o ≡ some (sent m) → o ≡ some (received x) → ⊥
-sent-or-received m x d e = let z : _≡_ {A = ℕ} 0 1 = cc in omega arith
-
-pub sent-or-stored : {o : Option HistoryEvent} (m : ℕ) → o ≡ some (sent m) → o ≡ some stored → ⊥
-sent-or-stored m d e = let z : _≡_ {A = ℕ} 0 1 = cc in omega arith
-
-pub received-or-stored : {o : Option HistoryEvent} (m : ℕ) → o ≡ some (received m) → o ≡ some stored → ⊥
-received-or-stored m d e = let z : _≡_ {A = ℕ} 0 1 = cc in omega arith
-
 module _ (lists : Lists) (v : Vectors lists) (s : Sources lists v) (a α : ℕ) (near : α < checkpoints (lists a)) where
-  -- Place j of q comes after the near end, or is it: by its own list, or by a message that was received up to there.
-  Has : ℕ → ℕ → Type 0
-  Has q j = ((q ≡ a) × (placeOf α (lists a) ≤ j)) ⊎ ((m : ℕ) × (i : ℕ) × (eventAt (lists q) i ≡ some (received m)) × (i ≤ j) × (α < v .carried m a))
+  -- What a place after the near end knows of it: a message that tells it carries the near end.
+  abbrev Known : ℕ → ℕ → Type 0
+  Known = Knows lists a α (λ m. α < v .carried m a)
 
-  -- The same, and it is not the near end itself.
-  Knows : ℕ → ℕ → Type 0
-  Knows q j = ((q ≡ a) × (placeOf α (lists a) < j)) ⊎ ((m : ℕ) × (i : ℕ) × (eventAt (lists q) i ≡ some (received m)) × (i ≤ j) × (α < v .carried m a))
-
-  has : (q j : ℕ) → Knows q j → Has q j
-  unfolding Has Knows
-  has q j (inl w) = inl (w .0, omega (arith, w .1))
-  has q j (inr w) = inr w
-
-  -- A send from a place that has it carries it.
-  carries : (q j m : ℕ) → eventAt (lists q) j ≡ some (sent m) → Has q j → α < v .carried m a
-  unfolding Has
-  carries q j m e (inl w) =
-      let here : eventAt (lists a) j ≡ some (sent m) = rw (w .0) at e in
-      by-eq (placeOf α (lists a)) j
-      (λ c. absurd (sent-or-stored m here (rw c at (place-stored (lists a) α near))))
-      (λ ne. omega (arith, interval-after (lists a) j α near (omega (arith, w .1)), v .sends a (interval (lists a) j) m (stands-at (lists a) j (sent m) here)))
-  carries q j m e (inr (x, i, r, le, lt)) = by-eq i j
-      (λ c. absurd (sent-or-received m x e (rw c at r)))
-      (λ ne. omega (arith, lt, s .ordered q j i m x a r e (omega arith)))
-
-  onto : (q j r k : ℕ) → Precedes lists q j r k → Has q j → Knows r k
-  unfolding Has Knows
-  onto q j r k (next lt) (inl w) = inl (w .0, omega (arith, w .1))
-  onto q j r k (next lt) (inr (m, i, e, le, c)) = inr (m, i, e, omega arith, c)
-  onto q j r k (message {m = m} d e) h = inr (m, k, e, omega arith, carries q j m d h)
-  onto q j r k (through {q = t} {j = u} x y) h = onto t u r k y (has t u (onto q j t u x h))
+  known : (q j : ℕ) → Precedes lists a (placeOf α (lists a)) q j → Known q j
+  known = reached lists a α (λ m. α < v .carried m a) near
+      (λ j m here lt. omega (arith, lt, v .sends a (interval (lists a) j) m (stands-at (lists a) j (sent m) here)))
+      (λ q i j x m r e lt c. omega (arith, c, s .ordered q j i m x a r e lt))
 
   -- What a state's place knows, its vector says.
-  learnt : (b β : ℕ) → β ≤ checkpoints (lists b) → Knows b (placeOf β (lists b)) → α < v .vector b β a
+  learnt : (b β : ℕ) → β ≤ checkpoints (lists b) → Known b (placeOf β (lists b)) → α < v .vector b β a
   unfolding Knows
   learnt b β far (inl (e, lt)) =
       let same : v .vector b β a ≡ v .vector a β a = ap (λ (q : ℕ). v .vector q β a) e in
@@ -72,8 +40,7 @@ module _ (lists : Lists) (v : Vectors lists) (s : Sources lists v) (a α : ℕ) 
       omega (arith, c, v .takes b g m a (stands-at (lists b) i (received m) e), higher lists v b g β a low far)
 
   pub entry-by : (b β : ℕ) → β ≤ checkpoints (lists b) → Before lists a α b β → α < v .vector b β a
-  unfolding Has
-  entry-by b β far w = learnt b β far (onto a (placeOf α (lists a)) b (placeOf β (lists b)) w (inl (refl, omega arith)))
+  entry-by b β far w = learnt b β far (known b (placeOf β (lists b)) w)
 
   -- A message that carries the near end was sent after it, or after the receipt of a message that does: so its receipt comes after the near end.
   from-carried : (bound m q j : ℕ) → m < bound → eventAt (lists q) j ≡ some (received m) → α < v .carried m a → Precedes lists a (placeOf α (lists a)) q j
@@ -86,7 +53,7 @@ module _ (lists : Lists) (v : Vectors lists) (s : Sources lists v) (a α : ℕ) 
       (λ d.
       let here : eventAt (lists a) i ≡ some (sent m) = rw d at (w .2) in
       let g : v .carried m a ≡ interval (lists a) i = v .sends a (interval (lists a) i) m (stands-at (lists a) i (sent m) here) in
-      let before : placeOf α (lists a) < i = earlier i (omega (arith, c, g)) in
+      let before : placeOf α (lists a) < i = place-before (lists a) i α (omega (arith, c, g)) in
       let inside : i < length (lists a) = place-in (lists a) i (sent m) here in
       through (along lists a (placeOf α (lists a)) i before (omega (arith, inside))) (message here e))
       (λ ne.
@@ -94,11 +61,6 @@ module _ (lists : Lists) (v : Vectors lists) (s : Sources lists v) (a α : ℕ) 
       let back = from-carried bound (x .0) p (x .1) (omega (arith, x .4)) (x .2) (omega (arith, c, x .5)) in
       let inside : i < length (lists p) = place-in (lists p) i (sent m) (w .2) in
       through back (through (along lists p (x .1) i (x .3) (omega (arith, inside))) (message (w .2) e)))
-    where
-      earlier : (i : ℕ) → α < interval (lists a) i → placeOf α (lists a) < i
-      earlier i h = by-bool (ltb (placeOf α (lists a)) i)
-          (λ e. ltb-true (placeOf α (lists a)) i e)
-          (λ e. absurd (omega (arith, h, interval-before (lists a) i α (ltb-false (placeOf α (lists a)) i e))))
 
   pub by-entry : (b β : ℕ) → β ≤ checkpoints (lists b) → α < v .vector b β a → Before lists a α b β
   by-entry b β far lt = by-eq b a

@@ -1,6 +1,7 @@
 pub mod Core
 pub mod First
 pub mod Placing
+pub mod Reaching
 pub mod Causal
 pub mod Adding
 pub mod Trail

@@ -1,15 +1,14 @@
 -- A trace that is read to its end leaves a pattern whose processes are among n and whose messages have the numbers 1 to the number of sends.
 -- Assumes nothing.
-use Rattle.laws.specs.Basics.{_≡_, sym, _∙_, ap, true, false, false≢true, List, [], _∷_, Option, none, some, inl, inr, ℕ, zero, suc, _+_, _/_, _<_, arith, ltb, leb, length, leb-false, not-false, by-bool, by-eq}
-use Rattle.laws.specs.{Options.some-same, Options.none≢some, Truth.or-none, Update.upd, Update.upd-same, Update.upd-other}
+use Rattle.laws.specs.Basics.{_≡_, sym, _∙_, ap, true, false, false≢true, List, [], _∷_, Option, none, some, inl, inr, ℕ, suc, _+_, _/_, _<_, arith, ltb, leb, length, leb-false, not-false, by-bool, by-eq}
+use Rattle.laws.specs.{Options.none≢some, Truth.or-none, Update.upd, Update.upd-same, Update.upd-other}
 use Rattle.model.specs.declared.{Event.Event, Refusal.Refusal}
 use Rattle.model.specs.declared.Event.the-variants.{Checkpoint, Send, Deliver, Lose, Recover}
 use Rattle.model.specs.{Words.ones, Refusals.startRefusal, laws.Refusals.no-rule, laws.Refusals.by-refusal, Trace.decoded}
-use Rattle.histories.specs.History.{HistoryEvent, stored, sent, received}
+use Rattle.histories.specs.History.{stored, sent, received}
 use Rattle.histories.proofs.Apart.{same-sent, same-received, sent-stored, received-stored, sent-received}
-use Rattle.theory_patterns.specs.Paths.{eventAt}
 use Rattle.theory_patterns.specs.Patterns.{Pattern, empty, recordRefusal, taken, refused, whole, mostJudged, readFrom, reading}
-use Rattle.theory_patterns.proofs.{Adding.event-cases, Tested.Numbered}
+use Rattle.theory_patterns.proofs.{Adding.event-cases, Placing.first-event, Tested.Numbered}
 
 -- What is read to its end is not refused.
 not-refused : {P : Type 0} (r : Refusal) (t : Pattern) → refused r ≡ whole t → P
@@ -22,11 +21,6 @@ same-whole t u e = cc
 record Placed (n : ℕ) (t : Pattern) : Type 0 where
   events : Numbered n (t .sends) (t .lists)
   waiting : (m : ℕ) → t .underway m ≡ true → (t .receiver m < n) × (m < suc (t .sends))
-
-first-event : (i : ℕ) (e : HistoryEvent) → eventAt (stored ∷ []) i ≡ some e → e ≡ stored
-unfolding eventAt
-first-event zero e h = sym (some-same h)
-first-event (suc i) e h = absurd (none≢some h)
 
 placed-empty : (n : ℕ) → Placed n empty
 unfolding empty

@@ -1,9 +1,15 @@
 -- Places in one list: which interval an event at a place stands in, and the places of its states.
 -- Assumes nothing.
-use Rattle.laws.specs.Basics.{_≡_, refl, List, [], _∷_, some, ℕ, zero, suc, _≤_, _<_, arith, length, by-eq}
-use Rattle.laws.specs.Options.{none≢some}
+use Rattle.laws.specs.Basics.{_≡_, refl, sym, List, [], _∷_, some, ℕ, zero, suc, _≤_, _<_, arith, ltb, length, ltb-true, ltb-false, by-bool, by-eq}
+use Rattle.laws.specs.Options.{some-same, none≢some}
 use Rattle.histories.specs.History.{HistoryEvent, stored, sent, received, Lists, checkpoints}
 use Rattle.theory_patterns.specs.Paths.{eventAt, interval, StandsIn, placeOf, Precedes, next, through}
+
+-- A list that is checkpoint 0 alone has no other event.
+pub first-event : (i : ℕ) (e : HistoryEvent) → eventAt (stored ∷ []) i ≡ some e → e ≡ stored
+unfolding eventAt
+first-event zero e h = sym (some-same h)
+first-event (suc i) e h = absurd (none≢some h)
 
 -- The interval of an event is that of its place, and at most the live one.
 pub stands-at : (l : List HistoryEvent) (i : ℕ) (e : HistoryEvent) → eventAt l i ≡ some e → StandsIn e (interval l i) l
@@ -38,6 +44,12 @@ interval-after (stored ∷ l) (suc i) zero c h = omega arith
 interval-after (stored ∷ l) (suc i) (suc k) c h = omega (arith, interval-after l i k (omega arith) (omega arith))
 interval-after (sent m ∷ l) (suc i) k c h = interval-after l i k c (omega arith)
 interval-after (received m ∷ l) (suc i) k c h = interval-after l i k c (omega arith)
+
+-- A place in a later interval than k comes after checkpoint k.
+pub place-before : (l : List HistoryEvent) (i k : ℕ) → k < interval l i → placeOf k l < i
+place-before l i k h = by-bool (ltb (placeOf k l) i)
+    (λ e. ltb-true (placeOf k l) i e)
+    (λ e. absurd (omega (arith, h, interval-before l i k (ltb-false (placeOf k l) i e))))
 
 -- The place of a checkpoint holds a checkpoint, that of the live state no event.
 pub place-stored : (l : List HistoryEvent) (k : ℕ) → k < checkpoints l → eventAt l (placeOf k l) ≡ some stored

@@ -5,10 +5,10 @@ use Rattle.laws.specs.Basics.{_≡_, refl, sym, _∙_, ap, List, [], _∷_, som
 use mathlib.Core.List.{List·Memᴰ, List·Memᴰ·cases-cons, List·Memᴰ·not-nil}
 use Rattle.laws.specs.Options.{some-same, none≢some}
 use Rattle.histories.specs.History.{HistoryEvent, stored, sent, received, checkpoints, before}
-use Rattle.histories.proofs.{Apart.same-sent, Places.Stands, Places.first, Places.later, Places.weight, Places.stands-cons, Places.stands-nil, Run.Ideal, Invariant.Inv}
+use Rattle.histories.proofs.{Apart.same-sent, Apart.received-stored, Places.Stands, Places.first, Places.later, Places.weight, Places.stands-cons, Places.stands-nil, Run.Ideal, Invariant.Inv}
 use Rattle.histories.proofs.{Line.rising, Cuts.stands-member, Sources.Sources}
 use Rattle.theory_patterns.specs.Paths.{eventAt, interval, StandsIn, placeOf, Before, Trackable}
-use Rattle.theory_patterns.proofs.{Core.Crossing, Causal.by-entry, Causal.entry-by, Causal.received-or-stored, First.trackable, Trail.Trail, Trail.own, Trail.Right}
+use Rattle.theory_patterns.proofs.{Core.Crossing, Causal.by-entry, Causal.entry-by, First.trackable, Trail.Trail, Trail.own, Trail.Right}
 use Rattle.theory_patterns.proofs.Placing.{interval-after, place-stored, place-end, place-in, interval-le}
 use Rattle.theory_patterns.proofs.Facts.{interval-rises, vectors, sources}
 
@@ -67,7 +67,7 @@ in-time l j x k e le far = by-bool (ltb j (placeOf k l))
     by-eq k (checkpoints l)
     (λ c. absurd (omega (arith, place-end l k (omega arith), place-in l j (received x) e)))
     (λ nc. by-eq (placeOf k l) j
-    (λ d. absurd (received-or-stored x e (rw d at (place-stored l k (omega arith)))))
+    (λ d. absurd (received-stored x (some-same (sym e ∙ (rw d at (place-stored l k (omega arith)))))))
     (λ nd. absurd (omega (arith, interval-after l j k (omega arith) (omega arith))))))
 
 module _ (r : Ideal) (v : Inv r) (w : Sources r) where

@@ -1,12 +1,13 @@
 -- The tests of specs/Judging find exactly what specs/Paths defines: zigzag paths and causal precedence.
 -- Assumes nothing.
-use Rattle.laws.specs.Basics.{_≡_, refl, sym, ap, Bool, true, _&&_, false≢true, List, Option, none, some, _⊎_, inl, inr, ℕ, zero, suc, _≤_, _<_, arith, eqb, ltb, leb, length, eq-eqb, eqb-true, lt-ltb, ltb-true, ltb-false, le-leb, leb-true, by-bool, by-eq}
-use Rattle.laws.specs.{Truth.and-out, Truth.and-both, Truth.or-left, Truth.or-in-right, Truth.or-right, Search.any-out, Search.any-in}
+use Rattle.laws.specs.Basics.{_≡_, refl, sym, _∙_, ap, Bool, true, _&&_, false≢true, List, Option, none, some, inl, inr, ℕ, zero, suc, _≤_, _<_, arith, eqb, ltb, leb, length, eq-eqb, eqb-true, lt-ltb, ltb-true, ltb-false, le-leb, leb-true, by-bool, by-eq}
+use Rattle.laws.specs.{Options.some-same, Truth.and-out, Truth.and-both, Truth.or-left, Truth.or-in-right, Truth.or-right, Search.any-out, Search.any-in}
 use Rattle.histories.specs.History.{HistoryEvent, stored, sent, received, Lists, checkpoints}
-use Rattle.theory_patterns.specs.Paths.{eventAt, interval, placeOf, Path, one, onward, Zigzag, Precedes, next, message, through, Before}
+use Rattle.histories.proofs.Apart.{received-stored}
+use Rattle.theory_patterns.specs.Paths.{eventAt, interval, placeOf, Path, one, onward, Zigzag, Precedes, message, through, Before}
 use Rattle.theory_patterns.specs.Judging.{isSend, isReceipt, sentWhere, receivedWhere, sentAfter, sentOnward, sentLater, receivedBefore, isLast, connects, hasZigzag, isBefore}
-use Rattle.theory_patterns.proofs.Placing.{stands-at, interval-before, interval-after, place-stored, place-le, place-end, place-rises, place-in, along}
-use Rattle.theory_patterns.proofs.Causal.{sent-or-received, sent-or-stored, received-or-stored}
+use Rattle.theory_patterns.proofs.Placing.{stands-at, interval-before, interval-after, place-before, place-stored, place-le, place-end, place-rises, place-in, along}
+use Rattle.theory_patterns.proofs.Reaching.{Knows, reached}
 use Rattle.theory_patterns.proofs.Sequences.{last-none, last-out, begun, closed}
 
 -- Events at a place.
@@ -67,7 +68,7 @@ before-state l β j m far r le = by-bool (ltb j (placeOf β l))
     by-eq β (checkpoints l)
     (λ c. absurd (omega (arith, late, place-end l β (omega arith), place-in l j (received m) r)))
     (λ ne. by-eq j (placeOf β l)
-    (λ c. absurd (received-or-stored m r (rw (← c) at (place-stored l β (omega arith)))))
+    (λ c. absurd (received-stored m (some-same (sym r ∙ (rw (← c) at (place-stored l β (omega arith)))))))
     (λ other. absurd (omega (arith, le, interval-after l j β (omega arith) (omega arith))))))
 
 -- Every message of the lists has a number that is searched, and every process of one is among n.
@@ -184,17 +185,12 @@ module _ (n sends : ℕ) (lists : Lists) (w : Numbered n sends lists) where
     abbrev endsCausal : ℕ → ℕ → Bool
     endsCausal = isLast (suc sends) (sentAfter lists a α) (sentLater n lists)
 
-    earlier : (i : ℕ) → α < interval (lists a) i → placeOf α (lists a) < i
-    earlier i h = by-bool (ltb (placeOf α (lists a)) i)
-        (λ e. ltb-true (placeOf α (lists a)) i e)
-        (λ e. absurd (omega (arith, h, interval-before (lists a) i α (ltb-false (placeOf α (lists a)) i e))))
-
     to-precedes : (k m : ℕ) → endsCausal k m ≡ true → (q j : ℕ) → eventAt (lists q) j ≡ some (received m) → Precedes lists a (placeOf α (lists a)) q j
     to-precedes zero m e q j r = last-none (suc sends) (sentAfter lists a α) (sentLater n lists) m e
     to-precedes (suc k) m e q j r = elim (last-out (suc sends) (sentAfter lists a α) (sentLater n lists) k m e) [
       | inl f ↦
           let s = after-out m f in
-          through (along lists a (placeOf α (lists a)) (s .0) (earlier (s .0) (s .2)) (omega (arith, place-in (lists a) (s .0) (sent m) (s .1)))) (message (s .1) r)
+          through (along lists a (placeOf α (lists a)) (s .0) (place-before (lists a) (s .0) α (s .2)) (omega (arith, place-in (lists a) (s .0) (sent m) (s .1)))) (message (s .1) r)
       | inr (x, lt, d, o) ↦
           let s = later-out x m o in
           let c = s .0 in
@@ -219,38 +215,16 @@ module _ (n sends : ℕ) (lists : Lists) (w : Numbered n sends lists) where
               let inside : β ≤ checkpoints (lists a) = rw c at far in
               rw c (along lists a (placeOf α (lists a)) (placeOf β (lists a)) (place-rises (lists a) α β lt inside) (place-le (lists a) β))
 
-      -- Place j of q has the near end before it, or is it: by its own list, or by a message that was received up to there.
-      Has : ℕ → ℕ → Type 0
-      Has q j = ((q ≡ a) × (placeOf α (lists a) ≤ j)) ⊎ ((m : ℕ) × (i : ℕ) × (eventAt (lists q) i ≡ some (received m)) × (i ≤ j) × (endsCausal (suc sends) m ≡ true))
+      -- What a place after the near end knows of it: a message that tells it ends a sequence from the near end.
+      abbrev Known : ℕ → ℕ → Type 0
+      Known = Knows lists a α (λ m. endsCausal (suc sends) m ≡ true)
 
-      -- The same, and it is not the near end itself.
-      Knows : ℕ → ℕ → Type 0
-      Knows q j = ((q ≡ a) × (placeOf α (lists a) < j)) ⊎ ((m : ℕ) × (i : ℕ) × (eventAt (lists q) i ≡ some (received m)) × (i ≤ j) × (endsCausal (suc sends) m ≡ true))
+      known : (q j : ℕ) → Precedes lists a (placeOf α (lists a)) q j → Known q j
+      known = reached lists a α (λ m. endsCausal (suc sends) m ≡ true) near
+          (λ j m here lt. begun (suc sends) (sentAfter lists a α) (sentLater n lists) m (w .sent-by a j m here .1) (after-in m j here lt))
+          (λ q i j x m r e lt c. closed (suc sends) (sentAfter lists a α) (sentLater n lists) x m (w .received-by q i x r .1) (w .sent-by q j m e .1) c (later-in x m q i j r e lt))
 
-      has : (q j : ℕ) → Knows q j → Has q j
-      unfolding Has Knows
-      has q j (inl u) = inl (u .0, omega (arith, u .1))
-      has q j (inr u) = inr u
-
-      carries : (q j m : ℕ) → eventAt (lists q) j ≡ some (sent m) → Has q j → endsCausal (suc sends) m ≡ true
-      unfolding Has
-      carries q j m e (inl u) =
-          let here : eventAt (lists a) j ≡ some (sent m) = rw (u .0) at e in
-          by-eq (placeOf α (lists a)) j
-          (λ c. absurd (sent-or-stored m here (rw c at (place-stored (lists a) α near))))
-          (λ ne. begun (suc sends) (sentAfter lists a α) (sentLater n lists) m (w .sent-by q j m e .1) (after-in m j here (interval-after (lists a) j α near (omega (arith, u .1, ne)))))
-      carries q j m e (inr (x, i, r, le, c)) = by-eq i j
-          (λ d. absurd (sent-or-received m x e (rw d at r)))
-          (λ ne. closed (suc sends) (sentAfter lists a α) (sentLater n lists) x m (w .received-by q i x r .1) (w .sent-by q j m e .1) c (later-in x m q i j r e (omega arith)))
-
-      onto : (q j r k : ℕ) → Precedes lists q j r k → Has q j → Knows r k
-      unfolding Has Knows
-      onto q j r k (next lt) (inl u) = inl (u .0, omega (arith, u .1))
-      onto q j r k (next lt) (inr (m, i, e, le, c)) = inr (m, i, e, omega arith, c)
-      onto q j r k (message {m = m} d e) h = inr (m, k, e, omega arith, carries q j m d h)
-      onto q j r k (through {q = t} {j = u} x y) h = onto t u r k y (has t u (onto q j t u x h))
-
-      learnt : (b β : ℕ) → Knows b (placeOf β (lists b)) → isBefore n sends lists a α b β ≡ true
+      learnt : (b β : ℕ) → Known b (placeOf β (lists b)) → isBefore n sends lists a α b β ≡ true
       unfolding Knows isBefore
       learnt b β (inl (e, lt)) =
           let later : placeOf α (lists a) < placeOf β (lists a) = omega (arith, lt, ap (λ (q : ℕ). placeOf β (lists q)) e) in
@@ -259,5 +233,4 @@ module _ (n sends : ℕ) (lists : Lists) (w : Numbered n sends lists) where
       learnt b β (inr (m, i, r, le, c)) = or-in-right (eqb a b && ltb α β) _ (ends-in b β (sentLater n lists) m i c r (interval-before (lists b) i β le))
 
       pub before-in : (b β : ℕ) → Before lists a α b β → isBefore n sends lists a α b β ≡ true
-      unfolding Has
-      before-in b β p = learnt b β (onto a (placeOf α (lists a)) b (placeOf β (lists b)) p (inl (refl, omega arith)))
+      before-in b β p = learnt b β (known b (placeOf β (lists b)) p)
