@@ -1,24 +1,15 @@
 -- The first rows hold the start: each list is checkpoint 0.
 -- Assumes nothing.
-use Rattle.laws.specs.Basics.{_≡_, refl, sym, _∙_, ap, List, [], _∷_, some, ℕ, zero, suc, _≤_, _<_, arith, eqb, length, getD, eq-eqb, pick}
-use Rattle.histories.specs.History.{HistoryEvent, stored, sent, received, checkpoints}
-use Rattle.theory_patterns.specs.Paths.{eventAt, StandsIn}
-use Rattle.theory_patterns.proofs.Facts.{begin}
+use Rattle.laws.specs.Basics.{_≡_, refl, sym, _∙_, ap, List, ℕ, _≤_, _<_, arith, eqb, length, getD, eq-eqb, pick}
+use Rattle.histories.specs.History.{HistoryEvent, stored, checkpoints}
+use Rattle.histories.proofs.Apart.{sent-stored, received-stored}
+use Rattle.theory_patterns.specs.Paths.{StandsIn}
+use Rattle.theory_patterns.proofs.{Facts.begin, Placing.first-event}
 use Rattle.library_judge.specs.{decision.Rows.entryAt, Readings.FirstRows, decision.Represents.intervalOf, decision.Represents.Represents}
 
-only-stored : {P : Type 0} {e : HistoryEvent} {g : ℕ} (p : ℕ) → StandsIn e g (begin .lists p) → (e ≡ stored → P) → P
+only-stored : {e : HistoryEvent} {g : ℕ} (p : ℕ) → StandsIn e g (begin .lists p) → e ≡ stored
 unfolding begin
-only-stored {e = e} p s f = f (at-first (s .0) (s .1))
-  where
-    at-first : (i : ℕ) → eventAt (stored ∷ []) i ≡ some e → e ≡ stored
-    at-first zero h = unfold eventAt in cc
-    at-first (suc i) h = absurd (unfold eventAt in let z : _≡_ {A = ℕ} 0 1 = cc in omega arith)
-
-sent-stored : {P : Type 0} (x : ℕ) → sent x ≡ stored → P
-sent-stored x e = absurd (let z : _≡_ {A = ℕ} 0 1 = cc in omega arith)
-
-received-stored : {P : Type 0} (x : ℕ) → received x ≡ stored → P
-received-stored x e = absurd (let z : _≡_ {A = ℕ} 0 1 = cc in omega arith)
+only-stored {e = e} p s = first-event (s .0) e (s .1)
 
 pub own-begin : (p : ℕ) → checkpoints (begin .lists p) ≡ 1
 unfolding begin checkpoints
@@ -51,6 +42,6 @@ module _ (n : ℕ) (vs process from to current : List ℕ) (few : n ≤ 16) (roo
     to-row = λ m lm. absurd (omega arith);
     sent-in = λ m lm. absurd (omega arith);
     received-in = λ m lm ne. absurd (omega arith);
-    all-sent = λ p g m s. only-stored p s (sent-stored m);
-    all-received = λ p g m s. only-stored p s (received-stored m);
+    all-sent = λ p g m s. absurd (sent-stored m (only-stored p s));
+    all-received = λ p g m s. absurd (received-stored m (only-stored p s));
   }

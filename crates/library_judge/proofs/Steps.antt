@@ -1,14 +1,16 @@
 -- The tables hold the trail after each record: a checkpoint, a send, a delivery. A lost message changes nothing that the tables hold.
 -- Assumes nothing.
-use Rattle.laws.specs.Basics.{_≡_, refl, sym, _∙_, ap, List, _⊎_, inl, inr, ℕ, zero, suc, _-_, _≤_, _<_, arith, ltb, length, getD, ltb-true, ltb-false, by-bool, by-eq}
+use Rattle.laws.specs.Basics.{_≡_, refl, sym, _∙_, ap, List, _⊎_, inl, inr, ℕ, suc, _-_, _≤_, _<_, arith, ltb, length, getD, ltb-true, ltb-false, by-bool, by-eq}
 use Rattle.laws.specs.Loops.{either}
 use Rattle.histories.specs.History.{HistoryEvent, stored, sent, received, Lists, checkpoints}
 use Rattle.whole_runs.specs.Survival.{added}
+use Rattle.histories.proofs.Apart.{same-sent, same-received, sent-stored, received-stored, sent-received}
 use Rattle.histories.proofs.Places.{checkpoints-stored, checkpoints-sent, checkpoints-received}
 use Rattle.theory_patterns.specs.Paths.{interval, StandsIn}
 use Rattle.theory_patterns.proofs.Placing.{place-in}
 use Rattle.theory_patterns.proofs.Adding.{list-same, list-other, event-old, event-new, event-cases, interval-old, interval-new}
 use Rattle.library_judge.specs.{decision.Rows.entryAt, decision.Represents.intervalOf, decision.Represents.Represents}
+use Rattle.library_judge.proofs.decision.Verdict.{received-row}
 
 module _ (lists : Lists) (i : ℕ) (x : HistoryEvent) where
   pub keeps : {e : HistoryEvent} {g : ℕ} (p : ℕ) → StandsIn e g (lists p) → StandsIn e g (added lists i x p)
@@ -34,30 +36,8 @@ sent-own lists i m p = by-eq p i (λ e. rw (e, list-same lists i (sent m)) (chec
 pub received-own : (lists : Lists) (i m p : ℕ) → checkpoints (added lists i (received m) p) ≡ checkpoints (lists p)
 received-own lists i m p = by-eq p i (λ e. rw (e, list-same lists i (received m)) (checkpoints-received (lists i) m)) (λ ne. other-own lists i (received m) p ne)
 
-no-clash : {P : Type 0} (x y : ℕ) → sent x ≡ received y → P
-no-clash x y e = absurd (let z : _≡_ {A = ℕ} 0 1 = cc in omega arith)
-
-no-clash' : {P : Type 0} (x y : ℕ) → received x ≡ sent y → P
-no-clash' x y e = absurd (let z : _≡_ {A = ℕ} 0 1 = cc in omega arith)
-
-sent-stored : {P : Type 0} (x : ℕ) → sent x ≡ stored → P
-sent-stored x e = absurd (let z : _≡_ {A = ℕ} 0 1 = cc in omega arith)
-
-received-stored : {P : Type 0} (x : ℕ) → received x ≡ stored → P
-received-stored x e = absurd (let z : _≡_ {A = ℕ} 0 1 = cc in omega arith)
-
-same-sent : (x y : ℕ) → sent x ≡ sent y → x ≡ y
-same-sent x y e = cc
-
-same-received : (x y : ℕ) → received x ≡ received y → x ≡ y
-same-received x y e = cc
-
 placed-to : {e : HistoryEvent} {g j p q : ℕ} (lists : Lists) → g ≡ j → p ≡ q → StandsIn e g (lists p) → StandsIn e j (lists q)
 placed-to lists a b s = rw b at (rw a at s)
-
-positive : (y : ℕ) → (y ≡ 0 → ⊥) → 1 ≤ y
-positive zero ne = absurd (ne refl)
-positive (suc y) ne = omega arith
 
 module _ (n : ℕ) (lists : Lists) (vector vector' : ℕ → ℕ → ℕ → ℕ) (rows last : ℕ) (vs process from to : List ℕ)
     (h : Represents n lists vector rows last vs process from to) where
@@ -77,9 +57,6 @@ module _ (n : ℕ) (lists : Lists) (vector vector' : ℕ → ℕ → ℕ → ℕ
 
     least : (p : ℕ) → checkpoints (lists p) ≤ checkpoints (added lists i stored p)
     least p = by-eq p i (λ e. rw e (omega (arith, stored-own lists i))) (λ ne. omega (arith, other-own lists i stored p ne))
-
-    to-in : (m : ℕ) → m < last → (getD to m 0 ≡ 0 → ⊥) → getD to m 0 - 1 < rows
-    to-in m lm ne = omega (arith, h .to-row m lm, positive (getD to m 0) ne)
 
     state' : (r : ℕ) → r < rows → intervalOf vs' process' r ≤ checkpoints (added lists i stored (getD process' r 0))
     state' r lr = omega (arith, old-i r lr, h .state r lr, least (getD process r 0), ap (λ (q : ℕ). checkpoints (added lists i stored q)) (old-p r lr))
@@ -121,16 +98,16 @@ module _ (n : ℕ) (lists : Lists) (vector vector' : ℕ → ℕ → ℕ → ℕ
       to-row = λ m lm. omega (arith, h .to-row m lm);
       sent-in = λ m lm. let l = h .from-row m lm in
           placed-to (added lists i stored) (sym (old-i (getD from m 0) l)) (sym (old-p (getD from m 0) l)) (keeps lists i stored (getD process (getD from m 0) 0) (h .sent-in m lm));
-      received-in = λ m lm ne. let l = to-in m lm ne in
+      received-in = λ m lm ne. let l = received-row h m lm ne in
           placed-to (added lists i stored) (sym (old-i (getD to m 0 - 1) l)) (sym (old-p (getD to m 0 - 1) l)) (keeps lists i stored (getD process (getD to m 0 - 1) 0) (h .received-in m lm ne));
       all-sent = λ p g m s. either (cases lists i stored p s)
           (λ w. let y = h .all-sent p g m w in let l = h .from-row (y .0) (y .1) in
           (y .0, y .1, y .2, old-p (getD from (y .0) 0) l ∙ y .3, old-i (getD from (y .0) 0) l ∙ y .4))
-          (λ w. sent-stored m (w .1));
+          (λ w. absurd (sent-stored m (w .1)));
       all-received = λ p g m s. either (cases lists i stored p s)
-          (λ w. let y = h .all-received p g m w in let l = to-in (y .0) (y .1) (y .3) in
+          (λ w. let y = h .all-received p g m w in let l = received-row h (y .0) (y .1) (y .3) in
           (y .0, y .1, y .2, y .3, old-p (getD to (y .0) 0 - 1) l ∙ y .4, old-i (getD to (y .0) 0 - 1) l ∙ y .5))
-          (λ w. received-stored m (w .1));
+          (λ w. absurd (received-stored m (w .1)));
     }
 
   -- A send of i, from its live row.
@@ -199,7 +176,7 @@ module _ (n : ℕ) (lists : Lists) (vector vector' : ℕ → ℕ → ℕ → ℕ
       all-received = λ p g m s. either (cases lists i (sent (suc last)) p s)
           (λ w. let y = h .all-received p g m w in
           (y .0, omega (arith, y .1), y .2, (λ z. y .3 (sym (old-t (y .0) (y .1)) ∙ z)), to-own (y .0) (y .1) ∙ y .4, to-iv (y .0) (y .1) ∙ y .5))
-          (λ w. no-clash' m (suc last) (w .1));
+          (λ w. absurd (sent-received (suc last) m (sym (w .1))));
     }
 
   -- A delivery to b, in its live row, of the message in place y, which is not received yet.
@@ -228,9 +205,6 @@ module _ (n : ℕ) (lists : Lists) (vector vector' : ℕ → ℕ → ℕ → ℕ
         (λ z. omega (arith, h .ascends r row (ltb-true r row z) lr (d ∙ sym own-row), live))
         (λ z. let gt : row < r = omega (arith, ltb-false r row z, ne) in omega (arith, h .ascends row r gt l (own-row ∙ sym d), live))
 
-    got-in : (m : ℕ) → m < last → (getD to m 0 ≡ 0 → ⊥) → getD to m 0 - 1 < rows
-    got-in m lm ne = omega (arith, h .to-row m lm, positive (getD to m 0) ne)
-
     got-at : {g j p q : ℕ} {x : HistoryEvent} → g ≡ j → p ≡ q → StandsIn x g (lists p) → StandsIn x j (added lists b (received (suc y)) q)
     got-at {q = q} a d s = keeps lists b (received (suc y)) q (placed-to lists a d s)
 
@@ -244,7 +218,7 @@ module _ (n : ℕ) (lists : Lists) (vector vector' : ℕ → ℕ → ℕ → ℕ
     new-iv-got = ap (λ (r : ℕ). intervalOf vs' process r) new-row ∙ same-i row lr ∙ live
 
     old-iv-got : (m : ℕ) → m < last → (m ≡ y → ⊥) → (getD to m 0 ≡ 0 → ⊥) → intervalOf vs' process (getD to' m 0 - 1) ≡ intervalOf vs process (getD to m 0 - 1)
-    old-iv-got m lm ne got = ap (λ (r : ℕ). intervalOf vs' process (r - 1)) (old-t m ne) ∙ same-i (getD to m 0 - 1) (got-in m lm got)
+    old-iv-got m lm ne got = ap (λ (r : ℕ). intervalOf vs' process (r - 1)) (old-t m ne) ∙ same-i (getD to m 0 - 1) (received-row h m lm got)
 
     old-own-got : (m : ℕ) → (m ≡ y → ⊥) → getD process (getD to' m 0 - 1) 0 ≡ getD process (getD to m 0 - 1) 0
     old-own-got m ne = ap (λ (r : ℕ). getD process (r - 1) 0) (old-t m ne)
@@ -274,7 +248,7 @@ module _ (n : ℕ) (lists : Lists) (vector vector' : ℕ → ℕ → ℕ → ℕ
           (λ ne. let before : getD to m 0 ≡ 0 → ⊥ = λ z. got (old-t m ne ∙ z) in got-at (sym (old-iv-got m lm ne before)) (sym (old-own-got m ne)) (h .received-in m lm before));
       all-sent = λ p g m s. either (cases lists b (received (suc y)) p s)
           (λ w. let z = h .all-sent p g m w in (z .0, z .1, z .2, z .3, same-i (getD from (z .0) 0) (h .from-row (z .0) (z .1)) ∙ z .4))
-          (λ w. no-clash m (suc y) (w .1));
+          (λ w. absurd (sent-received m (suc y) (w .1)));
       all-received = λ p g m s. either (cases lists b (received (suc y)) p s)
           (λ w. let z = h .all-received p g m w in
           let ne : z .0 ≡ y → ⊥ = λ d. z .3 (ap (λ (q : ℕ). getD to q 0) d ∙ not-got) in

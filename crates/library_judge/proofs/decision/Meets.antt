@@ -7,7 +7,7 @@ use Rattle.theory_patterns.proofs.{Trail.Trail, Trail.Right, Facts.vectors, Fac
 use Rattle.library_judge.specs.declared.{decision.crossing.Near.Near, decision.far.Far.Far}
 use Rattle.library_judge.specs.{decision.Crossings.Sized, decision.Crossings.NearEnd, decision.Far.Reaching, decision.Far.FarEnd}
 use Rattle.library_judge.specs.{decision.Reach.Linked, decision.Reach.Closure, decision.Reach.FirstRow, decision.Represents.Represents}
-use Rattle.library_judge.proofs.decision.Verdict.{says-trackable, says-breaks, reach-rows}
+use Rattle.library_judge.proofs.decision.Verdict.{received-row, says-trackable, says-breaks, reach-rows}
 use Rattle.theory_patterns.specs.Paths as paths
 
 -- What is reached at the start.
@@ -49,11 +49,8 @@ module _ (n rows last : ℕ) (vs process from to : List ℕ) (t : Trail) (right 
     from-row = sized .from-row;
     to-row = sized .to-row;
     sender = λ m lm. omega (arith, h .owner (getD from m 0) (h .from-row m lm), h .few);
-    receiver = λ m lm ne. omega (arith, h .owner (getD to m 0 - 1) (below m lm ne), h .few);
+    receiver = λ m lm ne. omega (arith, h .owner (getD to m 0 - 1) (received-row h m lm ne), h .few);
   }
-    where
-      below : (m : ℕ) → m < last → (getD to m 0 ≡ 0 → ⊥) → getD to m 0 - 1 < rows
-      below m lm ne = omega (arith, h .to-row m lm, ne)
 
   pub is-trackable : (near : Near) → NearEnd vs from to last n near → near .found ≡ false → paths.Trackable n (t .lists)
   is-trackable = says-trackable n (t .lists) (vectors t right) (sources t right) here rows last vs process from to represented

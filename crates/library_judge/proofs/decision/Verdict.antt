@@ -1,6 +1,6 @@
 -- The tables give the verdict: what the near end, the closure and the far end say of the tables is what the mathematics of `patterns` asks for.
 -- Assumes nothing.
-use Rattle.laws.specs.Basics.{_≡_, refl, sym, _∙_, ap, true, false, not, _&&_, false≢true, List, _⊎_, inl, inr, ℕ, zero, suc, _-_, _≤_, _<_, arith, eqb, ltb, getD, ne-eqb, eqb-false, lt-ltb, le-ltb, ltb-true, ltb-false, pick, by-bool, by-eq}
+use Rattle.laws.specs.Basics.{_≡_, refl, sym, _∙_, ap, true, false, not, _&&_, false≢true, List, _⊎_, inl, inr, ℕ, suc, _-_, _≤_, _<_, arith, eqb, ltb, getD, ne-eqb, eqb-false, lt-ltb, le-ltb, ltb-true, ltb-false, pick, by-bool, by-eq}
 use Rattle.laws.specs.Loops.{either}
 use Rattle.histories.specs.History.{sent, received, Lists, checkpoints}
 use Rattle.theory_patterns.proofs.{Placing.stands-le, Core.Vectors, Core.Crossing, Core.higher, Core.crossing-path, Core.reached}
@@ -21,6 +21,11 @@ both t a b e = by-bool (eqb t 0)
 
 made : (t a b : ℕ) → (t ≡ 0 → ⊥) → a < b → (not (eqb t 0) && ltb a b) ≡ true
 made t a b ne lt = rw (ne-eqb t 0 ne, lt-ltb a b lt)
+
+-- A message that is received is received in one of the rows.
+pub received-row : {n rows last : ℕ} {lists : Lists} {vector : ℕ → ℕ → ℕ → ℕ} {vs process from to : List ℕ} → Represents n lists vector rows last vs process from to
+    → (m : ℕ) → m < last → (getD to m 0 ≡ 0 → ⊥) → getD to m 0 - 1 < rows
+received-row h m lm ne = omega (arith, h .to-row m lm, ne)
 
 module _ (n : ℕ) (lists : Lists) (v : Vectors lists) (s : Sources lists v) (present : (p k f : ℕ) → k ≤ checkpoints (lists p) → v .vector p k f ≤ checkpoints (lists f))
     (rows last : ℕ) (vectors process from to : List ℕ) (h : Represents n lists (v .vector) rows last vectors process from to) where
@@ -62,13 +67,6 @@ module _ (n : ℕ) (lists : Lists) (v : Vectors lists) (s : Sources lists v) (pr
       moved-iv : (y x : ℕ) → x ≡ y → iv (getD from x 0) ≡ g → iv (getD from y 0) ≡ g
       moved-iv y x e w = rw e at w
 
-  to-in : (x : ℕ) → x < last → (getD to x 0 ≡ 0 → ⊥) → getD to x 0 - 1 < rows
-  to-in x lt ne = omega (arith, h .to-row x lt, positive (getD to x 0) ne)
-    where
-      positive : (y : ℕ) → (y ≡ 0 → ⊥) → 1 ≤ y
-      positive zero ne = absurd (ne refl)
-      positive (suc y) ne = omega arith
-
   -- Entry f of the row of a state.
   known : (r p k f : ℕ) → r < rows → f < 16 → own r ≡ p → iv r ≡ k → entryAt vectors r f ≡ v .vector p k f
   known r p k f lr lf e d = h .vector-is r f lr lf ∙ ap (λ (q : ℕ). v .vector q (iv r) f) e ∙ ap (λ (j : ℕ). v .vector p j f) d
@@ -79,7 +77,7 @@ module _ (n : ℕ) (lists : Lists) (v : Vectors lists) (s : Sources lists v) (pr
   crossing-at f lf c =
       let w = place (c .m) (c .p) (c .g) (c .q) (c .h) (c .sent-in) (c .received-in) in
       let x = w .x in
-      let a = known (getD to x 0 - 1) (c .q) (c .h) f (to-in x (w .within) (w .got)) lf (w .receiver) (w .got-at) in
+      let a = known (getD to x 0 - 1) (c .q) (c .h) f (received-row h x (w .within) (w .got)) lf (w .receiver) (w .got-at) in
       let b = known (getD from x 0) (c .p) (c .g) f (h .from-row x (w .within)) lf (w .sender) (w .sent-at) in
       (x, w .within, made (getD to x 0) (knownAt vectors to f x) (entryAt vectors (getD from x 0) f) (w .got) (omega (arith, a, b, c .crosses)), a)
 
@@ -88,7 +86,7 @@ module _ (n : ℕ) (lists : Lists) (v : Vectors lists) (s : Sources lists v) (pr
   unfolding crossesAt
   at-crossing f x lf lx e =
       let w = both (getD to x 0) (knownAt vectors to f x) (entryAt vectors (getD from x 0) f) e in
-      let a = h .vector-is (getD to x 0 - 1) f (to-in x lx (w .0)) lf in
+      let a = h .vector-is (getD to x 0 - 1) f (received-row h x lx (w .0)) lf in
       let b = h .vector-is (getD from x 0) f (h .from-row x lx) lf in (
         record {
           p = own (getD from x 0);
@@ -214,7 +212,7 @@ module _ (n : ℕ) (lists : Lists) (v : Vectors lists) (s : Sources lists v) (pr
             (λ ne. inl (begin-other q lq ne))
         good (leads {r = r} {m = m} lm ne x le) = either (good x)
             (λ e. absurd (omega (arith, h .from-row m lm, h .most-rows)))
-            (λ y. inr (to-in m lm ne, refl, inr (path-on (senderOf process from m) r m lm ne refl le (y .0) (y .1) (y .2))))
+            (λ y. inr (received-row h m lm ne, refl, inr (path-on (senderOf process from m) r m lm ne refl le (y .0) (y .1) (y .2))))
 
         reach-good : (q : ℕ) → q < 16 → Good q (getD reach q 0)
         reach-good q lq = good (cl .sound q lq)
@@ -259,7 +257,7 @@ module _ (n : ℕ) (lists : Lists) (v : Vectors lists) (s : Sources lists v) (pr
             let i = u .x in
             let lq : q < n = sender-in q g m x in
             let lr = row-there q lq (omega (arith, stands-le (lists q) x)) in
-            let to-there = to-in i (u .within) (u .got) in
+            let to-there = received-row h i (u .within) (u .got) in
             let lb : b < n = omega (arith, u .receiver, h .owner (getD to i 0 - 1) to-there) in
             let before : getD reach q 0 ≤ getD from i 0 =
             down (getD reach q 0) (getD from i 0) lr (h .from-row i (u .within)) (owned q lq lr ∙ sym (u .sender)) (omega (arith, R-in q lq lr, u .sent-at)) in
@@ -294,7 +292,7 @@ module _ (n : ℕ) (lists : Lists) (v : Vectors lists) (s : Sources lists v) (pr
               at-k y = rw (here .1) at y
 
               receiver-in : (q g m : ℕ) → StandsIn (received m) g (lists q) → q < n
-              receiver-in q g m y = let u = h .all-received q g m y in omega (arith, u .4, h .owner (getD to (u .0) 0 - 1) (to-in (u .0) (u .1) (u .3)))
+              receiver-in q g m y = let u = h .all-received q g m y in omega (arith, u .4, h .owner (getD to (u .0) 0 - 1) (received-row h (u .0) (u .1) (u .3)))
 
           pub says-breaks : FirstBreaking n lists p k (far .process) (far .index)
           says-breaks =
