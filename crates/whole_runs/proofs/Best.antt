@@ -1,15 +1,15 @@
 -- The best line for a failed set: there is one only, the reported line is it, and what is in it is kept.
 -- Assumes nothing.
-use Rattle.laws.specs.Basics.{_≡_, sym, _∙_, ap, true, inl, inr, ℕ, suc, _^_, _≤_, _<_, arith}
+use Rattle.laws.specs.Basics.{_≡_, _∙_, true, inl, inr, ℕ, suc, _^_, _≤_, _<_, arith}
 use Rattle.laws.specs.{Bits.pow-less, Bits.bit-one, Bits.bit-alone, Tables.getD-table, Truth.never-both}
 use Rattle.model.specs.declared.Run.{Run}
 use Rattle.model.specs.Words.{failed}
-use Rattle.histories.specs.History.{Lists, Line, checkpoints}
+use Rattle.histories.specs.History.{Line}
 use Rattle.whole_runs.specs.{Outcomes.startOutcome, Calls.stateAfter, Calls.transcript, Survival.Surviving, Survival.surviving, Answers.RightLine}
 use Rattle.whole_runs.specs.{Best.Best, Best.InBestLine, Best.OneBestLine, WholeRuns.reported, WholeRuns.RightOverWholeRuns, Clean.ReportedIsBest}
 use Rattle.histories.proofs.{Run.Ideal, Run.line, Line.line-at}
 use Rattle.model.proofs.simulation.Lines.{line-is}
-use Rattle.whole_runs.proofs.{whole.Reached.Reached, WholeRuns.right-over-whole-runs, WholeRuns.reached-line}
+use Rattle.whole_runs.proofs.{whole.Agreement.live-is, whole.Reached.Reached, WholeRuns.right-over-whole-runs, WholeRuns.reached-line}
 
 -- Two best lines are nowhere later than each other.
 pub one-best-line : OneBestLine
@@ -35,9 +35,6 @@ reported-is-best n blockCounts ok calls F inside =
 
 -- On a reached state.
 module _ (n : ℕ) (s : Run) (h : Surviving) (r : Ideal) (v : Reached n s h r) where
-  own-is : (p : ℕ) → checkpoints (h .lists p) ≡ r .own p
-  own-is p = ap (λ (l : Lists). checkpoints (l p)) (v .agrees .lists) ∙ sym (v .inv .counted p)
-
   reached-best : (F : ℕ) → F < 2 ^ n → Best n (h .lists) F (reported s F)
   reached-best F inside = right-best n h F (reported s F) (reached-line n s h r v F inside .right)
 
@@ -50,7 +47,7 @@ module _ (n : ℕ) (s : Run) (h : Surviving) (r : Ideal) (v : Reached n s h r) w
   unfolding InBestLine
   in-best-line p f k hp hf lt low high =
       let at : line r (failed (2 ^ f)) p ≡ k = line-at r (v .inv) (failed (2 ^ f)) p f k (rw (v .size) hf) (bit-one f) (bit-alone f) lt low high in
-      (reported s (2 ^ f), reached-best (2 ^ f) (pow-less f n hf), reached-reported (2 ^ f) p hp ∙ at, rw (own-is p) lt)
+      (reported s (2 ^ f), reached-best (2 ^ f) (pow-less f n hf), reached-reported (2 ^ f) p hp ∙ at, rw (live-is h r (v .inv) (v .agrees) p) lt)
 
   -- What is in a best line is kept: the best line is the reported one, whose members are kept or live.
   pub best-kept : (p k F : ℕ) → p < n → F < 2 ^ n → InBestLine n (h .lists) F p k → h .kept p k ≡ true

@@ -2,36 +2,35 @@
 -- found the state sound and the limits kept. The length of a printed line rests on this.
 -- Assumes nothing.
 use Rattle.laws.specs.Basics.{_≡_, Bool, true, not, _&&_, List, [], _∷_, Option, none, some, ℕ, _+_, _≤_, _<_, arith, eqb, leb, length, getD, length-append, by-bool}
-use lib.ListN.{length-map, length-take}
-use Rattle.laws.specs.{Counting.count-le, Lists.select, Lists.orElse, Lists.lastOf, Prefixes.every-select, Prefixes.every-last, Select.select-length}
+use lib.ListN.{length-take}
+use Rattle.laws.specs.{Counting.count-le, Lists.select, Lists.lastOf, Options.some-same, Options.none≢some, Prefixes.every-select, Prefixes.every-last, Select.select-length}
 use Rattle.laws.specs.{Tests.every, Truth.and-left, Truth.and-right}
 use Rattle.model.specs.declared.{Interval.Interval, Checkpoint.Checkpoint, Message.Message, Named.Named, Run.Run, Event.Event, Refusal.Refusal}
 use Rattle.model.specs.declared.Refusal.the-variants.{MalformedRecord}
 use Rattle.model.specs.Words.{basic, forced, isPinned, Process, process, own, underWay, live}
-use Rattle.model.specs.Steps.{Deletion, listed, gone, deletions, storing, checkpointed, checkpointDeletions, found, forces, takenIn, delivered, deliverDeletions, member, pinsAfter, goneAt, deletedAt, recoverDeletions, rolledBack, rolledBackCount}
+use Rattle.model.specs.Steps.{listed, gone, deletions, storing, checkpointed, checkpointDeletions, found, forces, takenIn, delivered, deliverDeletions, member, pinsAfter, goneAt, deletedAt, recoverDeletions, rolledBack, rolledBackCount}
 use Rattle.model.specs.{Sound.messageSound, Sound.sound, laws.Refusals.by-refusal, laws.Refusals.number-range, laws.Sound.sound-state, laws.Sound.sound-message}
 use Rattle.model.specs.Refusals.{number, checkpointRefusal, sendRefusal, deliverRefusal, loseRefusal, lineRefusal, recoverRefusal}
 use Rattle.whole_runs.specs.Outcomes.{Report, refusing, accepting, message, deliverAnswer, checkpointOutcome, checkpointReport, sendOutcome, sendReport, deliverOutcome, deliverReport, loseOutcome, loseReport, lineOutcome, lineReport, recoverOutcome, recoverReport}
 use Rattle.whole_runs.specs.{Earliest.earliestRefusal, Earliest.earliestOutcome, Listing.callOf, Listing.perform}
 use Rattle.whole_runs.specs.Calls.{Call, checkpoint, send, deliver, lose, recover, line, earliest, answered, call}
 use Rattle.model.proofs.simulation.Accepted.{checkpoint-out, send-out, deliver-out, recover-out}
-use Rattle.whole_runs.proofs.whole.Handed.{gather-length}
+use Rattle.whole_runs.proofs.whole.{Handed.gather-length, Pairs.length-listed}
 
 -- A sound state has at most 16 processes, and each keeps at most 16 checkpoints.
 pub few-processes : (s : Run) → sound s ≡ true → s .count ≤ 16
 few-processes s h = sound-state s h .count-most
 
-few-kept : (s : Run) → sound s ≡ true → (p : ℕ) → p < s .count → length (process s p .kept) ≤ 16
+pub few-kept : (s : Run) → sound s ≡ true → (p : ℕ) → p < s .count → length (process s p .kept) ≤ 16
 unfolding process
 few-kept s h p lt = rw (length-take (getD (s .«kept_count») p 0) (getD (s .kept .0) p [])) (omega (arith, few-processes s h, sound-state s h .processes p lt .kept-count-most))
 
 -- The last element of a list passes a test that every element passes.
 pub last-passes : {A : Type 0} (u : A → Bool) (l : List A) (x : A) → every u l ≡ true → lastOf l ≡ some x → u x ≡ true
 unfolding every lastOf
-last-passes u [] x h e = absurd (let z : _≡_ {A = ℕ} 0 1 = cc in omega arith)
+last-passes u [] x h e = absurd (none≢some e)
 last-passes u (y ∷ l) x h e =
-    let same : orElse (lastOf l) y ≡ x = cc in
-    rw (← same) (every-last u l y (and-right (u y) (every u l) h) (and-left (u y) (every u l) h))
+    rw (← some-same e) (every-last u l y (and-right (u y) (every u l) h) (and-left (u y) (every u l) h))
 
 -- A message under way goes to a process of the run.
 receiver-in : (s : Run) → sound s ≡ true → (m : ℕ) (x : Message) → found s m ≡ some x → x .receiver < s .count
@@ -41,16 +40,15 @@ receiver-in s h m x e =
     sound-message s x (last-passes (messageSound s) (select (λ y. eqb (y .number) m) (underWay s)) x all e) .to
 
 -- Deletions of one process are among the checkpoints that it keeps.
-listed-few : (p : ℕ) (t : Checkpoint → Bool) (l : List Checkpoint) → length (listed p (select t l)) ≤ length l
-unfolding listed
-listed-few p t l = rw (length-map {B = Deletion} (select t l) (λ c. record { process = p; index = c .index })) (select-length t l)
+pub listed-few : (p : ℕ) (t : Checkpoint → Bool) (l : List Checkpoint) → length (listed p (select t l)) ≤ length l
+listed-few p t l = rw (length-listed p (select t l)) (select-length t l)
 
-deletions-few : (p : ℕ) (P : Process) → length (deletions p P) ≤ length (P .kept)
+pub deletions-few : (p : ℕ) (P : Process) → length (deletions p P) ≤ length (P .kept)
 unfolding deletions gone
 deletions-few p P = listed-few p (λ c. not (isPinned (P .pins) c)) (P .kept)
 
 -- A checkpoint keeps one more before it deletes.
-stored-few : (cause i : ℕ) (P : Process) → length (P .kept) ≤ 16 → length (checkpointed cause i P .kept) ≤ 17
+pub stored-few : (cause i : ℕ) (P : Process) → length (P .kept) ≤ 16 → length (checkpointed cause i P .kept) ≤ 17
 unfolding checkpointed
 stored-few cause i P h = omega (arith, length-append (P .kept) (storing cause i P ∷ []))
 
@@ -58,7 +56,7 @@ checkpoint-few : (s : Run) (i : ℕ) → length (process s i .kept) ≤ 16 → l
 unfolding checkpointDeletions
 checkpoint-few s i h = omega (arith, deletions-few i (checkpointed basic i (process s i)), stored-few basic i (process s i) h)
 
-taken-few : (i : ℕ) (carried : List Interval) (P : Process) → length (P .kept) ≤ 16 → length (delivered i carried P .kept) ≤ 17
+pub taken-few : (i : ℕ) (carried : List Interval) (P : Process) → length (P .kept) ≤ 16 → length (delivered i carried P .kept) ≤ 17
 unfolding delivered takenIn
 taken-few i carried P h = by-bool (forces P carried) (λ e. rw e (stored-few forced i P h)) (λ e. rw e (omega arith))
 
@@ -83,17 +81,14 @@ pub record Small (r : Report) : Type 0 where
   pub deletions : r .deletions ≤ 256
   pub value : (v : ℕ) → r .value ≡ some v → v < 10000000000
 
-no-value : (v : ℕ) {P : Type 0} → _≡_ {A = Option ℕ} none (some v) → P
-no-value v e = absurd (let z : _≡_ {A = ℕ} 0 1 = cc in omega arith)
-
 pub small-refused : (x : Refusal) → Small (refusing x)
-small-refused x = record { refused = number-range x .1; deletions = omega arith; value = λ v e. no-value v e }
+small-refused x = record { refused = number-range x .1; deletions = omega arith; value = λ v e. absurd (none≢some e) }
 
 small-accepted : (v k : ℕ) → v < 10000000000 → k ≤ 256 → Small (accepting (some v) k)
-small-accepted v k a b = record { refused = omega arith; deletions = b; value = λ w e. let same : v ≡ w = cc in omega arith }
+small-accepted v k a b = record { refused = omega arith; deletions = b; value = λ w e. omega (arith, some-same e) }
 
 small-none : (k : ℕ) → k ≤ 256 → Small (accepting none k)
-small-none k b = record { refused = omega arith; deletions = b; value = λ v e. no-value v e }
+small-none k b = record { refused = omega arith; deletions = b; value = λ v e. absurd (none≢some e) }
 
 checkpoint-small : (s : Run) (i : ℕ) (deleted : List ℕ) → Small (checkpointReport (checkpointOutcome s i deleted .answer))
 unfolding checkpointReport checkpointOutcome live own

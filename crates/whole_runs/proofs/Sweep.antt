@@ -1,10 +1,10 @@
 -- Note 4: a sweep. Nobody rolls back, of any state; the messages under way stay, of a sound one; the lines stay, of a state that calls from a start reach. And that no
 -- call is refused with 6.
 -- Assumes nothing.
-use Rattle.laws.specs.Basics.{_≡_, refl, sym, _∙_, ap, fun-ext, Bool, true, false, not, _&&_, List, [], Option, none, some, ℕ, zero, suc, _<_, arith, eqb, ltb, length, getD, le-ltb, leb-true, pick, by-bool}
+use Rattle.laws.specs.Basics.{_≡_, refl, sym, _∙_, ap, fun-ext, true, false, not, _&&_, List, [], Option, none, some, ℕ, zero, suc, _<_, arith, eqb, ltb, length, getD, le-ltb, leb-true, pick, by-bool}
 use native.Mathlib.Nat.{div-eq-of-lt, one-le-pow}
 use lib.Seq.{set-getD}
-use Rattle.laws.specs.{Counting.count-none, Rows.every-at, Rows.every-by, Search.anyBelow, Search.any-out, Search.all-in, Search.all-out, Tables.table-same}
+use Rattle.laws.specs.{Counting.count-none, Rows.and-true, Rows.every-at, Rows.every-by, Search.anyBelow, Search.any-out, Search.all-in, Search.all-out, Tables.table-same}
 use Rattle.laws.specs.{Select.all-chosen, Select.lastOf-snoc, Truth.never-both}
 use Rattle.model.specs.declared.{Pin.the-variants.Nothing, Checkpoint.Checkpoint, Message.Message, Run.Run, Refusal.Refusal, LineAnswer.LineAnswer}
 use Rattle.model.specs.declared.RecoverAnswer.{RecoverAnswer}
@@ -58,10 +58,6 @@ module _ (s : Run) where
 
   mark-stays : (p : ℕ) → (process s p .mark && not (rolledBack s 0 p)) ≡ process s p .mark
   mark-stays p = rw (nobody-back p) (and-true (process s p .mark))
-    where
-      and-true : (b : Bool) → (b && true) ≡ b
-      and-true true = refl
-      and-true false = refl
 
   -- A part that stays in each process stays as a whole.
   vectors-stay : (n : ℕ) (f : ℕ → Process) → ((p : ℕ) → f p .vector ≡ process s p .vector) → withProcesses n f s .vectors ≡ s .vectors

@@ -1,52 +1,29 @@
 -- The report of every call fits the fields of its number, whatever the state and the arguments.
 -- Assumes nothing.
-use Rattle.laws.specs.Basics.{_≡_, Bool, true, not, _&&_, List, [], _∷_, Option, none, some, ℕ, _+_, _≤_, _<_, arith, eqb, leb, length, getD, length-append, by-bool}
-use lib.ListN.{length-map, length-take}
-use Rattle.laws.specs.{Counting.count-le, Lists.select, Prefixes.every-select, Select.select-length}
-use Rattle.model.specs.declared.{Interval.Interval, Checkpoint.Checkpoint, Message.Message, Named.Named, Run.Run, Refusal.Refusal}
-use Rattle.model.specs.Words.{basic, forced, isPinned, Process, process, own, underWay, live}
-use Rattle.model.specs.Steps.{Deletion, listed, gone, deletions, storing, checkpointed, checkpointDeletions, found, forces, takenIn, delivered, deliverDeletions, member, pinsAfter, goneAt, deletedAt, recoverDeletions, rolledBack, rolledBackCount}
+use Rattle.laws.specs.Basics.{_≡_, true, not, _&&_, List, none, some, ℕ, _+_, _≤_, _<_, arith, eqb, leb, length, by-bool}
+use Rattle.laws.specs.{Counting.count-le, Lists.select, Options.some-same, Options.none≢some, Prefixes.every-select}
+use Rattle.model.specs.declared.{Message.Message, Named.Named, Run.Run, Refusal.Refusal}
+use Rattle.model.specs.Words.{basic, isPinned, process, own, underWay, live}
+use Rattle.model.specs.Steps.{deletions, checkpointed, checkpointDeletions, found, forces, delivered, deliverDeletions, member, pinsAfter, goneAt, deletedAt, recoverDeletions, rolledBack, rolledBackCount}
 use Rattle.model.specs.{Sound.messageSound, Sound.sound, laws.Refusals.by-refusal, laws.Refusals.number-range, laws.Sound.sound-state, laws.Sound.sound-message}
 use Rattle.model.specs.Refusals.{number, checkpointRefusal, sendRefusal, deliverRefusal, loseRefusal, lineRefusal, recoverRefusal}
 use Rattle.model.proofs.simulation.Accepted.{checkpoint-out, send-out, deliver-out, recover-out}
 use Rattle.whole_runs.specs.Outcomes.{refusing, accepting, deliverAnswer, checkpointOutcome, checkpointReport, sendOutcome, sendReport, deliverOutcome, deliverReport, loseOutcome, loseReport, lineOutcome, lineReport, recoverOutcome, recoverReport}
 use Rattle.whole_runs.specs.Earliest.{earliestRefusal, earliestOutcome}
-use Rattle.whole_runs.proofs.{Sizes.few-processes, Sizes.last-passes, whole.Handed.gather-length}
+use Rattle.whole_runs.proofs.Sizes.{few-processes, few-kept, last-passes, listed-few, deletions-few, stored-few, taken-few}
+use Rattle.whole_runs.proofs.whole.Handed.{gather-length}
 use Rattle.listing.specs.answers.Codes.{Fits}
 
-no-value : (v : ℕ) {P : Type 0} → _≡_ {A = Option ℕ} none (some v) → P
-no-value v e = absurd (let z : _≡_ {A = ℕ} 0 1 = cc in omega arith)
-
 pub fits-refused : (x : Refusal) → Fits (refusing x)
-fits-refused x = record { refused = omega (arith, number-range x .1); deletions = omega arith; value = λ v e. no-value v e }
+fits-refused x = record { refused = omega (arith, number-range x .1); deletions = omega arith; value = λ v e. absurd (none≢some e) }
 
 pub fits-value : (v k : ℕ) → v < 16_777_216 → k < 32_768 → Fits (accepting (some v) k)
-fits-value v k a b = record { refused = omega arith; deletions = b; value = λ w e. let same : v ≡ w = cc in omega arith }
+fits-value v k a b = record { refused = omega arith; deletions = b; value = λ w e. omega (arith, some-same e) }
 
 pub fits-none : (k : ℕ) → k < 32_768 → Fits (accepting none k)
-fits-none k b = record { refused = omega arith; deletions = b; value = λ v e. no-value v e }
+fits-none k b = record { refused = omega arith; deletions = b; value = λ v e. absurd (none≢some e) }
 
 -- How many checkpoints a call can delete.
-few-kept : (s : Run) → sound s ≡ true → (p : ℕ) → p < s .count → length (process s p .kept) ≤ 16
-unfolding process
-few-kept s h p lt = rw (length-take (getD (s .«kept_count») p 0) (getD (s .kept .0) p [])) (omega (arith, few-processes s h, sound-state s h .processes p lt .kept-count-most))
-
-listed-few : (p : ℕ) (t : Checkpoint → Bool) (l : List Checkpoint) → length (listed p (select t l)) ≤ length l
-unfolding listed
-listed-few p t l = rw (length-map {B = Deletion} (select t l) (λ c. record { process = p; index = c .index })) (select-length t l)
-
-deletions-few : (p : ℕ) (P : Process) → length (deletions p P) ≤ length (P .kept)
-unfolding deletions gone
-deletions-few p P = listed-few p (λ c. not (isPinned (P .pins) c)) (P .kept)
-
-stored-few : (cause i : ℕ) (P : Process) → length (P .kept) ≤ 16 → length (checkpointed cause i P .kept) ≤ 17
-unfolding checkpointed
-stored-few cause i P h = omega (arith, length-append (P .kept) (storing cause i P ∷ []))
-
-taken-few : (i : ℕ) (carried : List Interval) (P : Process) → length (P .kept) ≤ 16 → length (delivered i carried P .kept) ≤ 17
-unfolding delivered takenIn
-taken-few i carried P h = by-bool (forces P carried) (λ e. rw e (stored-few forced i P h)) (λ e. rw e (omega arith))
-
 module _ (s : Run) (h : sound s ≡ true) where
   checkpoint-few : (i : ℕ) → i < s .count → length (checkpointDeletions s i) ≤ 17
   unfolding checkpointDeletions

@@ -20,6 +20,10 @@ pub record Agrees (h : Surviving) (r : Ideal) : Type 0 where
   -- what was written and is not kept was handed out
   pub deleted : h .deleted + keptIn r ≡ r .ledger .written
 
+-- The checkpoints in the lists of the history are those that the run counts.
+pub live-is : (h : Surviving) (r : Ideal) → Inv r → Agrees h r → (p : ℕ) → checkpoints (h .lists p) ≡ r .own p
+live-is h r v g p = ap (λ (l : Lists). checkpoints (l p)) (g .lists) ∙ sym (v .counted p)
+
 -- The history remembers the lists of the run when it last started or recovered, by which the pins of the run now stand.
 pub record Restarted (h : Surviving) (r : Ideal) : Type 0 where
   pub earlier : Ideal

@@ -1,8 +1,8 @@
 -- Each answer in a transcript is right, judged by the surviving history before it: the clauses of specs/Answers put together, for one call.
 -- Assumes nothing.
-use Rattle.laws.specs.Basics.{_≡_, sym, _∙_, true, List, Option, none, some, ℕ, _^_, _<_, arith, length, getD, eqb-false, lt-ltb, ltb-true}
+use Rattle.laws.specs.Basics.{_≡_, sym, _∙_, true, List, none, some, ℕ, _^_, _<_, arith, length, getD, eqb-false, lt-ltb, ltb-true}
 use mathlib.Core.List.{List·Memᴰ}
-use Rattle.laws.specs.{Front.getD-written, Lists.table, Tables.length-table, Tables.getD-table}
+use Rattle.laws.specs.{Front.getD-written, Lists.table, Options.some-same, Options.none≢some, Tables.length-table, Tables.getD-table}
 use Rattle.model.specs.declared.{Named.Named, Refusal.Refusal}
 use Rattle.histories.specs.History.{Line, Consistent}
 use Rattle.model.specs.{Refusals.number, laws.Refusals.by-refusal}
@@ -105,25 +105,19 @@ module _ (h : Surviving) (r : Ideal) (v : Inv r) (fit : Limits r) (memory : Memo
   line-answer : ((F : ℕ) → F < 2 ^ r .n → LineIsRight (r .n) (stateOf r) h F) → (c : Call) → refusal (stateOf r) c ≡ none → (F : ℕ) → failedSet c ≡ some F
       → RightLine (r .n) h F (λ p. getD (call (stateOf r) c .reply .line) p 0)
   unfolding refusal failedSet call answered
-  line-answer lines (checkpoint i deleted) e F q = absurd (let z : _≡_ {A = ℕ} 0 1 = cc in omega arith)
-  line-answer lines (send i j) e F q = absurd (let z : _≡_ {A = ℕ} 0 1 = cc in omega arith)
-  line-answer lines (deliver m deleted) e F q = absurd (let z : _≡_ {A = ℕ} 0 1 = cc in omega arith)
-  line-answer lines (lose m) e F q = absurd (let z : _≡_ {A = ℕ} 0 1 = cc in omega arith)
-  line-answer lines (earliest l lent) e F q = absurd (let z : _≡_ {A = ℕ} 0 1 = cc in omega arith)
+  line-answer lines (checkpoint i deleted) e F q = absurd (none≢some q)
+  line-answer lines (send i j) e F q = absurd (none≢some q)
+  line-answer lines (deliver m deleted) e F q = absurd (none≢some q)
+  line-answer lines (lose m) e F q = absurd (none≢some q)
+  line-answer lines (earliest l lent) e F q = absurd (none≢some q)
   line-answer lines (recover G deleted lent) e F q =
       let w = recover-run r v fit G deleted lent e in
       let right = lines G (w .0) in
-      rw (← same-set G F q) (same-line (r .n) h G (reported (stateOf r) G) _ (right .right) (right .recover-writes deleted lent (w .1) (w .2)))
-    where
-      same-set : (a b : ℕ) → _≡_ {A = Option ℕ} (some a) (some b) → a ≡ b
-      same-set a b q = cc
+      rw (← some-same q) (same-line (r .n) h G (reported (stateOf r) G) _ (right .right) (right .recover-writes deleted lent (w .1) (w .2)))
   line-answer lines (line G lent) e F q =
       let w = line-run r v fit G lent e in
       let right = lines G (w .0) in
-      rw (← same-set G F q) (same-line (r .n) h G (reported (stateOf r) G) _ (right .right) (right .line-writes lent (w .1)))
-    where
-      same-set : (a b : ℕ) → _≡_ {A = Option ℕ} (some a) (some b) → a ≡ b
-      same-set a b q = cc
+      rw (← some-same q) (same-line (r .n) h G (reported (stateOf r) G) _ (right .right) (right .line-writes lent (w .1)))
 
   -- The earliest line that an accepted call wrote, and where 20 is given.
   accepted-at : (c : Call) (l : List Named) (lent : List ℕ) → refusal (stateOf r) c ≡ none → c ≡ earliest l lent → earliestRefusal (stateOf r) l lent ≡ none

@@ -12,7 +12,7 @@ use Rattle.histories.proofs.{Run.Ideal, Invariant.Inv, Memory.Memory, Knowledge
 use Rattle.histories.proofs.Earliest.{earliest-within, earliest-through, earliest-consistent, earliest-least, consistent-unordered}
 use Rattle.model.proofs.{simulation.View.stateOf, simulation.View.Limits, simulation.Reads.count-is}
 use Rattle.whole_runs.proofs.whole.EarliestLine.{Stored, earliest-out, named-kept, inside, below, entry-of, Chosen, named-topped}
-use Rattle.whole_runs.proofs.{whole.Agreement.Agrees, whole.Refused.numberOf, whole.Refused.live-is, whole.Refused.earliest-number}
+use Rattle.whole_runs.proofs.{whole.Agreement.Agrees, whole.Refused.numberOf, whole.Agreement.live-is, whole.Refused.earliest-number}
 
 -- Where 20 is the lowest number, all are processes of the run and kept, and one of two comes before the other.
 lowest-ordered : (n : ℕ) (h : Surviving) (b o : Bool) (l : List Named) (lent : List ℕ) → lowest (reasons n h b o (earliest l lent)) ≡ 20
@@ -92,7 +92,7 @@ module _ (h : Surviving) (r : Ideal) (v : Inv r) (fit : Limits r) (g : Agrees h 
         let d = z .0 in
         let hc = inside r v few l stored c (w .1) in
         let known : r .vector (d .process) (d .index .0) (c .process) ≤ c .index .0
-        = rw (through c (w .1), through d (z .1)) at (consistent-unordered r v other (λ p hp. rw (← live-is h r v fit g p) (is-line p hp)) (rw (g .lists) at consistent) (c .process) (d .process) hc (inside r v few l stored d (z .1))) in
+        = rw (through c (w .1), through d (z .1)) at (consistent-unordered r v other (λ p hp. rw (← live-is h r v g p) (is-line p hp)) (rw (g .lists) at consistent) (c .process) (d .process) hc (inside r v few l stored d (z .1))) in
         omega (arith, ltb-true (c .index .0) (entry (namedVector (stateOf r) d) (c .process) .0) (z .2), entry-of r v few l stored d (c .process) (z .1) hc)
 
   -- The line of an accepted call.
@@ -103,10 +103,10 @@ module _ (h : Surviving) (r : Ideal) (v : Inv r) (fit : Limits r) (g : Agrees h 
         let N = greatest (stateOf r) l in
         let t = named-topped r v few l lent (earliest-out (stateOf r) l lent e) in
         record {
-          within = λ p hp. rw (live-is h r v fit g p) (earliest-within r v (Chosen r v few l) N t p hp);
+          within = λ p hp. rw (live-is h r v g p) (earliest-within r v (Chosen r v few l) N t p hp);
           consistent = rw (g .lists) (earliest-consistent r v (Chosen r v few l) N t);
           through = λ c m. earliest-through r v (Chosen r v few l) N t (c .process) (c .index .0) (c, m, refl, refl);
-          nowhere-later = λ other is-line consistent through p hp. earliest-least r v (Chosen r v few l) N t other (λ q hq. rw (← live-is h r v fit g q) (is-line q hq)) (rw (g .lists) at consistent)
+          nowhere-later = λ other is-line consistent through p hp. earliest-least r v (Chosen r v few l) N t other (λ q hq. rw (← live-is h r v g q) (is-line q hq)) (rw (g .lists) at consistent)
               (λ q k z. rw (← z .2, ← z .3) (through (z .0) (z .1))) p hp;
         }
 

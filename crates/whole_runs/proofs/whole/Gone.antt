@@ -4,14 +4,13 @@ use Rattle.laws.specs.Basics.{_≡_, refl, sym, _∙_, ap, Bool, true, false, n
 use Rattle.laws.specs.{Front.written-front, Lists.gather, Select.map-append, Tables.gather-same}
 use Rattle.model.specs.Words.{mostProcesses, basic, forced, failed}
 use Rattle.model.specs.Steps.{Deletion, listed, checkpointDeletions, deliverDeletions, recoverDeletions}
-use Rattle.histories.specs.History.{Lists, checkpoints}
-use Rattle.whole_runs.specs.{Outcomes.pairs, Calls.Reply, Survival.Surviving, Answers.liveOf, Answers.atFront, Answers.gonePairs}
+use Rattle.whole_runs.specs.{Outcomes.pairs, Calls.Reply, Survival.Surviving, Answers.atFront, Answers.gonePairs}
 use Rattle.histories.proofs.{Run.Ideal, Run.keeps, Run.checkpointed, Run.delivered, Run.recovered, Invariant.Inv}
 use Rattle.histories.proofs.CheckpointedViews.{checkpointed-n, checkpointed-pin-row}
 use Rattle.model.proofs.{simulation.View.passing, simulation.View.checkpointOf, simulation.View.messageOf, simulation.View.stateOf, simulation.Rows.keeps-same}
 use Rattle.model.proofs.{simulation.Checkpoint.checkpoint-deletions, simulation.Deliver.deliver-deletions, simulation.Deliver.deliver-keeps-other}
 use Rattle.model.proofs.{simulation.Recover.recover-deletions, simulation.Kept.kept-most}
-use Rattle.whole_runs.proofs.{whole.Pairs.length-pairs, whole.Agreement.Agrees}
+use Rattle.whole_runs.proofs.{whole.Pairs.length-pairs, whole.Agreement.Agrees, whole.Agreement.live-is}
 use Rattle.whole_runs.proofs.whole.Handed.{Answers, gone, listed-length, gather-length, room-one}
 
 -- Lists in a row of which all are empty, or all but one.
@@ -66,9 +65,10 @@ pub record HandsOver (a : Reply) (lent : List ℕ) (r r′ : Ideal) : Type 0 whe
   pub deleted : a .deleted ≡ atFront (goneAll r r′) lent
   pub counted : 2 * a .report .deletions ≡ length (goneAll r r′)
 
-both : (b : Bool) → (b && not b) ≡ false
-both true = refl
-both false = refl
+-- Nothing is both kept and not kept.
+pub no-change : (b : Bool) → (b && not b) ≡ false
+no-change true = refl
+no-change false = refl
 
 module _ (r r′ : Ideal) where
   part-pairs : (p : ℕ) → pairs (gone r r′ p) ≡ gonePart r r′ p
@@ -78,7 +78,7 @@ module _ (r r′ : Ideal) where
   -- A process that keeps what it kept hands out nothing.
   part-none : (p : ℕ) → ((k : ℕ) → keeps r′ p k ≡ keeps r p k) → gonePart r r′ p ≡ []
   unfolding gonePart
-  part-none p same = gather-none (r .own p) (pairIf p (λ k. keeps r p k && not (keeps r′ p k))) (λ k lt. rw (same k) (rw (both (keeps r p k))))
+  part-none p same = gather-none (r .own p) (pairIf p (λ k. keeps r p k && not (keeps r′ p k))) (λ k lt. rw (same k) (rw (no-change (keeps r p k))))
 
   one-pairs : (i : ℕ) → i < r .n → ((p k : ℕ) → (p ≡ i → ⊥) → keeps r′ p k ≡ keeps r p k) → pairs (gone r r′ i) ≡ goneAll r r′
   unfolding goneAll
@@ -132,8 +132,5 @@ module _ (r : Ideal) (v : Inv r) (few : r .n ≤ mostProcesses) (a : Reply) (len
 pub gone-agrees : (h h′ : Surviving) (r r′ : Ideal) → Inv r → Agrees h r → Agrees h′ r′ → r′ .n ≡ r .n → gonePairs (r .n) h h′ ≡ goneAll r r′
 unfolding gonePairs goneAll gonePart
 gone-agrees h h′ r r′ v g g′ size = gather-same (r .n) _ _ (λ p hp.
-    ap (λ (c : ℕ). gather c (pairIf p (λ k. h .kept p k && not (h′ .kept p k)))) (live-of p)
+    ap (λ (c : ℕ). gather c (pairIf p (λ k. h .kept p k && not (h′ .kept p k)))) (live-is h r v g p)
     ∙ gather-same (r .own p) _ _ (λ k lt. rw (g .kept p k hp, g′ .kept p k (rw size hp))))
-  where
-    live-of : (p : ℕ) → liveOf h p ≡ r .own p
-    live-of p = ap (λ (l : Lists). checkpoints (l p)) (g .lists) ∙ sym (v .counted p)

@@ -1,17 +1,17 @@
 -- The reported line of a reached state is right: both calls are accepted and write it; it is consistent by the messages of the surviving history;
 -- nothing later is; its members are live and not failed, or kept.
 -- Assumes nothing.
-use Rattle.laws.specs.Basics.{_≡_, refl, sym, _∙_, ap, true, false, _||_, List, none, some, _⊎_, inl, inr, ℕ, _*_, _^_, _≤_, _<_, arith, ltb, length, getD, lt-ltb, ltb-true, ltb-false, by-bool}
+use Rattle.laws.specs.Basics.{_≡_, refl, _∙_, true, false, _||_, List, none, some, _⊎_, inl, inr, ℕ, _*_, _^_, _≤_, _<_, arith, ltb, length, getD, lt-ltb, ltb-true, ltb-false, by-bool}
 use Rattle.laws.specs.{Front.getD-written, Lists.table, Tables.length-table, Tables.getD-table, Truth.or-left, Truth.or-in-right}
 use Rattle.model.specs.declared.{Run.Run, Refusal.the-variants.ListTooShort}
 use Rattle.model.specs.{Words.failed, Steps.lineOf, Sound.sound, laws.Refusals.refusal-in}
-use Rattle.histories.specs.History.{Lists, Line, checkpoints, Consistent}
+use Rattle.histories.specs.History.{Line, Consistent}
 use Rattle.model.specs.Refusals.{shortDeletions, shortLine, noMember, lineRefusal, recoverRefusal}
 use Rattle.whole_runs.specs.{Outcomes.lineOutcome, Outcomes.recoverOutcome, Survival.Surviving, Answers.RightLine}
 use Rattle.whole_runs.specs.WholeRuns.{reported, LineIsRight}
 use Rattle.histories.proofs.{Run.Ideal, Run.line, Invariant.Inv, Line.line-le, Line.line-consistent, Line.failed-back, Line.below-kept, Maximal.line-maximal}
 use Rattle.model.proofs.{Precedence.rule-by-precedence, simulation.Accepted.line-in, simulation.Accepted.recover-in}
-use Rattle.whole_runs.proofs.whole.Agreement.{Agrees}
+use Rattle.whole_runs.proofs.whole.Agreement.{Agrees, live-is}
 
 -- A list that is too short is the first thing that is refused of a sound state.
 module _ (s : Run) (F : ℕ) (whole : sound s ≡ true) where
@@ -46,9 +46,6 @@ module _ (r : Ideal) (v : Inv r) (s : Run) (h : Surviving) (g : Agrees h r) (F :
   line-length : length (lineOf s F) ≡ r .n
   line-length = rw lines (length-table (r .n) (line r (failed F)))
 
-  own-is : (p : ℕ) → checkpoints (h .lists p) ≡ r .own p
-  own-is p = ap (λ (l : Lists). checkpoints (l p)) (g .lists) ∙ sym (v .counted p)
-
   set-inside : F < 2 ^ s .count
   set-inside = rw count inside
 
@@ -74,7 +71,7 @@ module _ (r : Ideal) (v : Inv r) (s : Run) (h : Surviving) (g : Agrees h r) (F :
   ideal-right = record {
     consistent = rw (g .lists) (line-consistent r v (failed F));
     maximal = rw (g .lists) (λ other possible. line-maximal r v (failed F) other (possible .within) (possible .consistent) (possible .back));
-    members = λ p hp. rw (own-is p) (by-bool (ltb (line r (failed F) p) (r .own p))
+    members = λ p hp. rw (live-is h r v g p) (by-bool (ltb (line r (failed F) p) (r .own p))
         (λ e. let back : line r (failed F) p < r .own p = ltb-true _ _ e in inr (back, g .kept p (line r (failed F) p) hp ∙ below-kept r v (failed F) p back))
         (λ e. let stays : r .own p ≤ line r (failed F) p = ltb-false _ _ e in
         inl (

@@ -2,8 +2,9 @@
 -- Assumes nothing.
 use Rattle.laws.specs.Basics.{_≡_, refl, sym, _∙_, ap, Bool, _&&_, List, [], _∷_, ℕ, zero, suc, _+_, _*_, _≤_, _<_, arith, eqb, length, getD}
 use native.Mathlib.Nat.{not-suc-le-zero}
+use lib.ListN.{length-map}
 use Rattle.laws.specs.{Front.getD-written, Ranges.any-same, Select.some-table, Sums.sumBelow, Sums.sum-same, Sums.sum-front, Tables.table-is, Tests.some-of}
-use Rattle.model.specs.Steps.{Deletion}
+use Rattle.model.specs.{declared.Checkpoint.Checkpoint, Steps.Deletion, Steps.listed}
 use Rattle.whole_runs.specs.{Outcomes.pairs, Outcomes.written, Calls.Reply, Survival.handedOut}
 
 -- A deletion is that of checkpoint k of process p.
@@ -13,29 +14,34 @@ deletes p k d = eqb (d .process) p && eqb (d .index .0) k
 abbrev none-deleted : Deletion
 none-deleted = record { process = 0; index = record { 0 = 0 } }
 
+-- As many deletions are listed as there are checkpoints.
+pub length-listed : (p : ℕ) (l : List Checkpoint) → length (listed p l) ≡ length l
+unfolding listed
+length-listed p l = length-map l _
+
 -- The numbers of the pairs, by place.
 pub length-pairs : (ds : List Deletion) → length (pairs ds) ≡ 2 * length ds
 unfolding pairs
 length-pairs [] = refl
 length-pairs (d ∷ ds) = omega (arith, length-pairs ds)
 
+pub double : (j : ℕ) → 2 * suc j ≡ suc (suc (2 * j))
+double j = omega arith
+
 pairs-process : (ds : List Deletion) (j : ℕ) → j < length ds → getD (pairs ds) (2 * j) 0 ≡ getD ds j none-deleted .process
 unfolding pairs
 pairs-process [] j h = absurd (not-suc-le-zero h)
 pairs-process (d ∷ ds) zero h = refl
 pairs-process (d ∷ ds) (suc j) h = rw (double j) (pairs-process ds j (omega arith))
-  where
-    double : (j : ℕ) → 2 * suc j ≡ suc (suc (2 * j))
-    double j = omega arith
 
 pairs-index : (ds : List Deletion) (j : ℕ) → j < length ds → getD (pairs ds) (2 * j + 1) 0 ≡ getD ds j none-deleted .index .0
 unfolding pairs
 pairs-index [] j h = absurd (not-suc-le-zero h)
 pairs-index (d ∷ ds) zero h = refl
-pairs-index (d ∷ ds) (suc j) h = rw (double j) (pairs-index ds j (omega arith))
+pairs-index (d ∷ ds) (suc j) h = rw (after-next j) (pairs-index ds j (omega arith))
   where
-    double : (j : ℕ) → 2 * suc j + 1 ≡ suc (suc (2 * j + 1))
-    double j = omega arith
+    after-next : (j : ℕ) → 2 * suc j + 1 ≡ suc (suc (2 * j + 1))
+    after-next j = omega arith
 
 -- An answer hands out exactly the pairs of its deletions.
 pub handed-out : (reply : Reply) (lent : List ℕ) (ds : List Deletion) (p k : ℕ)

@@ -4,7 +4,7 @@ use Rattle.laws.specs.Basics.{_≡_, refl, sym, _∙_, ap, Bool, true, false, n
 use Rattle.laws.specs.{Ranges.any-same, Members.some-same, Search.anyBelow, Search.any-out, Tests.some-of, Truth.never-both}
 use Rattle.model.specs.declared.{Named.Named, Run.Run, Refusal.Refusal}
 use Rattle.model.specs.{Words.mostBlocks, Words.own, Steps.found, Steps.latestAllowed, Sound.isBlockCount, Sound.sound}
-use Rattle.histories.specs.History.{Lists, checkpoints}
+use Rattle.histories.specs.History.{checkpoints}
 use Rattle.model.specs.Refusals.{number, Rule, firstOf, startRefusal, shortDeletions, shortLine, absent, atLastInterval, pastBlocks, outside, checkpointRefusal, sendRefusal, missing, forcesPast, forcesOver, deliverRefusal, loseRefusal, noMember, lineRefusal, recoverRefusal}
 use Rattle.model.specs.laws.Refusals.{refusal-in, skipped, by-refusal}
 use Rattle.whole_runs.specs.{Earliest.someAbsent, Earliest.unfit, Earliest.notKept, Earliest.someOrdered, Earliest.earliestRefusal, Survival.Surviving}
@@ -16,7 +16,7 @@ use Rattle.model.proofs.simulation.Reads.{count-is, last-is, underway-is, own-i
 use Rattle.model.proofs.{simulation.Messages.used-number, simulation.Messages.found-is, simulation.Messages.found-none, simulation.Deliver.deliver-forces}
 use Rattle.model.proofs.{simulation.Lines.latest-allowed, simulation.SoundCalls.written-is, simulation.SoundCalls.count-is-of}
 use Rattle.model.proofs.simulation.SoundLimits.{messages-count}
-use Rattle.whole_runs.proofs.{whole.EarliestLine.all-present, whole.EarliestLine.named-kept, whole.Agreement.Agrees, whole.Accepted.accepted-report}
+use Rattle.whole_runs.proofs.{whole.EarliestLine.all-present, whole.EarliestLine.named-kept, whole.Agreement.Agrees, whole.Agreement.live-is, whole.Accepted.accepted-report}
 use Rattle.whole_runs.proofs.whole.Reached.{refusal, refused-report}
 
 -- The number of a refusal, 0 where there is none.
@@ -90,9 +90,6 @@ start-number n blockCounts =
     alike _ _ _ _ (any-same n _ _ (λ p lt. outside-range 1 65_535 (getD blockCounts p 0))) refl (λ z. no-more))
 
 module _ (h : Surviving) (r : Ideal) (v : Inv r) (fit : Limits r) (g : Agrees h r) where
-  pub live-is : (p : ℕ) → checkpoints (h .lists p) ≡ r .own p
-  live-is p = ap (λ (l : Lists). checkpoints (l p)) (g .lists) ∙ sym (v .counted p)
-
   self : (p : ℕ) → r .vector p (r .own p) p ≡ r .own p
   self p = v .self p (r .own p) (omega arith)
 
@@ -115,7 +112,7 @@ module _ (h : Surviving) (r : Ideal) (v : Inv r) (fit : Limits r) (g : Agrees h 
 
   -- The test of the last interval, of a process of the run.
   last-same : (i : ℕ) → i < r .n → atLastInterval (stateOf r) i ≡ leb 65_535 (checkpoints (h .lists i))
-  last-same i hi = rw (own-is r i (fit .few-processes) hi (self i), live-is i)
+  last-same i hi = rw (own-is r i (fit .few-processes) hi (self i), live-is h r v g i)
 
   -- The test of the blocks, of a process of the run.
   blocks-same : (i : ℕ) → i < r .n → pastBlocks (stateOf r) i ≡ pastBound h i

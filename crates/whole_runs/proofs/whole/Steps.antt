@@ -1,6 +1,6 @@
 -- Each accepted call, as a step of the run as functions: checkpoint, send, deliver, lose, line and the earliest line. Recover has a file of its own.
 -- Assumes nothing.
-use Rattle.laws.specs.Basics.{_≡_, refl, sym, _∙_, ap, fun-ext, Bool, true, false, not, _&&_, List, [], none, some, inl, ℕ, _*_, _≤_, _<_, arith, length, getD, by-bool}
+use Rattle.laws.specs.Basics.{_≡_, refl, sym, _∙_, ap, fun-ext, true, false, List, [], none, some, inl, ℕ, _*_, _≤_, _<_, arith, length, getD, by-bool}
 use Rattle.laws.specs.{Search.anyBelow, Sums.sumBelow}
 use Rattle.model.specs.{Words.mostProcesses, Words.basic, Words.forced, Words.process, Words.live, Steps.checkpointDeletions, Steps.deliverDeletions}
 use Rattle.model.specs.declared.Named.{Named}
@@ -22,15 +22,11 @@ use Rattle.model.proofs.simulation.SoundLimits.{fits-checkpoint, limits-checkpo
 use Rattle.model.proofs.{simulation.Messages.send-is, simulation.Messages.lose-is, simulation.Deliver.deliver-is, simulation.Deliver.deliver-forces}
 use Rattle.whole_runs.proofs.whole.Handed.{pairBlocks, checkpoint-handed, checkpoint-blocks, deliver-handed, deliver-blocks}
 use Rattle.whole_runs.proofs.{whole.Agreement.Agrees, whole.Agreement.HandsOut, whole.Accepted.Step}
-use Rattle.whole_runs.proofs.whole.Gone.{HandsOver, nothing-over, checkpoint-over, deliver-over}
+use Rattle.whole_runs.proofs.whole.Gone.{HandsOver, no-change, nothing-over, checkpoint-over, deliver-over}
 use Rattle.whole_runs.proofs.whole.Listed.{checkpoint-lists, send-lists, send-sends, send-receiver, send-underway, deliver-underway, deliver-forced, deliver-plain, stored-cause, stored-count, none-cause, none-count}
 use Rattle.model.specs.Steps as steps
 
 -- An answer without deletions hands out nothing, and nothing may be gone.
-no-change : (b : Bool) → (b && not b) ≡ false
-no-change true = refl
-no-change false = refl
-
 hands-out-none : (a : Reply) (r r′ : Ideal) → a .report .deletions ≡ 0 → ((p k : ℕ) → keeps r′ p k ≡ keeps r p k) → HandsOut a r r′
 unfolding HandsOut handedOut anyBelow
 hands-out-none a r r′ count same p k hp = rw (count, same p k) (sym (no-change (keeps r p k)))

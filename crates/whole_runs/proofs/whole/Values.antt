@@ -18,7 +18,7 @@ use Rattle.model.proofs.{simulation.Reads.count-is, simulation.Reads.last-is, s
 use Rattle.model.proofs.simulation.Lines.{member-index, line-is}
 use Rattle.model.proofs.simulation.SoundCalls.{checkpoint-run, deliver-run, line-run, recover-run}
 use Rattle.whole_runs.proofs.{whole.EarliestLine.earliest-out, whole.Agreement.Agrees, whole.Reached.refusal, whole.Recovers.written-line}
-use Rattle.whole_runs.proofs.{whole.Refused.live-is, whole.Refused.forcingOf, whole.Steps.value-forced, whole.Steps.value-plain}
+use Rattle.whole_runs.proofs.{whole.Agreement.live-is, whole.Refused.forcingOf, whole.Steps.value-forced, whole.Steps.value-plain}
 use Rattle.histories.proofs.Run as ideal
 
 -- A refused call reports no value and no deletion, its lent lists keep every entry, and no entry rose.
@@ -111,7 +111,7 @@ module _ (h : Surviving) (r : Ideal) (v : Inv r) (fit : Limits r) (memory : Memo
   unfolding valueOf
   deliver-value m deleted e =
       let hi : r .receiver m < r .n = underway-proper r v m (deliver-run r v fit m deleted e .0) .to in
-      rw (live-is h r v fit g (h .receiver m), g .receiver) (by-bool (forces r m)
+      rw (live-is h r v g (h .receiver m), g .receiver) (by-bool (forces r m)
       (λ q. rw q (value-forced (r .n) h r v fit memory refl g m deleted e q ∙ ap some (deliver-index r m few hi (own-entry (r .receiver m)))))
       (λ q. rw q (value-plain (r .n) h r v fit memory refl g m deleted e q)))
 
@@ -123,12 +123,12 @@ module _ (h : Surviving) (r : Ideal) (v : Inv r) (fit : Limits r) (memory : Memo
   -- The value of an accepted call.
   pub value-right : (c : Call) → refusal (stateOf r) c ≡ none → call (stateOf r) c .reply .report .value ≡ valueOf (r .n) h (forcingOf r c) c (call (stateOf r) c .reply .line)
   unfolding refusal forcingOf valueOf
-  value-right (checkpoint i deleted) e = rw (live-is h r v fit g i) (checkpoint-value i deleted e)
+  value-right (checkpoint i deleted) e = rw (live-is h r v g i) (checkpoint-value i deleted e)
   value-right (send i j) e = rw (g .sends) (send-value i j e)
   value-right (deliver m deleted) e = deliver-value m deleted e
   value-right (lose m) e = lose-value m e
   value-right (recover F deleted lent) e = recover-value F deleted lent e ∙ ap some (recover-count F deleted lent e
-      ∙ count-same (r .n) _ _ (λ p hp. rw (live-is h r v fit g p)))
+      ∙ count-same (r .n) _ _ (λ p hp. rw (live-is h r v g p)))
   value-right (line F lent) e = line-value F lent e
   value-right (earliest l lent) e = earliest-value l lent e
 
