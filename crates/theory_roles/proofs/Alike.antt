@@ -1,17 +1,18 @@
 -- Two states that are alike to an owner: as many processes, and the same part for each of its own. What states that console calls reach have in common, and what a
 -- part that is put in leaves alike.
 -- Assumes nothing.
-use Rattle.laws.specs.Basics.{_≡_, refl, sym, _∙_, ap, subst, true, false, _&&_, List, [], _∷_, _++_, some, ℕ, suc, _≤_, _<_, arith, eqb, ltb, length, getD-set-same, getD-set-other, eq-eqb, ne-eqb, ltb-true, by-eq}
+use Rattle.laws.specs.Basics.{_≡_, refl, sym, _∙_, ap, subst, true, false, _&&_, List, [], _∷_, _++_, some, ℕ, suc, _≤_, _<_, arith, eqb, ltb, eq-eqb, ne-eqb, ltb-true, by-eq}
 use mathlib.Core.Option.{Option·map}
-use Rattle.laws.specs.{Tables.take-placed, Lists.select, Lists.lastOf, Lists.placed, Search.latest, Search.latest-is, Search.latest-out}
+use Rattle.laws.specs.{Lists.select, Lists.lastOf, Search.latest, Search.latest-is, Search.latest-out}
 use Rattle.laws.specs.Truth.{and-left, and-both, and-no-right, never-both}
 use Rattle.model.specs.declared.Run.{Run}
-use Rattle.model.specs.Words.{mostProcesses, Process, noCheckpoint, blank, inSet, process, withProcess, withMessages, withDisk, failed}
+use Rattle.model.specs.Words.{mostProcesses, Process, blank, inSet, process, withProcess, withMessages, withDisk, failed}
 use Rattle.model.specs.{Steps.states, Steps.member, Sound.sound, Refusals.noMember}
 use Rattle.histories.proofs.{Run.Ideal, Run.safe, Run.line, Run.member as ideal-member, Invariant.Inv, Line.line-found}
 use Rattle.model.proofs.simulation.View.{checkpointOf, stateOf, partsOf, processOf, Limits}
 use Rattle.model.proofs.{simulation.Lines.states-is, simulation.Lines.member-is, simulation.Passing.select-passing, simulation.Passing.last-passing}
 use Rattle.model.proofs.{simulation.Rows.standing, simulation.Parts.Room, simulation.Parts.room-all, simulation.Parts.room-blank, simulation.Parts.count-put}
+use Rattle.model.proofs.simulation.Parts.{process-put, process-other}
 use Rattle.model.proofs.{simulation.Reads.count-is, simulation.Sound.state-sound}
 use Rattle.whole_runs.specs.WholeRuns.{Reachable}
 use Rattle.whole_runs.proofs.{WholeRuns.reachable-reached, whole.Refused.members-found}
@@ -92,28 +93,6 @@ after-one s (b ∷ calls) k = after-one (consoleCall s b .run) calls k
 pub reached-on : (s : Run) → ConsoleReached s → (k : ConsoleCall) → ConsoleReached (consoleCall s k .run)
 unfolding ConsoleReached
 reached-on s v k = (v .0, v .1, v .2, v .3, v .4 ++ (k ∷ []), ap (λ (t : Run). consoleCall t k .run) (v .5) ∙ sym (after-one _ (v .4) k))
-
--- One process's part put in, read back.
-process-put : (s : Run) (p : ℕ) (P : Process) → Room s p → process (withProcess s p P) p ≡ P
-unfolding process withProcess
-process-put s p P h = rw (
-  getD-set-same (s .vectors .0) p (P .vector) [] (h .vectors),
-  getD-set-same (s .pins .0) p (P .pins) [] (h .pins),
-  getD-set-same (s .sent) p (P .mark) false (h .sent),
-  getD-set-same (s .kept .0) p (placed mostProcesses noCheckpoint (P .kept)) [] (h .kept),
-  getD-set-same (s .«kept_count») p (length (P .kept)) 0 (h .«kept_count»),
-  take-placed mostProcesses noCheckpoint (P .kept),
-)
-
-process-other : (s : Run) (p q : ℕ) (Q : Process) → (p ≡ q → ⊥) → process (withProcess s q Q) p ≡ process s p
-unfolding process withProcess
-process-other s p q Q ne = rw (
-  getD-set-other (s .vectors .0) q p (Q .vector) [] ne,
-  getD-set-other (s .pins .0) q p (Q .pins) [] ne,
-  getD-set-other (s .sent) q p (Q .mark) false ne,
-  getD-set-other (s .kept .0) q p (placed mostProcesses noCheckpoint (Q .kept)) [] ne,
-  getD-set-other (s .«kept_count») q p (length (Q .kept)) 0 ne,
-)
 
 -- The same part put in for one process of two alike states; and a part put in for a process that is not the owner's.
 pub alike-put : (owned : ℕ) (s t : Run) → Fit s → Fit t → Alike owned s t → (i : ℕ) (P Q : Process) → P ≡ Q → Alike owned (withProcess s i P) (withProcess t i Q)

@@ -19,7 +19,7 @@ use Rattle.theory_roles.specs.Table.{operator}
 use Rattle.theory_roles.specs.Learned.{isOwnerBy, isOwner, sees, seen, bound, leak, Exposed, asked, done, exposes, exposed}
 use Rattle.theory_roles.specs.Real.{blocks, code, hide, hiddenLeak, hidden, tenant, rounds, pairOf, Real}
 use Rattle.theory_roles.proofs.Far.{At, at, Come, Any, stores-one, many-more, many-rounds}
-use Rattle.theory_roles.proofs.Lists.{owner-itself, exposed-append, seen-append, differing}
+use Rattle.theory_roles.proofs.Lists.{owner-itself, exposed-append, seen-append, last-seen, differing}
 use Rattle.theory_roles.specs.Real as real
 
 -- Another's checkpoints of its own process expose and show nothing.
@@ -47,10 +47,6 @@ last-exposed : (s : Run) → map (hidden blocks) (exposed 1 s (asks ∷ [])) ≡
 unfolding exposed exposes leak hidden hiddenLeak hide code
 last-exposed s = rw (owner-itself 1 (s .count))
 
-last-seen : (s : Run) → seen 1 s (asks ∷ []) ≡ consoleCall s asks .reply ∷ []
-unfolding seen sees
-last-seen s = rw (owner-itself 1 (s .count))
-
 -- With j checkpoints of another's before it: the same is exposed whatever j is, once the bound is hidden.
 module _ (s : Run) (l : List ConsoleCall) (j : ℕ) where
   abbrev before : Run
@@ -66,7 +62,7 @@ module _ (s : Run) (l : List ConsoleCall) (j : ℕ) where
   seen-after : lastOf (seen 1 s (l ++ (replicate j stores-one ++ (asks ∷ [])))) ≡ some (consoleCall before asks .reply)
   seen-after =
       ap lastOf (seen-append 1 s l (replicate j stores-one ++ (asks ∷ [])) ∙ ap (λ (z : List Reply). seen 1 s l ++ z)
-      (seen-append 1 (stateAfterConsole s l) (replicate j stores-one) (asks ∷ []) ∙ ap (λ (z : List Reply). z ++ seen 1 before (asks ∷ [])) (seen-none j (stateAfterConsole s l)) ∙ last-seen before))
+      (seen-append 1 (stateAfterConsole s l) (replicate j stores-one) (asks ∷ []) ∙ ap (λ (z : List Reply). z ++ seen 1 before (asks ∷ [])) (seen-none j (stateAfterConsole s l)) ∙ last-seen before (checkpoint 0 (deletionList 3))))
       ∙ lastOf-snoc (seen 1 s l) (consoleCall before asks .reply)
 
 meets-bound : (r : Ideal) → Inv r → Limits r → r .n ≡ 3 → r .own 0 < mostInterval → mostBlocks < r .ledger .written + r .ledger .blockCounts 0

@@ -1,43 +1,34 @@
 -- What a list and the counts hold on a state that console calls reach: what the history keeps.
 -- Assumes nothing.
-use Rattle.laws.specs.Basics.{_≡_, refl, sym, _∙_, ap, true, false, List, [], _∷_, _++_, none, some, ℕ, _*_, _≤_, _<_, arith, ltb, length, lt-ltb, le-ltb, pick, by-bool}
-use lib.ListN.{length-map}
+use Rattle.laws.specs.Basics.{_≡_, refl, sym, _∙_, ap, true, false, List, [], none, some, ℕ, _*_, _≤_, _<_, arith, ltb, length, lt-ltb, le-ltb, pick, by-bool}
 use Rattle.laws.specs.{Counting.count-same, Front.written-front, Lists.table, Lists.gather, Sums.sumBelow, Sums.sum-same, Sums.length-gather}
 use Rattle.laws.specs.Tables.{gather-same, table-same, length-table}
-use Rattle.model.specs.declared.{Run.Run, Checkpoint.Checkpoint, Refusal.the-variants.ListTooShort}
+use Rattle.model.specs.declared.{Run.Run, Refusal.the-variants.ListTooShort}
 use Rattle.model.specs.{Words.mostProcesses, Words.process, Steps.Deletion, Steps.listed, Sound.sound, Refusals.firstOf}
-use Rattle.histories.specs.History.{Lists, checkpoints}
 use Rattle.whole_runs.specs.{Outcomes.pairs, Survival.Surviving, Answers.liveOf}
 use Rattle.histories.proofs.{Run.Ideal, Run.keeps, Invariant.Inv}
 use Rattle.model.proofs.simulation.View.{keptOf, processOf, stateOf}
 use Rattle.model.proofs.{simulation.Reads.count-is, simulation.Reads.process-is, simulation.Kept.kept-length, simulation.Kept.kept-most}
-use Rattle.whole_runs.proofs.{whole.Pairs.length-pairs, whole.Handed.gather-length, whole.Agreement.Agrees, whole.Reached.Reached, WholeRuns.reached-sound}
+use Rattle.whole_runs.proofs.{whole.Pairs.length-listed, whole.Pairs.length-pairs, whole.Handed.gather-length, whole.Agreement.Agrees, whole.Agreement.live-is, whole.Reached.Reached, WholeRuns.reached-sound}
 use Rattle.whole_runs.proofs.whole.Gone.{pairs-gather, pairIf, listed-pairs}
 use Rattle.theory_roles.specs.declared.{Caller.Caller, Operation.the-variants.List as Listing, Operation.the-variants.Counts}
 use Rattle.theory_roles.specs.Console.{denied, entitled, listedTo, listRefusal, consoleList, keptCounts, countsRefusal, consoleCounts}
 use Rattle.theory_roles.specs.Shown.{keptNumber, keptPairs, ListIsRight, CountsAreRight, ListIsKept, CountsAreKept}
 use Rattle.theory_roles.proofs.Runs.{console-reached}
 
-listed-length : (p : ℕ) (l : List Checkpoint) → length (listed p l) ≡ length l
-unfolding listed
-listed-length p l = length-map {B = Deletion} l (λ c. record { process = p; index = c .index })
-
 module _ (r : Ideal) (h : Surviving) (v : Inv r) (g : Agrees h r) (few : r .n ≤ mostProcesses) where
   -- What a process keeps, by the state and by the history.
-  live-of : (p : ℕ) → liveOf h p ≡ r .own p
-  live-of p = ap (λ (l : Lists). checkpoints (l p)) (g .lists) ∙ sym (v .counted p)
-
   kept-is : (p : ℕ) → p < r .n → process (stateOf r) p .kept ≡ keptOf r p
   unfolding processOf
   kept-is p hp = rw (process-is r p few hp)
 
   number-is : (p : ℕ) → p < r .n → length (process (stateOf r) p .kept) ≡ keptNumber h p
   unfolding keptNumber
-  number-is p hp = rw (kept-is p hp) (kept-length r p ∙ rw (live-of p) (count-same (r .own p) (keeps r p) (h .kept p) (λ k lt. sym (g .kept p k hp))))
+  number-is p hp = rw (kept-is p hp) (kept-length r p ∙ rw (live-is h r v g p) (count-same (r .own p) (keeps r p) (h .kept p) (λ k lt. sym (g .kept p k hp))))
 
   part-is : (p : ℕ) → p < r .n → pairs (listed p (process (stateOf r) p .kept)) ≡ gather (liveOf h p) (pairIf p (h .kept p))
   unfolding keptOf
-  part-is p hp = rw (kept-is p hp) (listed-pairs r p (r .own p) (keeps r p) ∙ rw (live-of p) (gather-same (r .own p) _ _ (λ k lt. rw (g .kept p k hp))))
+  part-is p hp = rw (kept-is p hp) (listed-pairs r p (r .own p) (keeps r p) ∙ rw (live-is h r v g p) (gather-same (r .own p) _ _ (λ k lt. rw (g .kept p k hp))))
 
   -- What a list has of process p.
   abbrev partTo : Caller → ℕ → List Deletion
@@ -56,13 +47,13 @@ module _ (r : Ideal) (h : Surviving) (v : Inv r) (g : Agrees h r) (few : r .n �
   listed-number : (c : Caller) → length (listedTo c (stateOf r)) ≡ sumBelow (r .n) (λ p. pick (entitled c (r .n) p) (keptNumber h p) 0)
   listed-number c = rw (listed-here c) (length-gather (r .n) (partTo c)
       ∙ sum-same (r .n) _ _ (λ p hp. by-bool (entitled c (r .n) p)
-      (λ e. rw e (listed-length p (process (stateOf r) p .kept) ∙ number-is p hp))
+      (λ e. rw e (length-listed p (process (stateOf r) p .kept) ∙ number-is p hp))
       (λ e. rw e)))
 
   listed-few : (c : Caller) → length (listedTo c (stateOf r)) ≤ r .n * r .n
   listed-few c = rw (listed-here c) (gather-length (r .n) (r .n) (partTo c)
       (λ p hp. by-bool (entitled c (r .n) p)
-      (λ e. rw (e, listed-length p (process (stateOf r) p .kept), kept-is p hp) (kept-most r p))
+      (λ e. rw (e, length-listed p (process (stateOf r) p .kept), kept-is p hp) (kept-most r p))
       (λ e. rw e (omega arith))))
 
   -- The numbers of the counts.

@@ -3,7 +3,7 @@
 -- Assumes nothing.
 use Rattle.laws.specs.Basics.{_≡_, refl, sym, _∙_, ap, subst, Bool, true, false, not, _&&_, _||_, List, [], _∷_, Option, none, some, _⊎_, inl, inr, ℕ, _≤_, _<_, arith, eqb, ltb, getD, set, ltb-true, by-bool}
 use Rattle.laws.specs.{Lists.orElse, Loops.either, Search.all-out, Truth.never-both, Truth.and-left, Truth.and-right, Truth.and-both}
-use Rattle.model.specs.declared.{Message.Message, Named.Named, Refusal.Refusal, Refusal.the-variants.Denied, Run.Run, Pin.the-variants.At}
+use Rattle.model.specs.declared.{Message.Message, Named.Named, Refusal.the-variants.Denied, Run.Run, Pin.the-variants.At}
 use Rattle.model.specs.declared.StartAnswer.the-variants.{Started}
 use Rattle.model.specs.Words.{mostProcesses, zeroVector, noPins, noMessage, blank, inSet, process, withDisk}
 use Rattle.model.specs.Steps.{checkpointZero, started, startState, found, forces, checkpointState, sendState, deliverState, loseState, recoverState}
@@ -16,14 +16,14 @@ use Rattle.whole_runs.specs.Earliest.{earliestRefusal, earliestOutcome}
 use Rattle.whole_runs.specs.Calls.{checkpoint, send, deliver, lose, recover, line, earliest, Reply, Answered, answered}
 use Rattle.whole_runs.proofs.whole.Reached.{refused-number}
 use Rattle.theory_roles.specs.declared.{Role.Role, Role.the-variants.Operator, Role.the-variants.JobOwner, Role.the-variants.Viewer, Caller.Caller}
-use Rattle.theory_roles.specs.declared.Operation.the-variants.{Start, Checkpoint, Send, Deliver, Lose, Recover, Line, Earliest, Counts}
-use Rattle.theory_roles.specs.Console.{owns, denied, deniedProcess, deniedMessage, consoleStart, consoleCheckpoint, consoleSend, consoleDeliver, consoleLose, consoleRecover, consoleLine, consoleEarliest, consoleCounts, countsRefusal}
+use Rattle.theory_roles.specs.declared.Operation.the-variants.{Start, Checkpoint, Send, Deliver, Lose, Recover, Line, Earliest}
+use Rattle.theory_roles.specs.Console.{owns, denied, deniedProcess, deniedMessage, consoleStart, consoleCheckpoint, consoleSend, consoleDeliver, consoleLose, consoleRecover, consoleLine, consoleEarliest}
 use Rattle.theory_roles.specs.Runs.{Asked, made, list, counts, ConsoleCall, ConsoleReached, consoleAnswered, consoleCall, stateAfterConsole}
 use Rattle.theory_roles.specs.Isolation.{owner}
 use Rattle.theory_roles.specs.Learned.{isOwnerBy, isOwner, sees, seen, arrivalOf, arrives, leak, restarts, Exposed, asked, stored, sent, took, restarted, done, exposes, exposed, LearnsNoMore}
 use Rattle.theory_roles.proofs.Alike.{Alike, owned-below, alike-then, alike-back, reached-fit, reached-on}
 use Rattle.theory_roles.proofs.Steps.{checkpoint-alike, send-alike, deliver-alike, checkpoint-other, send-other, deliver-other, lose-other}
-use Rattle.theory_roles.proofs.{Restarts.recover-alike, Own.run-list, Own.own-same}
+use Rattle.theory_roles.proofs.{Restarts.recover-alike, Own.own-same, Runs.list-unchanged, Runs.counts-unchanged, Runs.not-started}
 use Rattle.model.specs.declared.StartAnswer.the-variants as start-answer
 
 -- What a call did that exposed something: what the owner sees of it, and the state after it.
@@ -131,10 +131,6 @@ module _ (c : Caller) (s : Run) where
   unfolding consoleAnswered answered consoleEarliest earliestOutcome
   run-earliest l lent = by-bool (denied c Earliest) (λ d. rw d) (λ d. rw d (by-refusal (earliestRefusal s l lent) (λ n. rw n) (λ x n. rw n)))
 
-  run-counts : (lent : List ℕ) → consoleAnswered c s (counts lent) .run ≡ s
-  unfolding consoleAnswered answered consoleCounts
-  run-counts lent = by-bool (denied c Counts) (λ d. rw d) (λ d. rw d (by-refusal (countsRefusal s lent) (λ n. rw n) (λ x n. rw n)))
-
 -- What a call of another's exposes, once it is known whether it is accepted.
 module _ (owned : ℕ) (c : Caller) (s : Run) (other : isOwner owned (s .count) c ≡ false) where
   abbrev by : Asked → ConsoleCall
@@ -213,8 +209,8 @@ module _ (owned : ℕ) (c : Caller) (s : Run) (other : isOwner owned (s .count) 
   other-kind (made (recover F deleted lent)) = recover-kind F deleted lent
   other-kind (made (line F lent)) = unchanged-kind (made (line F lent)) refl (run-line c s F lent)
   other-kind (made (earliest l lent)) = unchanged-kind (made (earliest l lent)) refl (run-earliest c s l lent)
-  other-kind (list lent) = unchanged-kind (list lent) refl (run-list c s lent)
-  other-kind (counts lent) = unchanged-kind (counts lent) refl (run-counts c s lent)
+  other-kind (list lent) = unchanged-kind (list lent) refl (list-unchanged c s lent)
+  other-kind (counts lent) = unchanged-kind (counts lent) refl (counts-unchanged c s lent)
 
 kind-of : (owned : ℕ) (s : Run) (k : ConsoleCall) → Kind owned s k
 unfolding exposes sees consoleCall
@@ -275,9 +271,6 @@ learned owned (k ∷ l) s t vs vt a m e = by-kind owned s k
     (λ x y z. after-exposing owned s vs k l (λ u vu b n. learned owned l (consoleCall s k .run) u (reached-on s vs k) vu b n) x y z t vt a m e)
 
 -- Two starts with the same block counts for the owner's processes.
-not-started : {x : Refusal} → start-answer.Refused x ≡ Started → ⊥
-not-started {x} e = let z : _≡_ {A = ℕ} 0 1 = cc in omega arith
-
 started-as : (c : Caller) (n : ℕ) (sizes : List ℕ) → consoleStart c n sizes .answer ≡ Started → (startRefusal n sizes ≡ none) × (consoleStart c n sizes .run ≡ startState n sizes)
 unfolding consoleStart startOutcome
 started-as c n sizes e = by-bool (denied c Start)

@@ -1,12 +1,13 @@
 -- The owner of a set is its owner. Lists of console calls put together: the state after them, what they expose, what the tenant of specs/Real sees. And two lists of answers that differ in the last one.
 -- Assumes nothing.
-use Rattle.laws.specs.Basics.{_≡_, refl, sym, _∙_, ap, true, List, [], _∷_, _++_, append-assoc, Option, some, ℕ, by-bool}
-use Rattle.laws.specs.{Lists.lastOf, Search.all-in}
+use Rattle.laws.specs.Basics.{_≡_, refl, sym, _∙_, ap, true, List, [], _∷_, _++_, append-assoc, some, ℕ, by-bool}
+use Rattle.laws.specs.{Lists.lastOf, Options.some-same, Search.all-in}
 use Rattle.model.specs.declared.Run.{Run}
 use Rattle.model.specs.Words.{inSet}
-use Rattle.whole_runs.specs.Calls.{Reply}
+use Rattle.whole_runs.specs.Calls.{Call, Reply}
 use Rattle.theory_roles.specs.{Runs.ConsoleCall, Runs.consoleCall, Runs.stateAfterConsole, Isolation.owner}
 use Rattle.theory_roles.specs.Learned.{isOwnerBy, isOwner, sees, seen, Exposed, exposes, exposed}
+use Rattle.theory_roles.specs.Real.{tenant}
 
 pub owner-itself : (owned n : ℕ) → isOwner owned n (owner owned) ≡ true
 unfolding isOwner isOwnerBy
@@ -31,8 +32,10 @@ seen-append owned s (k ∷ l) m =
     ap (λ (z : List Reply). sees owned s k ++ z) (seen-append owned (consoleCall s k .run) l m)
     ∙ sym (append-assoc (sees owned s k) _ _)
 
-same-reply : (x y : Reply) → _≡_ {A = Option Reply} (some x) (some y) → x ≡ y
-same-reply x y e = cc
+-- What the tenant sees of one call of its own.
+pub last-seen : (s : Run) (k : Call) → seen 1 s (tenant k ∷ []) ≡ consoleCall s (tenant k) .reply ∷ []
+unfolding seen sees
+last-seen s k = rw (owner-itself 1 (s .count))
 
 pub differing : (a b : ℕ) (x y : Reply) (l m : List Reply) → (a ≡ b → ⊥) → lastOf l ≡ some x → lastOf m ≡ some y → x .report .refused ≡ a → y .report .refused ≡ b → l ≡ m → ⊥
-differing a b x y l m ne p q c d e = ne (sym c ∙ ap (λ (z : Reply). z .report .refused) (same-reply x y (sym p ∙ ap lastOf e ∙ q)) ∙ d)
+differing a b x y l m ne p q c d e = ne (sym c ∙ ap (λ (z : Reply). z .report .refused) (some-same (sym p ∙ ap lastOf e ∙ q)) ∙ d)

@@ -19,7 +19,7 @@ use Rattle.theory_roles.specs.Table.{operator}
 use Rattle.theory_roles.specs.Learned.{isOwnerBy, isOwner, sees, seen, room, leak, Exposed, asked, done, exposes, exposed}
 use Rattle.theory_roles.specs.Real.{used, code, hide, hiddenLeak, hidden, tenant, operators, messages, pairOf, Real}
 use Rattle.theory_roles.proofs.Far.{At, at, call-at, inv-at, limits-at, size-at, by-send}
-use Rattle.theory_roles.proofs.Lists.{owner-itself, after-append, exposed-append, seen-append, differing}
+use Rattle.theory_roles.proofs.Lists.{owner-itself, after-append, exposed-append, seen-append, last-seen, differing}
 use Rattle.theory_roles.specs.Real as real
 
 -- A state after c messages, none of them under way.
@@ -116,10 +116,6 @@ last-exposed s size few = rw (owner-itself 1 (s .count), ap (λ (n : ℕ). owns 
     mine : owns 1 3 0 ≡ true
     mine = unfold owns in refl
 
-last-seen : (s : Run) → seen 1 s (asks ∷ []) ≡ consoleCall s asks .reply ∷ []
-unfolding seen sees
-last-seen s = rw (owner-itself 1 (s .count))
-
 meets-last : (r : Ideal) → Inv r → Limits r → r .n ≡ 3 → ((m : ℕ) → r .transit m ≡ false) → mostMessages ≤ r .last → sendRefusal (stateOf r) 0 1 ≡ some MessageNumbersUsed
 unfolding sendRefusal
 meets-last r v fit size still numbers =
@@ -192,7 +188,7 @@ module _ (s : Run) (x : Calm s 0) (c : ℕ) (numbers : c ≤ mostMessages) where
 
   seen-after : lastOf (seen 1 s (messages c ++ (asks ∷ []))) ≡ some (consoleCall there asks .reply)
   seen-after =
-      ap lastOf (seen-append 1 s (messages c) (asks ∷ []) ∙ ap (λ (z : List Reply). z ++ seen 1 there (asks ∷ [])) (seen-none c s) ∙ last-seen there)
+      ap lastOf (seen-append 1 s (messages c) (asks ∷ []) ∙ ap (λ (z : List Reply). z ++ seen 1 there (asks ∷ [])) (seen-none c s) ∙ last-seen there (send 0 1))
       ∙ lastOf-snoc [] (consoleCall there asks .reply)
 
 -- The start.

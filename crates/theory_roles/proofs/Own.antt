@@ -10,12 +10,13 @@ use Rattle.model.specs.{Sound.sound, laws.Refusals.by-refusal, laws.Refusals.no
 use Rattle.model.specs.Refusals.{firstOf, pastBlocks, checkpointRefusal, sendRefusal, forcesPast, forcesOver, deliverRefusal, loseRefusal, lineRefusal}
 use Rattle.whole_runs.specs.Outcomes.{pairs, written, checkpointReport, checkpointOutcome, sendReport, sendOutcome, deliverReport, deliverAnswer, deliverOutcome, loseReport, loseOutcome, lineReport, lineOutcome}
 use Rattle.whole_runs.specs.Calls.{checkpoint, send, deliver, lose, recover, line, earliest, Reply, Answered, answered}
-use Rattle.theory_roles.specs.declared.{Caller.Caller, Operation.the-variants.List as Listing}
+use Rattle.theory_roles.specs.declared.{Operation.the-variants.List as Listing}
 use Rattle.theory_roles.specs.Console.{may, owns, entitledBy, entitled, entitledMessageBy, entitledMessage, denied, deniedProcess, deniedMessage, shown, listRefusal, listReport, consoleCheckpoint, consoleSend, consoleDeliver, consoleLose, consoleRecover, consoleLine, consoleEarliest, consoleList, consoleCounts}
 use Rattle.theory_roles.specs.Runs.{Asked, made, list, counts, ConsoleReached, consoleAnswered}
 use Rattle.theory_roles.specs.Isolation.{owner, SameToOwner, ListIsOwn}
 use Rattle.theory_roles.proofs.{Isolation.list-is-own, Alike.Alike, Alike.Fit, Alike.owned-below, Alike.owned-too, Alike.alike-then, Alike.alike-back}
 use Rattle.theory_roles.specs.Learned.{Arrival, arrivalOf, arrives, isThere, room, bound, arrival, there, members, leak}
+use Rattle.theory_roles.proofs.Runs.{list-unchanged}
 use Rattle.theory_roles.proofs.Steps.{checkpoint-alike, send-alike, deliver-alike, lose-other}
 use Rattle.model.specs.declared.CheckpointAnswer.the-variants as checkpoint-answer
 use Rattle.model.specs.declared.SendAnswer.the-variants as send-answer
@@ -24,11 +25,6 @@ use Rattle.model.specs.declared.DeliverAnswer.the-variants as deliver-answer
 -- Two calls return the same and leave states that are alike.
 abbrev pub Same : ℕ → Answered → Answered → Type 0
 Same owned x y = (x .reply ≡ y .reply) × Alike owned (x .run) (y .run)
-
--- A list leaves the state.
-pub run-list : (c : Caller) (s : Run) (lent : List ℕ) → consoleAnswered c s (list lent) .run ≡ s
-unfolding consoleAnswered answered consoleList
-run-list c s lent = by-bool (denied c Listing) (λ d. rw d) (λ d. rw d (by-refusal (listRefusal s lent) (λ n. rw n) (λ x n. rw n)))
 
 -- What arrives with a message, if anything does.
 pub data Arrived (owned : ℕ) (u : Run) (m : ℕ) : Type 0 where
@@ -208,7 +204,7 @@ module _ (owned set : ℕ) (s t : Run) (fs : Fit s) (ft : Fit t) (a : Alike owne
           deleted = w .1 j;
           line = (list-bare s lent .1 ∙ sym (list-bare t lent .1)) j;
         },
-        rw (run-list (owner set) s lent, run-list (owner set) t lent) a,
+        rw (list-unchanged (owner set) s lent, list-unchanged (owner set) t lent) a,
       )
 
   -- What two values of a leak that are one say.

@@ -2,12 +2,12 @@
 -- Assumes nothing.
 use Rattle.laws.specs.Basics.{_≡_, refl, sym, _∙_, ap, Bool, true, false, not, _&&_, List, [], Option, some, ℕ, _<_, eqb, ltb, leb, getD, eqb-true, pick, by-bool}
 use Rattle.laws.specs.{Lists.select, Lists.lastOf, Lists.table, Tables.getD-table, Tables.table-same, Truth.never-both}
-use Rattle.model.specs.declared.{Checkpoint.Checkpoint, Interval.Interval, Pin.Pin, Pin.the-variants.Nothing, Pin.the-variants.At, Run.Run}
+use Rattle.model.specs.declared.{Checkpoint.Checkpoint, Interval.Interval, Pin.Pin, Pin.the-variants.Nothing, Run.Run}
 use Rattle.model.specs.Words.{mostProcesses, entry, below, liveIndex, isPinned, Process, process, own, withMessages, withDisk}
 use Rattle.model.specs.Steps.{advanced, states, member, rolledBack, vectorAfter, notLost, ownAfter, latestPin, movedPin, pinAfter, pinsAfter, recovered, recoverState}
 use Rattle.model.specs.Sound.{isNothing}
 use Rattle.model.proofs.simulation.Parts.{process-all, process-messages, process-disk, count-all}
-use Rattle.model.proofs.simulation.Rows.{process-eq}
+use Rattle.model.proofs.{simulation.Rows.process-eq, simulation.SoundUnused.nothing-is}
 use Rattle.theory_roles.specs.{Console.owns, Learned.Restart, Learned.restart, Learned.restarts}
 use Rattle.theory_roles.proofs.Alike.{Alike, Fit, owned-below, owned-too}
 
@@ -49,14 +49,9 @@ module _ (s t : Run) (F G p : ℕ) (part : process s p ≡ process t p) (same : 
       (λ d. rw d (λ e. by-bool (rolledBack u H p) (λ back. rw back (moved-own u H f d)) (λ back. rw back)))
       (λ d. rw d (λ e. never-both true refl e))
 
-  pin-none : (x : Pin) → isNothing x ≡ true → x ≡ Nothing
-  unfolding isNothing
-  pin-none Nothing e = refl
-  pin-none (At k) e = never-both false e refl
-
   pin-same : (f : ℕ) → not (isNothing (pinAfter s F p f)) ≡ not (isNothing (pinAfter t G p f)) → pinAfter s F p f ≡ pinAfter t G p f
   pin-same f e = by-bool (isNothing (pinAfter t G p f))
-      (λ d. pin-none (pinAfter s F p f) (not-not (isNothing (pinAfter s F p f)) (isNothing (pinAfter t G p f)) e ∙ d) ∙ sym (pin-none (pinAfter t G p f) d))
+      (λ d. nothing-is (pinAfter s F p f) (not-not (isNothing (pinAfter s F p f)) (isNothing (pinAfter t G p f)) e ∙ d) ∙ sym (nothing-is (pinAfter t G p f) d))
       (λ d. pin-is-left s F f (not-not (isNothing (pinAfter s F p f)) (isNothing (pinAfter t G p f)) e ∙ d)
       ∙ (λ j. pin-left (vector-same j) (not-lost-same j) (part j) (rolled-same j) f)
       ∙ sym (pin-is-left t G f d))

@@ -44,6 +44,15 @@ shownReply c s F lent = record {
   line = shown c (s .count) lent (lineOutcome s F lent .line);
 }
 
+-- A list and the counts leave the state.
+pub list-unchanged : (c : Caller) (s : Run) (deleted : List ℕ) → consoleAnswered c s (list deleted) .run ≡ s
+unfolding consoleAnswered answered consoleList
+list-unchanged c s deleted = by-bool (denied c Listing) (λ e. rw e) (λ e. rw e (by-refusal (listRefusal s deleted) (λ o. rw o) (λ x o. rw o)))
+
+pub counts-unchanged : (c : Caller) (s : Run) (lent : List ℕ) → consoleAnswered c s (counts lent) .run ≡ s
+unfolding consoleAnswered answered consoleCounts
+counts-unchanged c s lent = by-bool (denied c Counts) (λ e. rw e) (λ e. rw e (by-refusal (countsRefusal s lent) (λ o. rw o) (λ x o. rw o)))
+
 module _ (n : ℕ) (h : Surviving) (c : Caller) (s : Run) where
   -- A denied call leaves both, and any other is the library's.
   effect : (k : Call) → Effect n h s k (consoleAnswered c s (made k))
@@ -58,22 +67,13 @@ module _ (n : ℕ) (h : Surviving) (c : Caller) (s : Run) where
       (λ e. rw e (inr (line-unlent s F lent .0, line-history n h F lent (shownReply c s F lent) (call s (line F lent) .reply) refl (line-unlent s F lent .1))))
   effect (earliest l lent) = by-bool (denied c Earliest) (λ e. rw e (inl (refl, refl))) (λ e. rw e (inr (refl, refl)))
 
-  -- A list and the counts leave the state.
-  list-unchanged : (deleted : List ℕ) → consoleAnswered c s (list deleted) .run ≡ s
-  unfolding consoleAnswered answered consoleList
-  list-unchanged deleted = by-bool (denied c Listing) (λ e. rw e) (λ e. rw e (by-refusal (listRefusal s deleted) (λ o. rw o) (λ x o. rw o)))
-
-  counts-unchanged : (lent : List ℕ) → consoleAnswered c s (counts lent) .run ≡ s
-  unfolding consoleAnswered answered consoleCounts
-  counts-unchanged lent = by-bool (denied c Counts) (λ e. rw e) (λ e. rw e (by-refusal (countsRefusal s lent) (λ o. rw o) (λ x o. rw o)))
-
   -- What the library's calls reach, console calls reach no further.
   asked-reachable : Reachable s → (a : Asked) → Reachable (consoleAnswered c s a .run)
   asked-reachable v (made k) = either (effect k)
       (λ e. subst Reachable (sym (e .0)) v)
       (λ e. subst Reachable (sym (e .0)) (reachable-call s v k))
-  asked-reachable v (list deleted) = subst Reachable (sym (list-unchanged deleted)) v
-  asked-reachable v (counts lent) = subst Reachable (sym (counts-unchanged lent)) v
+  asked-reachable v (list deleted) = subst Reachable (sym (list-unchanged c s deleted)) v
+  asked-reachable v (counts lent) = subst Reachable (sym (counts-unchanged c s lent)) v
 
   -- Nor does the history: console calls reach what calls of the library reach, each with its history.
   asked-reached : (r : Ideal) → Reached n s h r → (a : Asked) → (r′ : Ideal) × Reached n (consoleAnswered c s a .run) (survivingFrom n h (exchanged c s a)) r′
@@ -81,8 +81,8 @@ module _ (n : ℕ) (h : Surviving) (c : Caller) (s : Run) where
   asked-reached r v (made k) = either (effect k)
       (λ e. (r, rw (e .0, e .1) v))
       (λ e. (unlessRefused (refusal (stateOf r) k) r (stepped r k), rw (e .0, e .1) (call-reached n s h r v k)))
-  asked-reached r v (list deleted) = (r, rw (list-unchanged deleted) v)
-  asked-reached r v (counts lent) = (r, rw (counts-unchanged lent) v)
+  asked-reached r v (list deleted) = (r, rw (list-unchanged c s deleted) v)
+  asked-reached r v (counts lent) = (r, rw (counts-unchanged c s lent) v)
 
 -- The history of a transcript put together.
 surviving-append : (n : ℕ) (h : Surviving) (a b : List Exchange) → survivingFrom n h (a ++ b) ≡ survivingFrom n (survivingFrom n h a) b
@@ -114,7 +114,10 @@ calls-stand n s h v (k ∷ l) =
     rw (surviving-append n h (exchanged (k .caller) s (k .asked)) (consoleTranscript (consoleCall s k .run) l))
     (calls-stand n (consoleCall s k .run) (survivingFrom n h (exchanged (k .caller) s (k .asked))) (call-stands n s h v k) l)
 
--- An accepted console start is an accepted start.
+-- A start that is refused is not accepted, and an accepted console start is an accepted start.
+pub not-started : {x : Refusal} → start-answer.Refused x ≡ Started → ⊥
+not-started {x} e = let z : _≡_ {A = ℕ} 0 1 = cc in omega arith
+
 started-by : (c : Caller) (n : ℕ) (sizes : List ℕ) → consoleStart c n sizes .answer ≡ Started
     → (startRefusal n sizes ≡ none) × (consoleStart c n sizes .run ≡ startOutcome n sizes .run)
 unfolding consoleStart startOutcome
@@ -123,9 +126,6 @@ started-by c n sizes e = by-bool (denied c Start)
     (λ d. by-refusal (startRefusal n sizes)
     (λ o. (o, rw d))
     (λ x o. absurd (not-started (rw (d, o) at e))))
-  where
-    not-started : {x : Refusal} → start-answer.Refused x ≡ Started → ⊥
-    not-started {x} e = let z : _≡_ {A = ℕ} 0 1 = cc in omega arith
 
 pub console-reachable : ConsoleIsReachable
 unfolding ConsoleIsReachable ConsoleReached

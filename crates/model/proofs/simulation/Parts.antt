@@ -144,7 +144,7 @@ unfolding blank
 room-blank n p h = record { vectors = h; pins = h; sent = h; kept = h; «kept_count» = h }
 
 -- What is read back of a process's part: the part itself where there is a place, and other parts are as before.
-process-put : (s : Run) (p : ℕ) (P : Process) → Room s p → process (withProcess s p P) p ≡ P
+pub process-put : (s : Run) (p : ℕ) (P : Process) → Room s p → process (withProcess s p P) p ≡ P
 unfolding process withProcess
 process-put s p P h = rw (
   getD-set-same (s .vectors .0) p (P .vector) [] (h .vectors),
@@ -155,7 +155,7 @@ process-put s p P h = rw (
   take-placed mostProcesses noCheckpoint (P .kept),
 )
 
-process-other : (s : Run) (p q : ℕ) (Q : Process) → (p ≡ q → ⊥) → process (withProcess s q Q) p ≡ process s p
+pub process-other : (s : Run) (p q : ℕ) (Q : Process) → (p ≡ q → ⊥) → process (withProcess s q Q) p ≡ process s p
 unfolding process withProcess
 process-other s p q Q ne = rw (
   getD-set-other (s .vectors .0) q p (Q .vector) [] ne,

@@ -4,7 +4,8 @@ use Rattle.laws.specs.Basics.{_≡_, refl, _∙_, Bool, true, false, not, List,
 use native.Mathlib.Nat.{not-suc-le-zero}
 use lib.Seq.{drop-set-lt, drop-append-seam}
 use Rattle.laws.specs.{Lists.placed, Search.allBelow, Search.all-in, Tests.every, Elements.every-drop, Elements.every-from, Elements.every-replicate}
-use Rattle.model.specs.{declared.Pin.the-variants.Nothing, declared.Checkpoint.Checkpoint, declared.Run.Run, Steps.withProcesses}
+use Rattle.laws.specs.Truth.{never-both}
+use Rattle.model.specs.{declared.Pin.Pin, declared.Pin.the-variants.Nothing, declared.Pin.the-variants.At, declared.Checkpoint.Checkpoint, declared.Run.Run, Steps.withProcesses}
 use Rattle.model.specs.Words.{mostProcesses, mostUnderWay, Process, zeroVector, noPins, noCheckpoint, noMessage, blank, withProcess, underWay, withMessages, withDisk}
 use Rattle.model.specs.Sound.{zeroFrom, unusedCheckpoint, unusedMessage, isNothing, nothingFrom, rowUnused, unusedSound}
 use Rattle.histories.proofs.Run.{Ideal}
@@ -68,6 +69,12 @@ beyond-all m (suc n) f s h =
 zeros : (k : ℕ) → zeroFrom k zeroVector ≡ true
 unfolding zeroFrom
 zeros k = every-drop (λ x. eqb (x .0) 0) k zeroVector (every-replicate (λ x. eqb (x .0) 0) mostProcesses (record { 0 = 0 }) refl)
+
+-- A pin that tests as none is none.
+pub nothing-is : (pin : Pin) → isNothing pin ≡ true → pin ≡ Nothing
+unfolding isNothing
+nothing-is Nothing e = refl
+nothing-is (At k) e = never-both false e refl
 
 -- A row of unused pins has none.
 nothings : nothingFrom 0 noPins ≡ true
