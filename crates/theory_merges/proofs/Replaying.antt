@@ -1,7 +1,7 @@
 -- Note 12, proved: the bytes of a merge are a plain trace, and replaying them is the run of the merged calls.
 -- Assumes nothing.
 use Rattle.laws.specs.Basics.{_≡_, refl, sym, _∙_, ap, Bool, true, false, List, [], _∷_, _++_, append-nil, append-assoc, Option, none, some, ℕ, zero, suc, _+_, _*_, _/_, _≤_, _<_, arith, eqb, leb, length, length-append, eqb-false, lt-ltb, ltb-false, leb-true, leb-false, not-false, by-bool}
-use Rattle.laws.specs.Truth.{and-right, or-none}
+use Rattle.laws.specs.{Options.some-same, Truth.and-right, Truth.or-none}
 use Rattle.model.specs.declared.{Fields.Fields, Refusal.Refusal, Run.Run, Event.Event}
 use Rattle.model.specs.{Words.mostProcesses, laws.Refusals.no-rule, laws.Refusals.number-range}
 use Rattle.model.specs.Trace.{decoded, fieldsOf, fits, wordOf, bytesOf, encoded}
@@ -59,20 +59,18 @@ stands-for : (e : Event) → fits e ≡ true → decoded (bytesOf (wordOf (field
 unfolding encoded
 stands-for e h =
     let w = records-are-events .one-record e h in
-    let same : bytesOf (wordOf (fieldsOf e)) ≡ w .0 = the-same (rw h at (w .1)) in
+    let same : bytesOf (wordOf (fieldsOf e)) ≡ w .0 = some-same (rw h at (w .1)) in
     ap decoded same ∙ w .4
-  where
-    the-same : {A : Type 0} {x y : A} → some x ≡ some y → x ≡ y
-    the-same q = cc
 
-four : (w : ℕ) → length (bytesOf w) ≡ 4
+-- A word has four bytes.
+pub four-bytes : (w : ℕ) → length (bytesOf w) ≡ 4
 unfolding bytesOf
-four w = refl
+four-bytes w = refl
 
 pub plain-length : (l : List HalfEvent) → length (plainBytes l) ≡ 4 * length l
 unfolding plainBytes
 plain-length [] = refl
-plain-length (x ∷ l) = length-append (plainBytes l) (bytesOf (wordOf (fieldsOf (plainEvent l x)))) ∙ omega (arith, plain-length l, four (wordOf (fieldsOf (plainEvent l x))))
+plain-length (x ∷ l) = length-append (plainBytes l) (bytesOf (wordOf (fieldsOf (plainEvent l x)))) ∙ omega (arith, plain-length l, four-bytes (wordOf (fieldsOf (plainEvent l x))))
 
 -- The calls of records taken, which stand the newest first.
 callsOf : List HalfEvent → List Call
@@ -90,7 +88,7 @@ replayed s (x ∷ l) (f, g) =
     let r = bytesOf (wordOf (fieldsOf (plainEvent l x))) in
     states-by-block (length l) s (plainBytes l) r (plain-length l)
     ∙ ap (λ (t : Run). stateAfterRecords t r) (replayed s l g)
-    ∙ one-state (stateAfter s (callsOf l)) r (four (wordOf (fieldsOf (plainEvent l x))))
+    ∙ one-state (stateAfter s (callsOf l)) r (four-bytes (wordOf (fieldsOf (plainEvent l x))))
     ∙ performed (stateAfter s (callsOf l)) (plainEvent l x) r (stands-for (plainEvent l x) f)
     ∙ sym (after-one s (callsOf l) (callOf (plainEvent l x)))
 

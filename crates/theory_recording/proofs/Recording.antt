@@ -1,6 +1,6 @@
 -- Note 9, proved: what was recorded replays the same.
 -- Assumes nothing.
-use Rattle.laws.specs.Basics.{_≡_, refl, sym, _∙_, ap, Bool, true, false, not, _&&_, List, [], _∷_, _++_, map, append-nil, append-assoc, none, some, _⊎_, inl, inr, ℕ, zero, suc, _+_, _-_, _*_, _≤_, _<_, min, arith, eqb, ltb, length, getD, take, drop, replicate, length-append, length-replicate, getD-replicate, sets, length-take-le, lt-ltb, le-ltb, ltb-true, ltb-false, by-bool}
+use Rattle.laws.specs.Basics.{_≡_, refl, sym, _∙_, ap, Bool, true, false, not, List, [], _∷_, _++_, map, append-nil, append-assoc, none, some, _⊎_, inl, inr, ℕ, zero, suc, _+_, _-_, _*_, _≤_, _<_, min, arith, eqb, ltb, length, getD, take, drop, replicate, length-append, length-replicate, getD-replicate, sets, length-take-le, lt-ltb, le-ltb, ltb-true, ltb-false, by-bool}
 use native.Mathlib.Nat.{mul-le-mul}
 use lib.ListN.{take-append-drop}
 use lib.Seq.{sets-eq, length-sets, take-at, take-all, drop-at, drop-drop}
@@ -23,7 +23,7 @@ use Rattle.model.proofs.{simulation.View.messageOf, simulation.View.stateOf, si
 use Rattle.model.proofs.{simulation.Checkpoint.checkpoint-deletions, simulation.Deliver.deliver-deletions, simulation.Recover.recover-deletions}
 use Rattle.model.proofs.simulation.Accepted.{start-out, start-in, checkpoint-out, checkpoint-in, deliver-out, deliver-in, recover-out, recover-in}
 use Rattle.model.proofs.{simulation.SoundCalls.checkpoint-run, simulation.SoundCalls.deliver-run, simulation.SoundCalls.recover-run, Records.records-are-events}
-use Rattle.whole_runs.proofs.{whole.Handed.listed-length, whole.Handed.gather-length, whole.Handed.room-one, whole.Handed.gone, whole.Pairs.length-pairs}
+use Rattle.whole_runs.proofs.{whole.Handed.listed-length, whole.Handed.gather-length, whole.Handed.room-one, whole.Handed.gone, whole.Pairs.length-pairs, whole.Pairs.double}
 use Rattle.theory_recording.proofs.Replay.{fits-accepted, record-of, first-state, first-reply, lines-replayed, listing-started}
 use Rattle.whole_runs.proofs.{Sizes.few-processes, whole.Because.because-state, whole.Because.because-limits, whole.Accepted.accepted-report}
 use Rattle.whole_runs.proofs.whole.Reached.{Reached, refusal, refused-number, refused-state, refused-report}
@@ -394,9 +394,6 @@ start-begun n blockCounts buffer e = by-refusal (startRefusal n blockCounts)
     not-started x e = let z : _≡_ {A = ℕ} 0 1 = cc in omega arith
 
 -- What the replay program prints depends on what the replies hand out alone.
-double : (k : ℕ) → 2 * suc k ≡ suc (suc (2 * k))
-double k = omega arith
-
 deletions-front : (k : ℕ) (l : List ℕ) → deletionsText k (take (2 * k) l) ≡ deletionsText k l
 unfolding deletionsText
 deletions-front zero l = refl

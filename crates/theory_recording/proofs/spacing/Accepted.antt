@@ -4,7 +4,7 @@
 use Rattle.laws.specs.Basics.{_≡_, refl, sym, _∙_, ap, Bool, true, _&&_, List, [], _∷_, _++_, Option, none, some, ℕ, zero, suc, _+_, _-_, _*_, _/_, _%_, _≤_, _<_, arith, eqb, ltb, leb, length, getD, replicate, length-append, length-replicate, getD-replicate, ltb-true, ltb-false, leb-true, by-bool, by-eq}
 use native.Mathlib.Nat.{mod-lt, mod-eq-of-lt, mod-eq-sub-mod, mul-le-mul}
 use lib.ListN.{List·getD-eq-default}
-use Rattle.laws.specs.{Lists.select, Lists.gather, Select.select-append, Sums.sum-le, Tests.every, Truth.and-left, Truth.and-right, Update.upd}
+use Rattle.laws.specs.{Lists.select, Lists.gather, Options.some-same, Options.none≢some, Select.select-append, Sums.sum-le, Tests.every, Truth.and-left, Truth.and-right, Update.upd}
 use Rattle.model.specs.declared.{Message.Message, Run.Run, Event.Event, Event.the-variants.Checkpoint, Event.the-variants.Send, Event.the-variants.Deliver}
 use Rattle.model.specs.Words.{basic, forced, mostProcesses, mostUnderWay, mostMessages, mostInterval, ones, underWay}
 use Rattle.model.specs.{Steps.startState, Sound.isBlockCount, Refusals.startRefusal, Trace.fits}
@@ -80,13 +80,10 @@ blocks-delivered r m b few h = by-bool (forces r m)
 -- The first element that passes one test passes another that all pass.
 head-passes : {A : Type 0} (u t : A → Bool) (l : List A) (x : A) → every u l ≡ true → headOf (select t l) ≡ some x → u x ≡ true
 unfolding every select headOf
-head-passes u t [] x h e = absurd (let z : _≡_ {A = ℕ} 0 1 = cc in omega arith)
+head-passes u t [] x h e = absurd (none≢some e)
 head-passes u t (y ∷ l) x h e = by-bool (t y)
-    (λ q. let same : y ≡ x = one y x (rw q at e) in rw (← same) (and-left (u y) (every u l) h))
+    (λ q. let same : y ≡ x = some-same (rw q at e) in rw (← same) (and-left (u y) (every u l) h))
     (λ q. head-passes u t l x (and-right (u y) (every u l) h) (rw q at e))
-  where
-    one : {A : Type 0} (y x : A) → some y ≡ some x → y ≡ x
-    one y x e = cc
 
 -- Where the sum goes: below n, and never to p itself.
 pub chosen-fits : (n p d : ℕ) → 2 ≤ n → p < n → (chosenReceiver n p d < n) × (p ≡ chosenReceiver n p d → ⊥)
@@ -160,12 +157,6 @@ module _ (n b m : ℕ) (s : Run) (g : Going n b m s) where
       (λ q. rw (counts-delivered r (x .number)) (g .cheap q)) (blocks-delivered r (x .number) b (g .cheap) (g .blocks))
 
 -- The action of a step is accepted.
-some-is : {A : Type 0} (x y : A) → some x ≡ some y → x ≡ y
-some-is x y e = cc
-
-not-none : {A : Type 0} {P : Type 0} (x : A) → _≡_ {A = Option A} none (some x) → P
-not-none x e = absurd (let z : _≡_ {A = ℕ} 0 1 = cc in omega arith)
-
 pub by-option : {A : Type 0} {P : Type 0} (o : Option A) → (o ≡ none → P) → ((x : A) → o ≡ some x → P) → P
 by-option none a b = a refl
 by-option (some x) a b = b x refl
@@ -178,10 +169,10 @@ module _ (n i : ℕ) (s : Run) (p d : ℕ) (g : Going n (1 + 2 * i) i s) (hp : p
       let two : 2 ≤ n = leb-true 2 n (and-left (leb 2 n) (ltb (s .underway) mostUnderWay) q) in
       let few : s .underway < mostUnderWay = ltb-true (s .underway) mostUnderWay (and-right (leb 2 n) (ltb (s .underway) mostUnderWay) q) in
       let c = chosen-fits n p d two hp in
-      let same : Send p (chosenReceiver n p d) ≡ e = some-is (Send p (chosenReceiver n p d)) e (rw q at h) in
+      let same : Send p (chosenReceiver n p d) ≡ e = some-same (rw q at h) in
       let w = goes-send n (1 + 2 * i) i s g p (chosenReceiver n p d) hp (c .0) (c .1) few (omega arith) in
       rw (← same) (record { fine = w .fine; fitting = w .fitting; next = weaken n (1 + 2 * i) (suc i) (2 + 2 * i) (suc i) _ (w .next) (omega arith) (omega arith) }))
-      (λ q. not-none e (rw q at h))
+      (λ q. absurd (none≢some (rw q at h)))
 
   deliver-goes : (x : Message) → oldestTo s p ≡ some x → Goes n (2 + 2 * i) (suc i) s (Deliver (x .number))
   deliver-goes x h =
@@ -194,7 +185,7 @@ module _ (n i : ℕ) (s : Run) (p d : ℕ) (g : Going n (1 + 2 * i) i s) (hp : p
       (λ q. sends-goes e (rw q at h))
       (λ x q. let z = rw q at h in
       by-bool (eqb (d % 2) 0)
-      (λ c. rw (← some-is (Deliver (x .number)) e (rw c at z)) (deliver-goes x q))
+      (λ c. rw (← some-same (rw c at z)) (deliver-goes x q))
       (λ c. sends-goes e (rw c at z)))
 
   -- A step: its events are accepted, they are at most two, and the bounds grow by two and by one.

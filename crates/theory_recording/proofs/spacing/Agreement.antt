@@ -9,7 +9,7 @@ use Rattle.theory_recording.proofs.{Replay.replays, Replay.lines-replay
 use Rattle.theory_recording.specs.spacing.Spacing.{deliveriesIn, forcedIn, greatestBelow, mostKept, stepped, trialStart, trialAfter, outOfRange, trialRefusal, quotientOf, remainderOf, figures, simulated, eventsOf, traceOf, replayed, Divides, AgreesWithReplay, TrialsAgree}
 
 -- The most kept after any step.
-greatest-same : (n : ℕ) (f g : ℕ → ℕ) → ((i : ℕ) → i < n → f i ≡ g i) → greatestBelow n f ≡ greatestBelow n g
+pub greatest-same : (n : ℕ) (f g : ℕ → ℕ) → ((i : ℕ) → i < n → f i ≡ g i) → greatestBelow n f ≡ greatestBelow n g
 unfolding greatestBelow
 greatest-same zero f g h = refl
 greatest-same (suc n) f g h = rw (greatest-same n f g (λ i lt. h i (omega arith)), h n (omega arith))

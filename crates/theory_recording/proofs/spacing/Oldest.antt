@@ -1,18 +1,12 @@
 -- Note 10: the first of the messages to p is the oldest, since messages ascend by number.
 -- Assumes nothing.
-use Rattle.laws.specs.Basics.{_≡_, refl, sym, true, List, [], _∷_, map, Option, none, some, inl, inr, ℕ, suc, _≤_, arith, eqb, leb, eq-eqb, eqb-true, leb-true, by-bool}
+use Rattle.laws.specs.Basics.{_≡_, refl, sym, true, List, [], _∷_, map, none, some, inl, inr, ℕ, suc, _≤_, arith, eqb, leb, eq-eqb, eqb-true, leb-true, by-bool}
 use mathlib.Core.List.{List·Memᴰ, List·Memᴰ·head, List·Memᴰ·tail, List·Memᴰ·cases-cons, List·Memᴰ·not-nil}
-use Rattle.laws.specs.{Lists.select, Truth.never-both, Truth.and-left, Truth.and-right}
+use Rattle.laws.specs.{Lists.select, Options.some-same, Options.none≢some, Truth.never-both, Truth.and-left, Truth.and-right}
 use Rattle.model.specs.declared.Message.{Message}
 use Rattle.model.specs.{Words.underWay, Sound.ascending, laws.Sound.sound-state}
 use Rattle.whole_runs.proofs.WholeRuns.{reachable-sound}
 use Rattle.theory_recording.specs.spacing.Spacing.{headOf, oldestTo, OldestDelivered}
-
-some-is : {A : Type 0} (x y : A) → some x ≡ some y → x ≡ y
-some-is x y e = cc
-
-not-none : {A : Type 0} {P : Type 0} (x : A) → _≡_ {A = Option A} none (some x) → P
-not-none x e = absurd (let z : _≡_ {A = ℕ} 0 1 = cc in omega arith)
 
 above : (low : ℕ) (l : List Message) (y : Message) → ascending low (map (λ x. x .number) l) ≡ true → List·Memᴰ y l → low ≤ y .number
 unfolding ascending
@@ -27,11 +21,11 @@ above low (z ∷ l) y a m =
 first-of : (p low : ℕ) (l : List Message) → ascending low (map (λ x. x .number) l) ≡ true → (x : Message) → headOf (select (λ y. eqb (y .receiver) p) l) ≡ some x
     → List·Memᴰ x l × (x .receiver ≡ p) × ((y : Message) → List·Memᴰ y l → y .receiver ≡ p → x .number ≤ y .number)
 unfolding ascending select headOf
-first-of p low [] a x e = not-none x e
+first-of p low [] a x e = absurd (none≢some e)
 first-of p low (z ∷ l) a x e =
     let rest-after = and-right (leb low (z .number)) (ascending (suc (z .number)) (map (λ x. x .number) l)) a in
     by-bool (eqb (z .receiver) p)
-    (λ q. let same : z ≡ x = some-is z x (rw q at e) in
+    (λ q. let same : z ≡ x = some-same (rw q at e) in
     rw (← same) (
       List·Memᴰ·head refl,
       eqb-true (z .receiver) p q,
@@ -53,7 +47,7 @@ none-of : (p : ℕ) (l : List Message) → headOf (select (λ y. eqb (y .receive
 unfolding select headOf
 none-of p [] e y m c = List·Memᴰ·not-nil m
 none-of p (z ∷ l) e y m c = by-bool (eqb (z .receiver) p)
-    (λ q. not-none z (sym (rw q at e)))
+    (λ q. none≢some (sym (rw q at e)))
     (λ q. elim (List·Memᴰ·cases-cons m) [
       | inl d ↦ never-both (eqb (z .receiver) p) (eq-eqb (z .receiver) p (rw d at c)) q
       | inr t ↦ none-of p l (rw q at e) y t c
