@@ -1,7 +1,7 @@
 -- A checkpoint and a receipt of a process of a sound state: the pins move first, then what no pin names is deleted, then the new checkpoint is stored. The definitions
 -- store first and delete then; both leave the same.
 -- Assumes nothing.
-use Rattle.laws.specs.Basics.{_≡_, refl, sym, _∙_, ap, Bool, true, false, not, List, [], _∷_, _++_, ℕ, suc, _+_, _-_, _*_, _≤_, _<_, arith, length, getD, set, length-set, sets, getD-set-other, eqb-true, pick}
+use Rattle.laws.specs.Basics.{_≡_, refl, sym, _∙_, ap, Bool, true, false, not, List, [], _∷_, _++_, ℕ, _+_, _-_, _*_, _≤_, _<_, arith, length, getD, set, length-set, sets, getD-set-other, eqb-true, pick}
 use native.Mathlib.Nat.{mul-le-mul-left}
 use lib.Seq.{ext-getD}
 use Rattle.laws.specs.{Lists.select, Lists.table, Lists.lastOf, Lists.orElse, Rows.by-lt, Rows.every-at, Rows.some-at, Rows.some-where}
@@ -16,6 +16,7 @@ use Rattle.words_process.proofs.receipts.Billing.{blocks-of-some}
 use Rattle.words_process.proofs.receipts.Receipts.{receipt-room, receipt-leaves, receipt-gone}
 use Rattle.words_process.proofs.receipts.Settling.{indexes, moved-own, stays-after, deleted-before, room-after}
 use Rattle.whole_runs.specs.Outcomes.{pairs}
+use Rattle.whole_runs.proofs.whole.Pairs.{length-listed}
 use Rattle.words.specs.{Clean.CleanKept, Frames.OnlyProcess, Parts.processIn, Puts.Put, Puts.puts, Puts.vectorPut}
 use Rattle.words.specs.Layout.{word, wide4, countOf, keptCountAt, markAt, blocksAt, partAt, pinsAt, indexAt, causeAt, storedAt, intervalOf, pinOf, rowIn, vectorIn, pinsIn, markIn, checkpointIn, runOf}
 use Rattle.words.proofs.{Frames.process-then, Reading.puts-length, Reading.untouched, Reading.touched, Reading.pin-back, View.count-is}
@@ -120,11 +121,6 @@ Ready u i r from stores index lent =
     ((length u ≡ 6464) × (i < 16) × (stores ≡ true → index .0 < 65535) × (diskIn u .written ≤ 1000000000000000) × (diskIn u .deleted ≤ 1000000000000000))
     × (((from ≤ word u (keptCountAt i)) × (word u (keptCountAt i) ≤ 16) × Used u i (word u (keptCountAt i)) × AllPinned u i (pinRow r) from)
     × ((stores ≡ true → length (select (isPinned (pinRow r)) (table (word u (keptCountAt i)) (checkpointIn u i))) < 16) × (2 * word u (keptCountAt i) ≤ lent)))
-
-listed-length : (p : ℕ) (l : List Checkpoint) → length (listed p l) ≡ length l
-unfolding listed
-listed-length p [] = refl
-listed-length p (c ∷ l) = ap suc (listed-length p l)
 
 used-by : (w : List ℕ) (i n : ℕ) → ((k : ℕ) → k < n → 1 ≤ word w (indexAt i k)) → Used w i n
 unfolding Used
@@ -365,7 +361,7 @@ module _ (w : List ℕ) (h : sound (runOf w) ≡ true) (i : ℕ) (lt : i < count
 
       pub deletes : g ≡ length (deletions i Q)
       unfolding deletions
-      deletes = many ∙ ap length (unpinned-there ∙ lost) ∙ sym (listed-length i (gone Q))
+      deletes = many ∙ ap length (unpinned-there ∙ lost) ∙ sym (length-listed i (gone Q))
 
     pub lists : (l : List ℕ) → sets l 0 (pairs (listed i (unpinnedIn u i (pinRow r)))) ≡ sets l 0 (pairs (deletions i Q))
     unfolding deletions
