@@ -1,6 +1,6 @@
 -- What the functions find of named checkpoints in the words is what Earliest says of the run that sound words stand for.
 -- Assumes nothing.
-use Rattle.laws.specs.Basics.{_≡_, refl, sym, _∙_, ap, Bool, true, false, not, _||_, List, [], _∷_, _++_, ℕ, zero, suc, _+_, _-_, _*_, _/_, _%_, _≤_, _<_, max, arith, eqb, ltb, leb, length, getD, replicate, length-replicate, eq-eqb, ne-eqb, eqb-true, eqb-false, leb-false, by-bool}
+use Rattle.laws.specs.Basics.{_≡_, refl, sym, _∙_, ap, Bool, true, false, not, _||_, List, [], _∷_, _++_, ℕ, zero, suc, _+_, _-_, _*_, _%_, _≤_, _<_, max, arith, eqb, ltb, leb, length, getD, replicate, length-replicate, eq-eqb, ne-eqb, eqb-true, eqb-false, leb-false, by-bool}
 use Rattle.laws.specs.{Below.not-out, Below.all-not-any, Elements.same-test, Lists.select, Lists.lastOf, Lists.orElse, Lists.table, Loops.below-at}
 use Rattle.laws.specs.{Ranges.any-same, Search.allBelow, Search.anyBelow, Search.any-none, Search.all-out, Tables.length-table, Tables.table-same}
 use Rattle.laws.specs.{Select.some-append, Select.some-one, Select.some-table, Select.or-swap, Tests.some-of}
@@ -9,6 +9,7 @@ use Rattle.model.specs.{Words.entry, Words.comesBefore, Words.noCheckpoint, Wor
 use Rattle.whole_runs.specs.Earliest.{isNamed, namedVector, greatest, earliestLine, someAbsent, repeats, unfit, notKept, someOrdered}
 use Rattle.words.specs.Layout.{word, countOf, keptCountAt, indexAt, storedAt, vectorIn, checkpointIn, runOf}
 use Rattle.words.proofs.{Same.vector-word, View.count-is, ViewSound.sound-fits, ViewSound.sound-few, ViewSound.sound-part, ViewSound.sound-kept-is}
+use Rattle.words_sound.proofs.Laws.{not-twice}
 use Rattle.words_line.specs.Through.{pairCount, processOf, indexOf, namedAt, namedIn, amongFirst, twiceIn, startOf, startAt, startsIn, beforeSome, greatestIn, Present, Searched, InWords}
 use Rattle.words_line.proofs.LineRule.{last-more, last-less}
 
@@ -16,10 +17,6 @@ use Rattle.words_line.proofs.LineRule.{last-more, last-less}
 pub pairs-fit : (size : ℕ) → 2 * pairCount size ≤ size
 unfolding pairCount
 pairs-fit size = by-bool (eqb (size % 2) 1) (λ e. rw e (omega arith)) (λ e. rw e (omega arith))
-
-not-twice : (b : Bool) → not (not b) ≡ b
-not-twice true = refl
-not-twice false = refl
 
 not-all : (n : ℕ) (t : ℕ → Bool) → not (allBelow n (λ k. not (t k))) ≡ anyBelow n t
 not-all n t = ap not (all-not-any n t t (λ k. refl)) ∙ not-twice (anyBelow n t)

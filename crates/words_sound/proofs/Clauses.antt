@@ -33,7 +33,7 @@ unfolding pinOf isNothing
 nothing-word zero = refl
 nothing-word (suc x) = sym (ne-eqb (suc x) 0 (omega arith))
 
-blocks-append : (l : List Checkpoint) (c : Checkpoint) → blocksOf (l ++ (c ∷ [])) ≡ blocksOf l + c .blocks
+pub blocks-append : (l : List Checkpoint) (c : Checkpoint) → blocksOf (l ++ (c ∷ [])) ≡ blocksOf l + c .blocks
 unfolding blocksOf
 blocks-append [] c = omega arith
 blocks-append (x ∷ l) c = omega (arith, blocks-append l c)

@@ -1,12 +1,16 @@
 -- Tests of a list that is laid out by index, as tests of the indexes: of all its entries, of those from a place on, of the chosen ones; and numbers that ascend,
 -- one more at a time.
 -- Assumes nothing.
-use Rattle.laws.specs.Basics.{_≡_, refl, sym, _∙_, Bool, false, not, _&&_, _||_, List, [], _∷_, _++_, ℕ, zero, suc, _+_, _≤_, _<_, arith, ltb, leb, length, take, drop, length-append, length-take-le, lt-ltb, le-ltb, ltb-true, pick, by-bool}
+use Rattle.laws.specs.Basics.{_≡_, refl, sym, _∙_, Bool, true, false, not, _&&_, _||_, List, [], _∷_, _++_, ℕ, zero, suc, _+_, _≤_, _<_, arith, ltb, leb, length, take, drop, length-append, length-take-le, lt-ltb, le-ltb, ltb-true, pick, by-bool}
 use lib.Seq.{getD-take, ext-getD}
 use Rattle.laws.specs.{Elements.same-test, Elements.every-from, Lists.select, Lists.table, Search.allBelow, Search.all-in, Search.all-out, Select.select-append}
 use Rattle.laws.specs.{Rows.and-group, Rows.and-swap, Rows.and-true, Rows.every-beyond, Rows.by-lt, Tables.length-table, Tables.getD-table}
 use Rattle.laws.specs.{Tests.every, Tests.countBelow, Truth.and-left, Truth.and-right, Truth.and-both, Truth.or-left, Truth.or-in-right, Truth.or-right}
 use Rattle.model.specs.Sound.{ascending}
+
+pub not-twice : (b : Bool) → not (not b) ≡ b
+not-twice true = refl
+not-twice false = refl
 
 pub cons-same : {A : Type 0} (a b : A) (l m : List A) → a ≡ b → l ≡ m → a ∷ l ≡ b ∷ m
 cons-same a b l m e f = rw (e, f)

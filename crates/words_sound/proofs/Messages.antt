@@ -13,7 +13,7 @@ use Rattle.model.specs.{declared.Message.Message, declared.Run.Run, Words.mostU
 use Rattle.model.specs.Sound.{within, ascending, messageSound, zeroFrom, unusedMessage}
 use Rattle.words.specs.Layout.{word, wide2, countOf, endOf, senderAt, receiverAt, carriedAt, messageIn, isMessage, messagesIn, decoded}
 use Rattle.words_sound.specs.Test.{rowWithin, numberIn, numberBefore, messageTests, messageFits, carriedFits}
-use Rattle.words_sound.proofs.Laws.{cons-same, both-false, every-chosen, length-chosen, select-more, nextOf, next-snoc, ascending-snoc}
+use Rattle.words_sound.proofs.Laws.{not-twice, cons-same, both-false, every-chosen, length-chosen, select-more, nextOf, next-snoc, ascending-snoc}
 use Rattle.words_sound.proofs.Parts as parts
 
 -- One of two tests, where the second is two.
@@ -54,11 +54,7 @@ module _ (w : List ℕ) where
   used-at k = refl
 
   unused-at : (k : ℕ) → not (isMessage (messageIn w k)) ≡ eqb (numberIn w k) 0
-  unused-at k = rw (used-at k) (twice (eqb (numberIn w k) 0))
-    where
-      twice : (b : Bool) → not (not b) ≡ b
-      twice true = refl
-      twice false = refl
+  unused-at k = rw (used-at k) (not-twice (eqb (numberIn w k) 0))
 
   abbrev chosen : ℕ → List Message
   chosen m = select isMessage (table m (messageIn w))
