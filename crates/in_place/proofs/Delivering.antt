@@ -1,7 +1,7 @@
 -- A message that reaches its receiver: the receipt changes the receiver's part and the blocks, then the message is taken out of its place.
 -- Assumes nothing.
-use Rattle.laws.specs.Basics.{_≡_, sym, _∙_, ap, Bool, true, false, not, List, none, some, ℕ, suc, _*_, _≤_, _<_, arith, eqb, ltb, length, pick, by-bool, by-eq}
-use Rattle.laws.specs.{Lists.select, Rows.by-lt}
+use Rattle.laws.specs.Basics.{_≡_, sym, _∙_, ap, Bool, true, false, not, List, none, some, ℕ, suc, _*_, _≤_, _<_, arith, eqb, ltb, length, pick, by-bool}
+use Rattle.laws.specs.{Lists.select}
 use Rattle.model.specs.{declared.Disk.Disk, declared.Message.Message, declared.Run.Run, Sound.sound}
 use Rattle.model.specs.Words.{forced, Process, blockCount, blocksOf, process, withProcess, withMessages, withDisk}
 use Rattle.model.specs.Steps.{found, others, forces, settled, gone, deletions, billed, checkpointed, takenIn, delivered, deliverState, deliverDeletions}
@@ -17,7 +17,7 @@ use Rattle.words.proofs.messages.Zeros.{clean-taken}
 use Rattle.words_process.specs.{Moves.diskIn, Moves.Moves, Steps.received}
 use Rattle.words_process.proofs.Stepping.{block-count}
 use Rattle.in_place.specs.{Left.Leaves, Storing.storingAdmission}
-use Rattle.in_place.proofs.{Checkpointing.disk-is, Checkpointing.either-way, Losing.found-is, Losing.some-number, Losing.place-in, Losing.its-number}
+use Rattle.in_place.proofs.{Checkpointing.disk-is, Checkpointing.either-way, Losing.found-is, Losing.some-number, Losing.place-in, Losing.its-number, Losing.alone}
 use Rattle.in_place.proofs.Moving.{moved-run, moved-leaves}
 
 module _ (w : List ℕ) (h : sound (runOf w) ≡ true) (m k : ℕ) (e : placeOf w m ≡ suc k) where
@@ -34,13 +34,6 @@ module _ (w : List ℕ) (h : sound (runOf w) ≡ true) (m k : ℕ) (e : placeOf 
 
   used : isMessage (messageIn w k) ≡ true
   used = is-one (messageIn w k) m (some-number w h m k e) (its-number w h m k e)
-
-  alone : (j : ℕ) → j < endOf w → messageIn w j .number ≡ m → j ≡ k
-  alone j lt q =
-      let is = is-one (messageIn w j) m (some-number w h m k e) q in
-      by-lt j k
-      (λ less. absurd (let z = known .ascend j k less (place-in w h m k e) is used in omega (arith, its-number w h m k e)))
-      (λ more. by-eq j k (λ r. r) (λ ne. absurd (let z = known .ascend k j (omega arith) lt used is in omega (arith, its-number w h m k e))))
 
   pub receiver-in : messageIn w k .receiver < countOf w
   receiver-in = known .message k (place-in w h m k e) used .to
@@ -116,7 +109,7 @@ module _ (w : List ℕ) (h : sound (runOf w) ≡ true) (m k : ℕ) (e : placeOf 
     same-number = ap (λ (x : Message). x .number) (message-words-same w v end message-words k) ∙ its-number w h m k e
 
     only-one : (j : ℕ) → j < endOf v → messageIn v j .number ≡ m → j ≡ k
-    only-one j less q = alone j (omega (arith, end)) (ap (λ (x : Message). x .number) (sym (message-words-same w v end message-words j)) ∙ q)
+    only-one j less q = alone w h m k e j (omega (arith, end)) (ap (λ (x : Message). x .number) (sym (message-words-same w v end message-words j)) ∙ q)
 
     abbrev y : List ℕ
     y = takenOut v k

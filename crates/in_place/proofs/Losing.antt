@@ -1,6 +1,6 @@
 -- A message looked up in the words is the one that the run has under way; taken out of them it is lost.
 -- Assumes nothing.
-use Rattle.laws.specs.Basics.{_≡_, refl, sym, _∙_, ap, true, false, not, _&&_, List, [], none, some, ℕ, zero, suc, _+_, _-_, _≤_, _<_, arith, eqb, length, eq-eqb, ne-eqb, by-bool, by-eq}
+use Rattle.laws.specs.Basics.{_≡_, refl, sym, _∙_, ap, true, false, not, _&&_, List, [], none, some, ℕ, zero, suc, _≤_, _<_, arith, eqb, length, eq-eqb, ne-eqb, by-bool, by-eq}
 use Rattle.laws.specs.{Lists.select, Lists.lastOf, Lists.table, Prefixes.select-none, Rows.by-lt, Select.select-select}
 use Rattle.model.specs.{declared.Message.Message, declared.Refusal.the-variants.NotUnderWay, declared.Run.Run, laws.Refusals.refusal-in}
 use Rattle.model.specs.{Words.withMessages, Steps.found, Steps.others, Steps.loseState, Sound.sound, Refusals.loseRefusal}
@@ -73,7 +73,7 @@ module _ (w : List ℕ) (h : sound (runOf w) ≡ true) (m : ℕ) where
     used : isMessage (messageIn w k) ≡ true
     used = is-one (messageIn w k) m some-number its-number
 
-    alone : (j : ℕ) → j < endOf w → messageIn w j .number ≡ m → j ≡ k
+    pub alone : (j : ℕ) → j < endOf w → messageIn w j .number ≡ m → j ≡ k
     alone j lt q =
         let is = is-one (messageIn w j) m some-number q in
         by-lt j k

@@ -62,7 +62,8 @@ none-written : (i : ℕ) (l : List ℕ) → sets l 0 (pairs (listed i [])) ≡ l
 unfolding listed pairs
 none-written i l = refl
 
-sized : (w : List ℕ) → Sized (runOf w)
+-- The sizes of the run of any words.
+pub sized : (w : List ℕ) → Sized (runOf w)
 sized w = record {
   vectors = vectors-size w;
   vector-row = vector-row-size w;

@@ -24,7 +24,7 @@ replicate-zero zero k = refl
 replicate-zero (suc n) zero = refl
 replicate-zero (suc n) (suc k) = replicate-zero n k
 
-zeros-word : (k : ℕ) → word zeros k ≡ 0
+pub zeros-word : (k : ℕ) → word zeros k ≡ 0
 unfolding zeros
 zeros-word k = replicate-zero stateSize k
 

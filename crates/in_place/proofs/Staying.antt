@@ -16,9 +16,9 @@ use Rattle.whole_runs.proofs.Sizes.{last-passes}
 use Rattle.words_process.specs.receipts.Sized.{Sized}
 use Rattle.words_process.proofs.receipts.Filled.{messages-many}
 use Rattle.words.specs.Layout.{runOf}
-use Rattle.words.proofs.ViewSizes.{vectors-size, vector-row-size, pins-size, pin-row-size, sent-size, kept-size, kept-row-size, stored-size, kept-count-size, messages-size, carried-size}
+use Rattle.words_sound.proofs.Clauses.{blocks-append}
 use Rattle.in_place.specs.Staying.{CallsKeepSound}
-use Rattle.in_place.proofs.{Assembling.sound-in, Recovering.recover-sound}
+use Rattle.in_place.proofs.{Assembling.sound-in, Receiving.sized, Recovering.recover-sound}
 use Rattle.in_place.proofs.Changing.{within-by, within-at, advanced-own, advanced-within, part-fine, messages-stay, fewer-stay, own-then, own-rises, within-rises, process-stays}
 use Rattle.in_place.proofs.Keeping.{every-then, Loose, Fine, loose-rise, stored-loose, taken-loose, settled-fine}
 
@@ -42,14 +42,9 @@ unfolding blocksOf select
 blocks-split t [] = refl
 blocks-split t (c ∷ l) = by-bool (t c) (λ e. rw e (omega (arith, blocks-split t l))) (λ e. rw e (omega (arith, blocks-split t l)))
 
-blocks-more : (l : List Checkpoint) (c : Checkpoint) → blocksOf (l ++ (c ∷ [])) ≡ blocksOf l + c .blocks
-unfolding blocksOf
-blocks-more [] c = omega arith
-blocks-more (x ∷ l) c = omega (arith, blocks-more l c)
-
 stored-blocks : (cause i : ℕ) (P : Process) → blocksOf (checkpointed cause i P .kept) ≡ blocksOf (P .kept) + blockCount P
 unfolding checkpointed storing
-stored-blocks cause i P = blocks-more (P .kept) (storing cause i P)
+stored-blocks cause i P = blocks-append (P .kept) (storing cause i P)
 
 -- Numbers that ascend, and a greater one after them.
 ascending-after : (low : ℕ) (l : List ℕ) (x : ℕ) → ascending low l ≡ true → every (λ y. ltb y x) l ≡ true → low ≤ x → ascending low (l ++ (x ∷ [])) ≡ true
@@ -59,22 +54,6 @@ ascending-after low (y ∷ l) x h e le =
     let p = and-out (leb low y) (ascending (suc y) l) h in
     let q = and-out (ltb y x) (every (λ z. ltb z x) l) e in
     and-both (leb low y) (ascending (suc y) (l ++ (x ∷ []))) (p .0) (ascending-after (suc y) l x (p .1) (q .1) (ltb-true y x (q .0)))
-
--- The sizes of the run of any words.
-sized : (w : List ℕ) → Sized (runOf w)
-sized w = record {
-  vectors = vectors-size w;
-  vector-row = vector-row-size w;
-  pins = pins-size w;
-  pin-row = pin-row-size w;
-  sent = sent-size w;
-  kept = kept-size w;
-  kept-row = kept-row-size w;
-  stored = λ p k lp lk. stored-size w p lp k lk;
-  «kept_count» = kept-count-size w;
-  messages = messages-size w;
-  carried = carried-size w;
-}
 
 module _ (s : Run) (size : Sized s) (whole : sound s ≡ true) where
   lose-sound : (m : ℕ) → sound (loseState s m) ≡ true
