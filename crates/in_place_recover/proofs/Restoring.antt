@@ -4,13 +4,13 @@
 use Rattle.laws.specs.Basics.{_≡_, refl, sym, _∙_, ap, Bool, true, not, List, [], _∷_, _++_, ℕ, zero, suc, _+_, _*_, _≤_, _<_, arith, length, getD, length-append, sets, by-bool, by-eq}
 use native.Mathlib.Nat.{suc-mul, mul-le-mul-right, mul-assoc}
 use native.Mathlib.Numerals.{add-one}
-use lib.ListN.{length-map}
 use Rattle.laws.specs.{Lists.select, Lists.gather, Lists.table, Select.select-length, Sums.sumBelow, Sums.sum-le, Sums.length-gather, Tables.length-table}
 use Rattle.laws.specs.Written.{sets-after}
 use Rattle.model.specs.declared.{Checkpoint.Checkpoint, Disk.Disk, Interval.Interval, Run.Run}
 use Rattle.model.specs.{Words.isPinned, Words.Process, Words.blocksOf, Words.process, Words.withProcess, Words.withDisk, Sound.sound, Sound.keptBlocks}
-use Rattle.model.specs.{laws.Sound.sound-state, Steps.Deletion, Steps.listed, Steps.billed, Steps.withProcesses}
+use Rattle.model.specs.{laws.Sound.sound-state, Steps.listed, Steps.billed, Steps.withProcesses}
 use Rattle.whole_runs.specs.Outcomes.{pairs}
+use Rattle.whole_runs.proofs.whole.{Gone.pairs-append, Pairs.length-listed, Pairs.length-pairs}
 use Rattle.words.specs.{Layout.word, Layout.countOf, Layout.keptCountAt, Layout.blocksAt, Layout.checkpointIn, Layout.runOf, Parts.processIn}
 use Rattle.words.proofs.{Frames.process-head, Frames.process-message-words, View.count-is, View.written-is, View.deleted-is, View.fits-size}
 use Rattle.words.proofs.{ViewChange.process-fits, ViewChange.disk-fits, ViewSound.sound-words, ViewSound.sound-part, ViewSound.sound-process-is}
@@ -66,21 +66,6 @@ unfolding blocksOf select
 blocks-fewer t [] = omega arith
 blocks-fewer t (c ∷ l) = by-bool (t c) (λ e. rw e (omega (arith, blocks-fewer t l))) (λ e. rw e (omega (arith, blocks-fewer t l)))
 
--- The pairs of what is deleted of one process more.
-pairs-append : (l m : List Deletion) → pairs (l ++ m) ≡ pairs l ++ pairs m
-unfolding pairs
-pairs-append [] m = refl
-pairs-append (d ∷ l) m = ap (λ (r : List ℕ). d .process ∷ d .index .0 ∷ r) (pairs-append l m)
-
-two-each : (l : List Deletion) → length (pairs l) ≡ 2 * length l
-unfolding pairs
-two-each [] = refl
-two-each (d ∷ l) = rw (two-each l) (omega arith)
-
-listed-length : (p : ℕ) (l : List Checkpoint) → length (listed p l) ≡ length l
-unfolding listed
-listed-length p l = length-map l _
-
 -- Room for the pairs of one more process, after those of k processes of at most n pairs each.
 room-more : (n k total h : ℕ) → k < n → total ≤ k * n → h ≤ n → 2 * total + 2 * h ≤ 2 * n * n
 room-more n k total h lt so-far few =
@@ -123,7 +108,7 @@ module _ (w : List ℕ) (h : sound (runOf w) ≡ true) (pasts : List ℕ) (owns 
   losses-count k = length-gather k (λ p. listed p (goneThen w pasts owns p))
 
   listed-most : (p : ℕ) → p < countOf w → length (listed p (goneThen w pasts owns p)) ≤ countOf w
-  listed-most p lt = omega (arith, listed-length p (goneThen w pasts owns p), gone-most p lt)
+  listed-most p lt = omega (arith, length-listed p (goneThen w pasts owns p), gone-most p lt)
 
   pub losses-most : (k : ℕ) → k ≤ countOf w → length (lossesThen w pasts owns k) ≤ k * countOf w
   losses-most k le = rw (losses-count k) (sum-le k (countOf w) (λ p. length (listed p (goneThen w pasts owns p))) (λ p lt. listed-most p (omega arith)))
@@ -249,7 +234,7 @@ module _ (w : List ℕ) (h : sound (runOf w) ≡ true) (pasts : List ℕ) (owns 
     pub more-listed : (l d e : List ℕ) (total : ℕ) → total ≡ length (lossesThen w pasts owns k) → d ≡ sets l 0 (pairs (lossesThen w pasts owns k))
         → e ≡ sets d (2 * total) (pairs (listed k (restoredGone v k past owns))) → e ≡ sets l 0 (pairs (lossesThen w pasts owns (k + 1)))
     more-listed l d e total many before after =
-        let rest-after : 2 * total ≡ 0 + length (pairs (lossesThen w pasts owns k)) = omega (arith, many, two-each (lossesThen w pasts owns k)) in
+        let rest-after : 2 * total ≡ 0 + length (pairs (lossesThen w pasts owns k)) = omega (arith, many, length-pairs (lossesThen w pasts owns k)) in
         after
         ∙ ap (λ (g : List Checkpoint). sets d (2 * total) (pairs (listed k g))) (gone-same w v k room same most past owns)
         ∙ sets-after l d 0 (2 * total) (pairs (lossesThen w pasts owns k)) before rest-after (pairs (listed k (goneThen w pasts owns k)))
@@ -257,5 +242,5 @@ module _ (w : List ℕ) (h : sound (runOf w) ≡ true) (pasts : List ℕ) (owns 
 
     pub more-counted : (total r : ℕ) → total ≡ length (lossesThen w pasts owns k) → r ≡ length (restoredGone v k past owns) → total + r ≡ length (lossesThen w pasts owns (k + 1))
     more-counted total r before many =
-        (λ j. before j + (many ∙ ap length (gone-same w v k room same most past owns) ∙ sym (listed-length k (goneThen w pasts owns k))) j)
+        (λ j. before j + (many ∙ ap length (gone-same w v k room same most past owns) ∙ sym (length-listed k (goneThen w pasts owns k))) j)
         ∙ sym (ap length (losses-next k) ∙ length-append (lossesThen w pasts owns k) (listed k (goneThen w pasts owns k)))
