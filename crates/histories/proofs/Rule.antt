@@ -1,5 +1,5 @@
 -- What the tests of the run say: a state passes the rule of the line, a process rolls back, a checkpoint is kept.
-use Rattle.laws.specs.Basics.{_≡_, refl, ap, true, false, _||_, Option, none, some, _⊎_, ℕ, _≤_, _<_, eq-eqb, eqb-true, lt-ltb, ltb-true, ltb-false, not-true, not-false, by-bool}
+use Rattle.laws.specs.Basics.{_≡_, refl, ap, true, false, Option, none, some, ℕ, _≤_, _<_, eq-eqb, eqb-true, lt-ltb, ltb-true, ltb-false, not-true, not-false, by-bool}
 use Rattle.laws.specs.{Search.any-out, Search.any-in, Search.all-out, Search.all-in, Search.all-fails, Truth.never-both}
 use Rattle.histories.proofs.Run.{Ideal, Failed, safe, names, keeps, rolled}
 
@@ -48,7 +48,3 @@ names-out (some j) k e = ap some (eqb-true j k e)
 pub keeps-out : (r : Ideal) (p k : ℕ) → keeps r p k ≡ true → (f : ℕ) × (f < r .n) × (r .pin p f ≡ some k)
 unfolding keeps
 keeps-out r p k e = let w = any-out (r .n) _ e in (w .0, w .1, names-out (r .pin p (w .0)) k (w .2))
-
--- A pin names one checkpoint.
-pub same-some : (o : Option ℕ) (j k : ℕ) → o ≡ some j → o ≡ some k → j ≡ k
-same-some o j k p q = cc

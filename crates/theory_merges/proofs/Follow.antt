@@ -10,14 +10,14 @@ use Rattle.whole_runs.specs.Outcomes.{deliverAnswer, deliverOutcome, deliverRep
 use Rattle.whole_runs.specs.Calls.{Call, checkpoint, send, deliver, lose, recover, line, earliest, answered, call}
 use Rattle.theory_merges.specs.Seen.{Seen, took, forced, sentTo, got, forcedIn, seenOf, isRecovery}
 use Rattle.histories.proofs.{Run.Ideal, Run.Ledger, Run.because, Run.checkpointed, Run.sending, Run.forces, Run.delivered, Run.lost, Invariant.Inv, Lost.lost-n}
-use Rattle.histories.proofs.{Ledger.ledger-inv, Messages.underway-proper, Checkpointed.checkpointed-inv, Sending.sending-inv, Delivered.delivered-inv}
+use Rattle.histories.proofs.{Ledger.ledger-inv, Messages.underway-proper, Messages.used-number, Checkpointed.checkpointed-inv, Sending.sending-inv, Delivered.delivered-inv}
 use Rattle.histories.proofs.Counted.{newIn, Paid, checkpointed-new, checkpointed-paid, delivered-new-forced, delivered-new-plain, delivered-paid}
 use Rattle.histories.proofs.Local.{localOf, tookAt, sentAt, local-took, local-sent, local-lost}
 use Rattle.histories.proofs.SubMessages.{SubMessages, Counterpart, With, Without, passes, lost-without, delivered-without, sending-with, messages-stay, checkpointed-messages-stay, messages-same, messages-gone, messages-left, messages-skipped, messages-added}
 use Rattle.histories.proofs.SubRun.{Cheaper, SubRun, knownOf, StepAt, at-because, without-because, stay-because, part-because, forces-because, subrun-kept, subrun-left, subrun-messages, checkpointed-at, sending-at, delivered-at, got-same, forces-same, delivered-takes, delivered-rises, checkpointed-rises, sending-row, own-part, live-part}
 use Rattle.model.proofs.simulation.View.{vectorOf, messageOf, messagesOf, stateOf, Limits}
 use Rattle.model.proofs.{simulation.Accepted.send-out, simulation.Reads.last-is, simulation.Reads.underway-is, simulation.Deliver.deliver-forces}
-use Rattle.model.proofs.{simulation.Messages.used-number, simulation.Messages.found-is, simulation.SoundLimits.messages-count}
+use Rattle.model.proofs.{simulation.Messages.found-is, simulation.SoundLimits.messages-count}
 use Rattle.model.proofs.simulation.SoundCalls.{checkpoint-run, send-run, deliver-run, lose-run}
 use Rattle.model.proofs.simulation.Admitted.{checkpoint-admitted, send-admitted, deliver-admitted, lose-admitted, deliver-early}
 use Rattle.whole_runs.proofs.{whole.Reached.refusal, whole.Runs.stepped}

@@ -5,16 +5,12 @@ use native.Mathlib.Numerals.{add-one}
 use Rattle.laws.specs.{Lists.lastOf, Search.latest-is, Search.latest-none, Update.upd-same, Update.upd-other, Update.upds}
 use Rattle.model.specs.declared.Message.{Message}
 use Rattle.model.specs.{Words.mostProcesses, Steps.sentMessage, Steps.marked, Steps.sendState, Steps.found, Steps.others, Steps.loseState}
-use Rattle.histories.proofs.{Run.Ideal, Run.keeps, Run.sending, Run.lost, Invariant.Inv, Counted.keptIn}
+use Rattle.histories.proofs.{Run.Ideal, Run.keeps, Run.sending, Run.lost, Counted.keptIn}
 use Rattle.histories.proofs.Lost.{lost-n, lost-own, lost-vector, lost-mark, lost-pin, lost-last}
 use Rattle.model.proofs.simulation.View.{passing, pinsOf, checkpointOf, keptOf, processOf, messageOf, messagesOf, diskOf, stateOf}
 use Rattle.model.proofs.simulation.Passing.{passing-same, passing-yes, select-passing, last-passing}
 use Rattle.model.proofs.{simulation.Reads.last-is, simulation.Reads.underWay-is, simulation.Reads.process-is, simulation.Rows.process-same}
 use Rattle.model.proofs.simulation.Stepping.{one-part-still, messages-alone}
-
--- A message under way has a used number.
-pub used-number : (r : Ideal) → Inv r → (m : ℕ) → r .transit m ≡ true → m < suc (r .last)
-used-number r v m e = let w = v .underway m e in omega (arith, v .proper (r .sender m) (w .0) m (w .1) .1 .used)
 
 module _ (r : Ideal) (i j : ℕ) (few : r .n ≤ mostProcesses) (hi : i < r .n) where
   -- Send. The part of i is as before but for its mark; the message comes last.

@@ -10,10 +10,10 @@ use Rattle.model.specs.laws.Refusals.{refusal-in, skipped, by-refusal}
 use Rattle.whole_runs.specs.{Earliest.someAbsent, Earliest.unfit, Earliest.notKept, Earliest.someOrdered, Earliest.earliestRefusal, Survival.Surviving}
 use Rattle.whole_runs.specs.Calls.{Call, checkpoint, send, deliver, lose, recover, line, earliest, call}
 use Rattle.whole_runs.specs.Answers.{Reason, lowest, countUnderWay, tooShort, pastBound, startReasons, reasons}
-use Rattle.histories.proofs.{Run.Ideal, Run.forces, Invariant.Inv, Messages.underway-proper}
+use Rattle.histories.proofs.{Run.Ideal, Run.forces, Invariant.Inv, Messages.underway-proper, Messages.used-number}
 use Rattle.model.proofs.{simulation.View.messageOf, simulation.View.messagesOf, simulation.View.stateOf, simulation.View.Limits, simulation.Sound.state-sound}
 use Rattle.model.proofs.simulation.Reads.{count-is, last-is, underway-is, own-is}
-use Rattle.model.proofs.{simulation.Messages.used-number, simulation.Messages.found-is, simulation.Messages.found-none, simulation.Deliver.deliver-forces}
+use Rattle.model.proofs.{simulation.Messages.found-is, simulation.Messages.found-none, simulation.Deliver.deliver-forces}
 use Rattle.model.proofs.{simulation.Lines.latest-allowed, simulation.SoundCalls.written-is, simulation.SoundCalls.count-is-of}
 use Rattle.model.proofs.simulation.SoundLimits.{messages-count}
 use Rattle.whole_runs.proofs.{whole.EarliestLine.all-present, whole.EarliestLine.named-kept, whole.Agreement.Agrees, whole.Agreement.live-is, whole.Accepted.accepted-report}
