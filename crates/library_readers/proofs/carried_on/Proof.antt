@@ -1,23 +1,11 @@
 -- `library_readers::carried_on` meets its contract. Assumes nothing.
-use Rattle.laws.specs.Basics.{_≡_, refl, sym, _∙_, ap, ℕ, zero, suc, _≤_, _<_, arith, needs}
+use Rattle.laws.specs.Basics.{refl, sym, _∙_, arith, needs}
 use Rattle.words.proofs.ViewSound.{sound-words}
-use Rattle.words.specs.declared.messages.Found.the-variants.{Nothing, At}
-use Rattle.words.specs.messages.Places.{placeOf, foundAt}
-use Rattle.in_place.proofs.Losing.{place-in}
+use Rattle.words.specs.messages.Places.{placeOf}
+use Rattle.in_place.proofs.Losing.{nothing, there, place-in}
 use Rattle.library_readers.proofs.{Readings.answer-is, Readings.nothing-reported, Carried.carried-short, Carried.carried-missing, Carried.carried-read}
 use Rattle.library_readers.proofs.carried_on.Statement.{statement}
 use Rattle.library_readers.proofs.carried_on.Tie as tie
-
--- Where no message was found, and where one was.
-none-found : (k : ℕ) → Nothing ≡ foundAt k → k ≡ 0
-unfolding foundAt
-none-found zero e = refl
-none-found (suc k) e = absurd (let z : _≡_ {A = ℕ} 0 1 = cc in omega arith)
-
-one-found : (k j : ℕ) → At j ≡ foundAt k → k ≡ suc j
-unfolding foundAt
-one-found zero j e = absurd (let z : _≡_ {A = ℕ} 0 1 = cc in omega arith)
-one-found (suc k) j e = ap suc (let z : j ≡ k = cc in sym z)
 
 returns : tie.Need-returns
 returns c =
@@ -30,13 +18,13 @@ place-of-requires c κs = let s = c .before .before .before .before in let h = s
 returns-2 : tie.Need-returns-2
 returns-2 c =
     let s = c .before .before .before .before .before .before .before .before in
-    let e = none-found (placeOf (s .args .w .now) (s .args .message)) (sym (c .before .enum-told .given .1) ∙ c .before .before .before .place-of .ensures) in
+    let e = nothing (placeOf (s .args .w .now) (s .args .message)) (sym (c .before .enum-told .given .1) ∙ c .before .before .before .place-of .ensures) in
     answer-is (carried-missing (s .args .w .now) (s .pre) (s .args .message) (s .args .vector .now) (omega (arith, c .before .before .before .before .before .count-in .ensures, c .before .before .before .before .if1 .left)) e) (c .refused2 .ensures) refl
 
 carried-at-requires : tie.Need-carried-at-requires
 carried-at-requires c κs =
     let s = c .before .before .before .before .before .before .before .before in
-    let e = one-found (placeOf (s .args .w .now) (s .args .message)) _ (sym (c .before .found .given .1) ∙ c .before .before .before .place-of .ensures) in
+    let e = there (placeOf (s .args .w .now) (s .args .message)) _ (sym (c .before .found .given .1) ∙ c .before .before .before .place-of .ensures) in
     omega (arith, place-in (s .args .w .now) (s .pre) (s .args .message) _ e, sound-words (s .args .w .now) (s .pre) .end)
 
 copy-words-requires : tie.Need-copy-words-requires
@@ -44,14 +32,14 @@ copy-words-requires c κs =
     let s = c .before .before .before .before .before .before .before .before .before .before in
     let h = sound-words (s .args .w .now) (s .pre) in
     let n = c .before .before .before .before .before .before .before .count-in .ensures in
-    let e = one-found (placeOf (s .args .w .now) (s .args .message)) _ (sym (c .before .before .before .found .given .1) ∙ c .before .before .before .before .before .place-of .ensures) in
+    let e = there (placeOf (s .args .w .now) (s .args .message)) _ (sym (c .before .before .before .found .given .1) ∙ c .before .before .before .before .before .place-of .ensures) in
     (omega (arith, n, h .size, h .few, h .end, c .before .carried-at .ensures, place-in (s .args .w .now) (s .pre) (s .args .message) _ e), omega (arith, n, c .before .before .before .before .before .before .if1 .left))
 
 returns-3 : tie.Need-returns-3
 returns-3 c =
     let s = c .before .before .before .before .before .before .before .before .before .before .before .before .before in
     let n = c .before .before .before .before .before .before .before .before .before .before .count-in .ensures in
-    let e = one-found (placeOf (s .args .w .now) (s .args .message)) _ (sym (c .before .before .before .before .before .before .found .given .1) ∙ c .before .before .before .before .before .before .before .before .place-of .ensures) in
+    let e = there (placeOf (s .args .w .now) (s .args .message)) _ (sym (c .before .before .before .before .before .before .found .given .1) ∙ c .before .before .before .before .before .before .before .before .place-of .ensures) in
     answer-is (carried-read (s .args .w .now) (s .pre) (s .args .message) (s .args .vector .now) (omega (arith, n, c .before .before .before .before .before .before .before .before .before .if1 .left)) _ e) nothing-reported
     (rw (n, c .before .before .before .before .carried-at .ensures) at (c .before .before .copy-words .ensures))
 
