@@ -5,20 +5,17 @@ use native.Mathlib.Numerals.{add-one}
 use Rattle.laws.specs.Written.{sets-after}
 use Rattle.model.specs.Trace.{bytesOf}
 use Rattle.theory_merges.specs.{Halves.HalfEvent, Merge.plainBytes}
+use Rattle.theory_merges.proofs.Replaying.{four-bytes}
 use Rattle.library_halves.specs.Log.{wordIn, Logged, bytesUpTo}
 
 pub bytes-none : (out log : List ℕ) → out ≡ sets out 1 (bytesUpTo 0 log)
 unfolding bytesUpTo
 bytes-none out log = refl
 
-four : (w : ℕ) → length (bytesOf w) ≡ 4
-unfolding bytesOf
-four w = refl
-
 pub bytes-length : (k : ℕ) (log : List ℕ) → length (bytesUpTo k log) ≡ 4 * k
 unfolding bytesUpTo
 bytes-length zero log = refl
-bytes-length (suc k) log = length-append (bytesUpTo k log) (bytesOf (getD log k 0)) ∙ omega (arith, bytes-length k log, four (getD log k 0))
+bytes-length (suc k) log = length-append (bytesUpTo k log) (bytesOf (getD log k 0)) ∙ omega (arith, bytes-length k log, four-bytes (getD log k 0))
 
 pub bytes-next : (out₀ out log : List ℕ) (i : ℕ) → out ≡ sets out₀ 1 (bytesUpTo i log) → sets out (1 + 4 * i) (bytesOf (getD log i 0)) ≡ sets out₀ 1 (bytesUpTo (i + 1) log)
 unfolding bytesUpTo
