@@ -8,6 +8,7 @@ use Rattle.model.specs.Sound.{sound}
 use Rattle.words.specs.Layout.{word, countOf, endOf, keptCountAt, receiverAt, messageIn, isMessage, messagesIn, runOf}
 use Rattle.words.proofs.{View.process-is, View.kept-count, ViewSound.sound-words}
 use Rattle.theory_recording.specs.spacing.Spacing.{headOf, oldestTo, greatestBelow, mostKept}
+use Rattle.theory_recording.proofs.spacing.Agreement.{greatest-same}
 
 not-none : {A P : Type 0} (x : A) → _≡_ {A = Option A} none (some x) → P
 not-none x e = absurd (let z : _≡_ {A = ℕ} 0 1 = cc in omega arith)
@@ -57,11 +58,6 @@ module _ (w : List ℕ) (h : sound (runOf w) ≡ true) (p : ℕ) where
   oldest-at k lt before here = oldest-in ∙ first-passes (isTo p) (messageIn w) (endOf w) k lt before here
 
 -- The most kept.
-greatest-same : (n : ℕ) (f g : ℕ → ℕ) → ((p : ℕ) → p < n → f p ≡ g p) → greatestBelow n f ≡ greatestBelow n g
-unfolding greatestBelow
-greatest-same zero f g h = refl
-greatest-same (suc n) f g h = rw (greatest-same n f g (λ p lt. h p (omega arith)), h n (omega arith))
-
 pub greatest-more : (f : ℕ → ℕ) (p most next : ℕ) → most ≡ greatestBelow p f → next ≡ max most (f p) → next ≡ greatestBelow (p + 1) f
 unfolding greatestBelow
 greatest-more f p most next e n = n ∙ ap (λ (m : ℕ). max m (f p)) e ∙ ap (λ (q : ℕ). greatestBelow q f) (sym (add-one p))
