@@ -1,7 +1,7 @@
 -- Demand 3, proved: right over whole runs. And what later work cites of states that calls from a start reach.
 -- Assumes nothing.
-use Rattle.laws.specs.Basics.{_≡_, refl, sym, _∙_, ap, subst, Bool, true, not, _&&_, List, [], _∷_, _++_, Option, none, some, ℕ, _^_, _<_, arith, eqb, leb, getD, eq-eqb, eqb-true, by-eq}
-use Rattle.laws.specs.{Counting.count-mono, Elements.same-test, Options.some-same, Ranges.any-same, Sums.sum-same}
+use Rattle.laws.specs.Basics.{_≡_, refl, sym, _∙_, ap, subst, Bool, true, not, _&&_, List, [], _∷_, _++_, none, some, ℕ, _^_, _<_, arith, eqb, leb, getD, eq-eqb, eqb-true, by-eq}
+use Rattle.laws.specs.{Counting.count-mono, Elements.same-test, Options.some-same, Options.none≢some, Ranges.any-same, Sums.sum-same}
 use Rattle.model.specs.declared.{Named.Named, Run.Run, StartAnswer.the-variants.Started}
 use Rattle.model.specs.declared.Refusal.the-variants.{CountOutsideRange, BlockCountOutsideRange}
 use Rattle.model.specs.{Words.mostProcesses, Words.blank, Steps.started, Steps.opening, Steps.withProcesses, Steps.startState, Sound.isBlockCount, Sound.sound}
@@ -32,7 +32,7 @@ begin-keeps : (n p k : ℕ) → p < n → keeps (begin n) p k ≡ eqb k 0
 begin-keeps n p k hp = same-test (keeps (begin n) p k) (eqb k 0)
     (λ e. let w = keeps-out (begin n) p k e in by-eq p (w .0)
     (λ c. eq-eqb k 0 (some-same (sym (w .2) ∙ rw (← c) (begin-pin-own n p))))
-    (λ ne. absurd (nothing-named k (sym (begin-pin-other n p (w .0) ne) ∙ w .2))))
+    (λ ne. absurd (none≢some (sym (begin-pin-other n p (w .0) ne) ∙ w .2))))
     (λ e. keeps-in (begin n) p p k (rw (begin-n n) hp) (begin-pin-own n p ∙ ap some (sym (eqb-true k 0 e))))
 
 begun-keeps : (n : ℕ) (blockCounts : List ℕ) (p k : ℕ) → p < n → eqb k 0 ≡ keeps (begun n blockCounts) p k

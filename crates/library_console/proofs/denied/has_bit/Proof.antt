@@ -4,4 +4,4 @@ use Rattle.library_console.proofs.denied.has_bit.Statement.{statement}
 use Rattle.library_console.proofs.denied.has_bit.Tie as tie
 
 pub has-bit-spec : {M : Type 1} → statement M
-has-bit-spec = tie.close (tie.spec (λ c κs. search needs) (λ c. search needs) (λ c. ap (λ (x : ℕ). eqb (x % 2) 1) (c .above .ensures)))
+has-bit-spec = tie.close (tie.spec (λ c κs. search needs) (λ c. ap (λ (x : ℕ). eqb (x % 2) 1) (c .above .ensures)))
