@@ -1,8 +1,8 @@
 // The calls by value: each fills words from the state, makes the call in place, and reads the state back; a refused one returns the state that it was handed. A state that
 // is not sound is refused with number 2; one that does not fit its words is not sound.
 //
-// A state is 15,032 bytes, and copies of it cost more than the call. So each call has one variable for it, which is handed to `fill` and returned whatever the answer is: a
-// copy in and a copy out are left. Where there are more processes or messages than places, no words are cleared.
+// A state is 15,032 bytes, and copies of it cost more than the call. So each call has one variable for it, which is handed to `fill` and returned whatever the answer is:
+// three copies are left, the one in, the one for `fill` and the one out. Where there are more processes or messages than places, no words are cleared.
 
 // judged.rt: whether a state is sound
 pub mod judged;
