@@ -6,7 +6,7 @@ ghost use Rattle.admissions.specs.Admissions.{past_most, send_admission_of, reco
 
 use model::{Interval, LAST_INTERVAL, LAST_MESSAGE, MESSAGES, MOST_BLOCKS, Refusal};
 
-#[derive(Drop)]
+#[derive(Clone, Copy)]
 pub enum Admission {
     Accepted,
     Refused(Refusal),

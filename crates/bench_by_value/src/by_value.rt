@@ -12,7 +12,7 @@ use trace::Decoded;
 const LARGEST_SET: u32 = 65535;
 
 // The state after it, and whether it was accepted.
-#[derive(Drop)]
+#[derive(Clone, Copy)]
 pub struct Applied {
     pub run: Run,
     pub accepted: bool,

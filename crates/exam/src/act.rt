@@ -7,7 +7,7 @@ ghost use Rattle.whole_runs.specs.Outcomes.{start_outcome, checkpoint_outcome, s
 use model::{DELETIONS, Disk, PROCESSES, Run};
 
 // The state after a call, and the number of its answer.
-#[derive(Drop)]
+#[derive(Clone, Copy)]
 pub struct After {
     pub run: Run,
     pub refused: u8,

@@ -63,7 +63,7 @@ fn pins(all: Pins, p: usize, n: usize)
 }
 
 // What a line tells of each kept checkpoint.
-#[derive(Drop)]
+#[derive(Clone, Copy)]
 pub enum Column {
     Index,
     Cause,

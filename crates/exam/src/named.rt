@@ -6,7 +6,7 @@ use crate::{act, facts, limits, say};
 use model::{CheckpointIndex, DELETIONS, Named, PROCESSES};
 
 // A list of named checkpoints at the front of an array, and its length.
-#[derive(Drop)]
+#[derive(Clone, Copy)]
 pub struct NamedList {
     pub named: [Named; PROCESSES],
     pub length: usize,

@@ -25,7 +25,7 @@ past_received {g = g} m s = let q : g ≡ weight (received m) + g = omega arith 
 -- What stands in a list is an element of it.
 pub stands_member : {e : HistoryEvent} {g : ℕ} (l : List HistoryEvent) → Stands e g l → Memᴰ e l
 stands_member [] s = absurd (stands_nil s)
-stands_member (x ∷ l) s = elim (stands_cons s) [ inl w ↦ Memᴰ.head w.0 | inr w ↦ Memᴰ.tail (stands_member l w.1) ]
+stands_member {e = e} {g = g} (x ∷ l) s = elim (stands_cons s) [ inl w ↦ Memᴰ.head w.0 | inr w ↦ Memᴰ.tail (stands_member {g = w.0} l w.1) ]
 
 -- An element of a list stands in some interval.
 pub member_stands : {e : HistoryEvent} (l : List HistoryEvent) → Memᴰ e l → (g : ℕ) × Stands e g l
@@ -43,9 +43,9 @@ up_to_out zero (stored ∷ l) s = elim (stands_cons s) [
   | inl w ↦ (first w.0 w.1, omega (arith, w.1))
   | inr w ↦ absurd (stands_nil w.1)
 ]
-up_to_out (suc k) (stored ∷ l) s = elim (stands_cons s) [
+up_to_out {e = e} {g = g} (suc k) (stored ∷ l) s = elim (stands_cons s) [
   | inl w ↦ (first w.0 w.1, omega (arith, w.1))
-  | inr w ↦ (let z = up_to_out k l w.1 in (later z.0 w.2, omega (arith, z.1, w.2)))
+  | inr w ↦ (let z = up_to_out {g = w.0} k l w.1 in (later z.0 w.2, omega (arith, z.1, w.2)))
 ]
 up_to_out k (sent m ∷ l) s = elim (stands_cons s) [
   | inl w ↦ (first w.0 w.1, omega (arith, w.1))
@@ -64,9 +64,9 @@ up_to_in zero (stored ∷ l) s le = elim (stands_cons s) [
   | inl w ↦ first w.0 w.1
   | inr w ↦ absurd (omega (arith, w.2))
 ]
-up_to_in (suc k) (stored ∷ l) s le = elim (stands_cons s) [
+up_to_in {e = e} {g = g} (suc k) (stored ∷ l) s le = elim (stands_cons s) [
   | inl w ↦ first w.0 w.1
-  | inr w ↦ later (up_to_in k l w.1 (omega (arith, w.2))) w.2
+  | inr w ↦ later (up_to_in {g = w.0} k l w.1 (omega (arith, w.2))) w.2
 ]
 up_to_in k (sent m ∷ l) s le = elim (stands_cons s) [
   | inl w ↦ first w.0 w.1
@@ -103,9 +103,9 @@ after_state_in zero (stored ∷ l) s lt = elim (stands_cons s) [
   | inl w ↦ absurd (omega (arith, w.1))
   | inr w ↦ stands_member l w.1
 ]
-after_state_in (suc k) (stored ∷ l) s lt = elim (stands_cons s) [
+after_state_in {e = e} {g = g} (suc k) (stored ∷ l) s lt = elim (stands_cons s) [
   | inl w ↦ absurd (omega (arith, w.1))
-  | inr w ↦ after_state_in k l w.1 (omega (arith, w.2))
+  | inr w ↦ after_state_in {g = w.0} k l w.1 (omega (arith, w.2))
 ]
 after_state_in k (sent m ∷ l) s lt = elim (stands_cons s) [
   | inl w ↦ absurd (omega (arith, w.1))

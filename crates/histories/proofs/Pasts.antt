@@ -43,9 +43,9 @@ past_in {m} zero (stored ∷ l) s le = elim (stands_cons s) [
   | inl w ↦ absurd (received_stored m w.0)
   | inr w ↦ absurd (omega (arith, w.2))
 ]
-past_in {m} (suc k) (stored ∷ l) s le = elim (stands_cons s) [
+past_in {m = m} {g = g} (suc k) (stored ∷ l) s le = elim (stands_cons s) [
   | inl w ↦ absurd (received_stored m w.0)
-  | inr w ↦ Memᴰ.tail (past_in k l w.1 (omega (arith, w.2)))
+  | inr w ↦ Memᴰ.tail (past_in {g = w.0} k l w.1 (omega (arith, w.2)))
 ]
 past_in k (sent j ∷ l) s le = elim (stands_cons s) [
   | inl w ↦ Memᴰ.head w.0

@@ -34,9 +34,9 @@ stands_nil s = elim s [ ]
 -- An event's interval is at most the live one.
 pub stands_le : {e : HistoryEvent} {g : ℕ} (l : List HistoryEvent) → Stands e g l → g ≤ checkpoints l
 stands_le [] s = absurd (stands_nil s)
-stands_le (x ∷ l) s = elim (stands_cons s) [
+stands_le {e = e} {g = g} (x ∷ l) s = elim (stands_cons s) [
   | inl w ↦ omega (arith, w.1)
-  | inr w ↦ omega (arith, w.2, stands_le l w.1, checkpoints_cons x l)
+  | inr w ↦ omega (arith, w.2, stands_le {g = w.0} l w.1, checkpoints_cons x l)
 ]
 
 -- One more event at the end: the checkpoints.
@@ -65,9 +65,9 @@ checkpoints_received l m = omega (arith, checkpoints_end l (received m))
 -- One more event at the end: what stood in the list stands there still.
 pub stands_still : {e : HistoryEvent} {g : ℕ} (l : List HistoryEvent) (x : HistoryEvent) → Stands e g l → Stands e g (l ++ (x ∷ []))
 stands_still [] x s = absurd (stands_nil s)
-stands_still (y ∷ l) x s = elim (stands_cons s) [
+stands_still {e = e} {g = g} (y ∷ l) x s = elim (stands_cons s) [
   | inl w ↦ first w.0 w.1
-  | inr w ↦ later (stands_still l x w.1) w.2
+  | inr w ↦ later (stands_still {g = w.0} l x w.1) w.2
 ]
 
 -- One more event at the end: it stands in the live interval.
@@ -80,9 +80,9 @@ stands_end (y ∷ l) q = later (stands_end l refl) (q ∙ checkpoints_cons y l)
 pub stands_cases : {e : HistoryEvent} {g : ℕ} (l : List HistoryEvent) (x : HistoryEvent) → Stands e g (l ++ (x ∷ [])) → ((e ≡ x) × (g ≡ checkpoints l)) ⊎ Stands e g l
 unfolding checkpoints
 stands_cases [] x s = elim (stands_cons s) [ inl w ↦ inl w | inr w ↦ absurd (stands_nil w.1) ]
-stands_cases (y ∷ l) x s = elim (stands_cons s) [
+stands_cases {e = e} {g = g} (y ∷ l) x s = elim (stands_cons s) [
   | inl w ↦ inr (first w.0 w.1)
-  | inr w ↦ elim (stands_cases l x w.1) [
+  | inr w ↦ elim (stands_cases {g = w.0} l x w.1) [
     | inl z ↦ inl (z.0, omega (arith, w.2, z.1, checkpoints_cons y l))
     | inr z ↦ inr (later z w.2)
   ]

@@ -62,22 +62,22 @@ times_head e x l q = rw (← q) (rw (same_self e))
 -- What stands in a list stands there at least once.
 pub stands_times : {e : HistoryEvent} {g : ℕ} (l : List HistoryEvent) → Stands e g l → 1 ≤ times e l
 stands_times [] s = absurd (stands_nil s)
-stands_times {e} (x ∷ l) s = elim (stands_cons s) [
+stands_times {e = e} {g = g} (x ∷ l) s = elim (stands_cons s) [
   | inl w ↦ omega (arith, times_head e x l w.0)
-  | inr w ↦ omega (arith, times_tail e x l, stands_times l w.1)
+  | inr w ↦ omega (arith, times_tail e x l, stands_times {g = w.0} l w.1)
 ]
 
 -- What stands in a list at most once stands there in one interval.
 pub one_place : {e : HistoryEvent} {g h : ℕ} (l : List HistoryEvent) → times e l ≤ 1 → Stands e g l → Stands e h l → g ≡ h
 one_place [] few s t = absurd (stands_nil s)
-one_place {e} (x ∷ l) few s t = elim (stands_cons s) [
+one_place {e = e} {g = g} {h = h} (x ∷ l) few s t = elim (stands_cons s) [
   | inl w ↦ elim (stands_cons t) [
     | inl z ↦ w.1 ∙ sym z.1
     | inr z ↦ absurd (omega (arith, few, times_head e x l w.0, stands_times l z.1))
   ]
   | inr w ↦ elim (stands_cons t) [
     | inl z ↦ absurd (omega (arith, few, times_head e x l z.0, stands_times l w.1))
-    | inr z ↦ omega (arith, w.2, z.2, one_place l (omega (arith, few, times_tail e x l)) w.1 z.1)
+    | inr z ↦ omega (arith, w.2, z.2, one_place {g = w.0} l (omega (arith, few, times_tail e x l)) w.1 z.1)
   ]
 ]
 

@@ -14,7 +14,7 @@ use words::messages::Found;
 use words::places;
 
 // What a deliver call answers. `rose` is the set of the receiver's entries that rose, bit f for entry f; 0 with a refusal.
-#[derive(Drop)]
+#[derive(Clone, Copy)]
 pub struct Delivered {
     pub answer: DeliverAnswer,
     pub rose: u16,

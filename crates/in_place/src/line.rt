@@ -23,7 +23,7 @@ pub fn write_line(line: &mut [u16], indexes: [CheckpointIndex; PROCESSES], n: us
 }
 
 // Whether the line rule accepts a state of each process, and if so the indexes of these states.
-#[derive(Drop)]
+#[derive(Clone, Copy)]
 pub struct Members {
     pub all: bool,
     pub indexes: [CheckpointIndex; PROCESSES],

@@ -7,7 +7,7 @@ use crate::run_words::{fill, read};
 use model::{CheckpointAnswer, Refusal, Run};
 use words::WORDS;
 
-#[derive(Drop)]
+#[derive(Clone, Copy)]
 pub struct CheckpointOutcome {
     pub run: Run,
     pub answer: CheckpointAnswer,

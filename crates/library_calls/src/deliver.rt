@@ -8,7 +8,7 @@ use model::{DeliverAnswer, Refusal, Run};
 use words::WORDS;
 
 // What a deliver call returns besides the lent list. `rose` is the set of the receiver's entries that rose, bit f for entry f; 0 with a refusal.
-#[derive(Drop)]
+#[derive(Clone, Copy)]
 pub struct DeliverOutcome {
     pub run: Run,
     pub answer: DeliverAnswer,

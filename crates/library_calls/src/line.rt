@@ -6,7 +6,7 @@ use crate::run_words::fill;
 use model::{LineAnswer, Refusal, Run};
 use words::WORDS;
 
-#[derive(Drop)]
+#[derive(Clone, Copy)]
 pub struct LineOutcome {
     pub run: Run,
     pub answer: LineAnswer,

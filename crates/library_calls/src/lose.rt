@@ -7,7 +7,7 @@ use crate::run_words::{fill, read};
 use model::{LoseAnswer, Refusal, Run};
 use words::WORDS;
 
-#[derive(Drop)]
+#[derive(Clone, Copy)]
 pub struct LoseOutcome {
     pub run: Run,
     pub answer: LoseAnswer,

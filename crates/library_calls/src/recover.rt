@@ -7,7 +7,7 @@ use crate::run_words::{fill, read};
 use model::{RecoverAnswer, Refusal, Run};
 use words::WORDS;
 
-#[derive(Drop)]
+#[derive(Clone, Copy)]
 pub struct RecoverOutcome {
     pub run: Run,
     pub answer: RecoverAnswer,

@@ -7,7 +7,7 @@ use crate::run_words::{fill, read};
 use model::{Refusal, Run, SendAnswer};
 use words::WORDS;
 
-#[derive(Drop)]
+#[derive(Clone, Copy)]
 pub struct SendOutcome {
     pub run: Run,
     pub answer: SendAnswer,

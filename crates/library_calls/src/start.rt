@@ -5,7 +5,7 @@ ghost use Rattle.whole_runs.specs.{Outcomes.start_outcome, WholeRuns.StartPromis
 use model::{PROCESSES, Run, StartAnswer};
 use words::WORDS;
 
-#[derive(Drop)]
+#[derive(Clone, Copy)]
 pub struct StartOutcome {
     pub run: Run,
     pub answer: StartAnswer,

@@ -9,7 +9,7 @@ use model::{LineAnswer, Named, PROCESSES, Refusal, Run};
 use words::WORDS;
 use words_line::earliest::list::Copied;
 
-#[derive(Drop)]
+#[derive(Clone, Copy)]
 pub struct EarliestOutcome {
     pub run: Run,
     pub answer: LineAnswer,

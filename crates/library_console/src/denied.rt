@@ -12,7 +12,7 @@ use theory_roles::{Operation, Role};
 use words::{WORDS, places};
 
 // The role that a caller claims by its number.
-#[derive(Drop)]
+#[derive(Clone, Copy)]
 pub enum Claim {
     Unknown,
     As(Role),

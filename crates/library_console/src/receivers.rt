@@ -9,14 +9,14 @@ use model::MESSAGES;
 use words::places;
 
 // The receiver of a message, and whether there is such a message.
-#[derive(Drop)]
+#[derive(Clone, Copy)]
 pub struct Receiver {
     pub found: bool,
     pub process: usize,
 }
 
 // What a search of the first places brought: how many of them are used, and the receiver.
-#[derive(Drop)]
+#[derive(Clone, Copy)]
 struct Searched {
     used: usize,
     found: bool,

@@ -7,7 +7,7 @@ ghost use Rattle.library_halves.specs.Log.{tallied, tally_of, bytes_up_to};
 
 // Of the records of a log: how many sends there are of one process and in all, and the message number and the receiver of its send `count`; 0 if there
 // is none.
-#[derive(Drop)]
+#[derive(Clone, Copy)]
 pub struct Tally {
     pub own: u32,
     pub all: u32,

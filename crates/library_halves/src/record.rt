@@ -11,7 +11,7 @@ use model::Refusal;
 pub const COUNTS: u32 = 2097152;
 
 // Why a record is refused, or its word in the merged trace.
-#[derive(Drop)]
+#[derive(Clone, Copy)]
 pub enum Judged {
     Refused(Refusal),
     Taken(u32),

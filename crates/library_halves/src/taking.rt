@@ -11,7 +11,7 @@ use model::Refusal;
 use record::{COUNTS, Judged};
 
 // Why the merge stops, or the half that the next record came from and its word in the merged trace.
-#[derive(Drop)]
+#[derive(Clone, Copy)]
 pub enum Step {
     Stopped(Refusal),
     First(u32),

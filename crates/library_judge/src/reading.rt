@@ -14,7 +14,7 @@ use model::{Event, PROCESSES, Refusal};
 use trace::Decoded;
 
 // How far the reading is.
-#[derive(Drop)]
+#[derive(Clone, Copy)]
 pub struct Progress {
     // how many rows are used
     pub rows: usize,
@@ -27,14 +27,14 @@ pub struct Progress {
 }
 
 // What a record comes to: whether it is refused, and why; and how far the reading is then.
-#[derive(Drop)]
+#[derive(Clone, Copy)]
 pub struct Step {
     pub answer: Admission,
     pub next: Progress,
 }
 
 // A message that a record names: whether it is under way, and if so its place and its receiver.
-#[derive(Drop)]
+#[derive(Clone, Copy)]
 pub struct Found {
     pub found: bool,
     pub place: usize,

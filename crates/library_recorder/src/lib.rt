@@ -23,44 +23,44 @@ mod without_room;
 mod record;
 
 // What each call returns: its answer as without the recorder, and the place after what was written.
-#[derive(Drop)]
+#[derive(Clone, Copy)]
 pub struct StartRecorded {
     pub answer: StartAnswer,
     pub place: usize,
 }
 
-#[derive(Drop)]
+#[derive(Clone, Copy)]
 pub struct CheckpointRecorded {
     pub answer: CheckpointAnswer,
     pub place: usize,
 }
 
-#[derive(Drop)]
+#[derive(Clone, Copy)]
 pub struct SendRecorded {
     pub answer: SendAnswer,
     pub place: usize,
 }
 
-#[derive(Drop)]
+#[derive(Clone, Copy)]
 pub struct DeliverRecorded {
     pub answer: DeliverAnswer,
     pub rose: u16,
     pub place: usize,
 }
 
-#[derive(Drop)]
+#[derive(Clone, Copy)]
 pub struct LoseRecorded {
     pub answer: LoseAnswer,
     pub place: usize,
 }
 
-#[derive(Drop)]
+#[derive(Clone, Copy)]
 pub struct LineRecorded {
     pub answer: LineAnswer,
     pub place: usize,
 }
 
-#[derive(Drop)]
+#[derive(Clone, Copy)]
 pub struct RecoverRecorded {
     pub answer: RecoverAnswer,
     pub place: usize,

@@ -12,7 +12,7 @@ use model::{DELETIONS, PROCESSES};
 use whole_runs::MOST_RECORDS;
 
 // How many records of a block were taken, how many bytes of lines were written, and whether the replay goes on after them.
-#[derive(Drop)]
+#[derive(Clone, Copy)]
 pub struct Progress {
     pub taken: usize,
     pub written: usize,

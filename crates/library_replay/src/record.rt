@@ -13,7 +13,7 @@ use model::{Event, Refusal};
 use trace::Decoded;
 
 // What a record comes to: what its line says, and whether the words then stand for a sound state.
-#[derive(Drop)]
+#[derive(Clone, Copy)]
 pub struct Applied {
     pub summary: Summary,
     pub sound: bool,

@@ -10,7 +10,7 @@ use Rattle.in_place.specs.Starting.{start_outcome_in, StartsTheSame}
 use Rattle.in_place.proofs.Judging.{starts_the_same}
 use Rattle.theory_recording.specs.{Replay.state_after_events, spacing.Trial.Trial}
 use Rattle.whole_runs.proofs.{WholeRuns.started_state, WholeRuns.reachable_sound, Traced.traced_reachable}
-use Rattle.theory_recording.proofs.{Replay.traced_events, spacing.Accepted.ones_start, spacing.Accepted.tried, spacing.Agreement.result_is}
+use Rattle.theory_recording.proofs.{Replay.traced_events, spacing.Accepted.ones_start, spacing.Accepted.tried, spacing.Agreement.result_is_lem}
 use Rattle.theory_recording.specs.spacing.Spacing.{draw, generated, drawn_process, drawn_number, action, is_due_of, step_events, most_kept_of, stepped, trial_start, trial_after, out_of_range, trial_refusal, figures, no_figures, simulated}
 use Rattle.theory_recording.proofs.spacing.Counts.{small_trial, trial_traced, going_count}
 use Rattle.library_trials.specs.declared.Action.{Action}

@@ -14,7 +14,7 @@ use words::{WORDS, places};
 
 // What a trial has between two steps besides its state, which the words stand for: the generator's last value, how many sends and deliveries of its own each process
 // has done, and the figures so far.
-#[derive(Drop)]
+#[derive(Clone, Copy)]
 struct Tally {
     value: u32,
     acted: [u32; PROCESSES],
@@ -24,7 +24,7 @@ struct Tally {
 }
 
 // How many sends and deliveries, deliveries and forced checkpoints the action of a step is, none or one each.
-#[derive(Drop)]
+#[derive(Clone, Copy)]
 struct Action {
     acted: u32,
     deliveries: u32,
@@ -32,7 +32,7 @@ struct Action {
 }
 
 // Whether a message was found, and its number.
-#[derive(Drop)]
+#[derive(Clone, Copy)]
 struct Found {
     found: bool,
     number: u32,

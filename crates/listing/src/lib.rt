@@ -17,14 +17,14 @@ pub mod answers;
 pub const LONGEST_LINE: usize = 3102;
 
 // The value of a line: a hyphen where there is none.
-#[derive(Drop)]
+#[derive(Clone, Copy)]
 pub enum Value {
     Hyphen,
     Number(u64),
 }
 
 // What a line says after its record number: 0 or the refusal number, the value, and the count of deletions.
-#[derive(Drop)]
+#[derive(Clone, Copy)]
 pub struct Summary {
     pub refused: u8,
     pub value: Value,

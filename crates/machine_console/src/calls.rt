@@ -15,7 +15,7 @@ use theory_roles::{ListAnswer, Operation, Role};
 use words::WORDS;
 
 // What a call answered: what its line says, and the set of the entries that rose.
-#[derive(Drop)]
+#[derive(Clone, Copy)]
 pub struct Replied {
     pub summary: Summary,
     pub rose: u16,

@@ -5,7 +5,7 @@ ghost use Rattle.machine_console.specs.Lent.{marks_of, most_done_of, in_bounds_o
 use machines::Request;
 
 // The phase; how many calls were made; how many bytes of `input` are kept, and how many of `out` are asked for.
-#[derive(Drop)]
+#[derive(Clone, Copy)]
 pub struct Marks {
     pub phase: u64,
     pub done: u64,

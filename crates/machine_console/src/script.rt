@@ -6,7 +6,7 @@ ghost use Rattle.machine_console.specs.script.Script.{role_of_def, operation_of_
 use theory_roles::{Caller, Operation, Role};
 
 // A call as a script asks for it.
-#[derive(Drop)]
+#[derive(Clone, Copy)]
 pub struct Call {
     pub caller: Caller,
     // the lent lists are one entry too short
@@ -21,7 +21,7 @@ pub struct Call {
 }
 
 // What the next bytes of a script are found to be: none, fewer than eight, eight that are no call, a call.
-#[derive(Drop)]
+#[derive(Clone, Copy)]
 pub enum Read {
     Ended,
     LeftOver,

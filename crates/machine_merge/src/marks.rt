@@ -9,7 +9,7 @@ use machines::programs::numbers::GREATEST;
 
 // The phase; 0 for the first half, every other number for the second; the set; how many bytes are held of the first half; how long the name of the file is; how many
 // bytes of it were read; how many are to be written or reported.
-#[derive(Drop)]
+#[derive(Clone, Copy)]
 pub struct Marks {
     pub phase: u64,
     pub half: u64,

@@ -9,7 +9,7 @@ ghost use Rattle.machine_record.specs.Played.{longest_line, block_lines, place_f
 use crate::{calls, text};
 
 // How many bytes of the buffer are left and how many records were taken; how many bytes were recorded, and how many are reported.
-#[derive(Drop)]
+#[derive(Clone, Copy)]
 pub struct Taken {
     pub left: u64,
     pub done: u64,

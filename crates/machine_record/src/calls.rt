@@ -9,7 +9,7 @@ use model::{DELETIONS, Event, PROCESSES};
 use trace::Decoded;
 
 // 0 or the number of the refusal, and the place after what was written.
-#[derive(Drop)]
+#[derive(Clone, Copy)]
 pub struct Played {
     pub refused: u8,
     pub place: usize,

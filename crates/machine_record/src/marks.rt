@@ -9,7 +9,7 @@ use whole_runs::MOST_RECORDS;
 
 // The phase; how many bytes of the buffer are left, and how many records were taken; how many bytes of `input` are kept, how many of `out` are asked for, and how many of
 // `lines` are still to be reported.
-#[derive(Drop)]
+#[derive(Clone, Copy)]
 pub struct Marks {
     pub phase: u64,
     pub left: u64,

@@ -141,7 +141,7 @@ fn with_more(p: Place, more: usize) -> Place
 }
 
 // What an answer comes to: records to take, or a place that stays.
-#[derive(Drop)]
+#[derive(Clone, Copy)]
 pub(crate) enum Ready {
     Take(Place),
     Stay(Place),

@@ -8,7 +8,7 @@ use words::WORDS;
 
 // Whether it goes on after a refusal; how many records were taken; where the bytes that belong to none of them begin in the buffer, and how many they are; how long the
 // text is that is written.
-#[derive(Drop)]
+#[derive(Clone, Copy)]
 pub struct Place {
     pub phase: u64,
     pub all: bool,

@@ -36,7 +36,7 @@ fn hyphen_in(word: &[u8]) -> usize
 }
 
 // What the second word asks for: one spacing, or many, all from one to another.
-#[derive(Drop)]
+#[derive(Clone, Copy)]
 pub struct Spacings {
     pub many: bool,
     pub from: u64,
@@ -44,7 +44,7 @@ pub struct Spacings {
 }
 
 // The numbers of the four words.
-#[derive(Drop)]
+#[derive(Clone, Copy)]
 pub struct Numbers {
     pub n: u64,
     pub spacings: Spacings,

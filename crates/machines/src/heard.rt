@@ -5,7 +5,7 @@ ghost use Rattle.machines.specs.Forms.{answer_of, taken_of, Between};
 
 use crate::Answer;
 
-#[derive(Drop)]
+#[derive(Clone, Copy)]
 pub enum Taken {
     Brought(usize),
     Ended,

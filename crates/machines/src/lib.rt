@@ -20,7 +20,7 @@ pub mod programs;
 ghost use Rattle.laws.specs.Basics.{◌≡◌, length};
 ghost use Rattle.machines.specs.Forms.{goes_on_of, Placed, standard_input, from, Obeys};
 
-#[derive(Drop)]
+#[derive(Clone, Copy)]
 pub enum Request {
     Count,
     // Word number, place and most bytes.
@@ -35,7 +35,7 @@ pub enum Request {
     Stop,
 }
 
-#[derive(Drop)]
+#[derive(Clone, Copy)]
 pub enum Answer {
     Number(usize),
     Bytes(usize),
@@ -45,11 +45,11 @@ pub enum Answer {
 }
 
 // Where bytes are read from: a descriptor of the system's.
-#[derive(Drop)]
+#[derive(Clone, Copy)]
 pub struct Source(i32);
 
 // What came of a request, and where bytes are read from then on.
-#[derive(Drop)]
+#[derive(Clone, Copy)]
 pub struct Obeyed {
     pub answer: Answer,
     pub source: Source,

@@ -26,22 +26,22 @@ pub const MOST_BLOCKS: u64 = 1000000000000000;
 pub const DELETIONS: usize = 2 * PROCESSES * PROCESSES;
 
 // An interval's number. "An interval number is never read as a checkpoint index": the two are types of their own.
-#[derive(Drop)]
+#[derive(Clone, Copy)]
 pub struct Interval(pub u16);
 
 // A checkpoint's number within its process.
-#[derive(Drop)]
+#[derive(Clone, Copy)]
 pub struct CheckpointIndex(pub u16);
 
 // A pin (document 01's word): it names one kept checkpoint of its process, or none.
-#[derive(Drop)]
+#[derive(Clone, Copy)]
 pub enum Pin {
     Nothing,
     At(CheckpointIndex),
 }
 
 // A stored checkpoint: its index, the dependency vector that it was stored with, its cause and its process's block count (Note 5).
-#[derive(Drop)]
+#[derive(Clone, Copy)]
 pub struct Checkpoint {
     pub index: CheckpointIndex,
     pub vector: [Interval; PROCESSES],
@@ -51,7 +51,7 @@ pub struct Checkpoint {
 }
 
 // A message under way (document 01's word for in transit: sent, and neither received nor lost) with the vector that it carries.
-#[derive(Drop)]
+#[derive(Clone, Copy)]
 pub struct Message {
     pub number: u32,
     pub sender: usize,
@@ -60,32 +60,32 @@ pub struct Message {
 }
 
 // "The vectors form a square of n rows of n entries, and so do the pins." Each square stands alone in a struct of its own.
-#[derive(Drop)]
+#[derive(Clone, Copy)]
 pub struct Vectors(pub [[Interval; PROCESSES]; PROCESSES]);
 
-#[derive(Drop)]
+#[derive(Clone, Copy)]
 pub struct Pins(pub [[Pin; PROCESSES]; PROCESSES]);
 
 // Row p: the checkpoints that process p keeps, ascending.
-#[derive(Drop)]
+#[derive(Clone, Copy)]
 pub struct Kept(pub [[Checkpoint; PROCESSES]; PROCESSES]);
 
 // A checkpoint as a caller names it: a process, and the index of a checkpoint that it keeps.
-#[derive(Drop)]
+#[derive(Clone, Copy)]
 pub struct Named {
     pub process: usize,
     pub index: CheckpointIndex,
 }
 
 // "The state also carries blocks written and blocks deleted." (Note 5)
-#[derive(Drop)]
+#[derive(Clone, Copy)]
 pub struct Disk {
     pub written: u64,
     pub deleted: u64,
 }
 
 // The state of a run. Unused places hold zero, unused pins nothing.
-#[derive(Drop)]
+#[derive(Clone, Copy)]
 pub struct Run {
     // how many processes
     pub count: usize,
@@ -108,7 +108,7 @@ pub struct Run {
 }
 
 // Why a call or a record is refused. specs/Refusals gives each its number, in this order. 6 is free since Note 4; 15 and above are document 02's.
-#[derive(Drop)]
+#[derive(Clone, Copy)]
 pub enum Refusal {
     CountOutsideRange,
     UnsoundState,
@@ -136,63 +136,63 @@ pub enum Refusal {
     Denied,
 }
 
-#[derive(Drop)]
+#[derive(Clone, Copy)]
 pub enum StartAnswer {
     Refused(Refusal),
     Started,
 }
 
 // Stored: the checkpoint's index, and how many were deleted.
-#[derive(Drop)]
+#[derive(Clone, Copy)]
 pub enum CheckpointAnswer {
     Refused(Refusal),
     Stored(CheckpointIndex, usize),
 }
 
 // Sent: the message's number.
-#[derive(Drop)]
+#[derive(Clone, Copy)]
 pub enum SendAnswer {
     Refused(Refusal),
     Sent(u32),
 }
 
 // Received: how many checkpoints were deleted. Forced: the same after the index of the forced checkpoint.
-#[derive(Drop)]
+#[derive(Clone, Copy)]
 pub enum DeliverAnswer {
     Refused(Refusal),
     Received(usize),
     Forced(CheckpointIndex, usize),
 }
 
-#[derive(Drop)]
+#[derive(Clone, Copy)]
 pub enum LoseAnswer {
     Refused(Refusal),
     Lost,
 }
 
 // The answer of a call that writes a line and changes no state: the line for a failed set, and the earliest line through named checkpoints.
-#[derive(Drop)]
+#[derive(Clone, Copy)]
 pub enum LineAnswer {
     Refused(Refusal),
     Written,
 }
 
 // Recovered: how many processes rolled back, and how many checkpoints were deleted.
-#[derive(Drop)]
+#[derive(Clone, Copy)]
 pub enum RecoverAnswer {
     Refused(Refusal),
     Recovered(usize, usize),
 }
 
 // Merged: how many bytes the merged trace has.
-#[derive(Drop)]
+#[derive(Clone, Copy)]
 pub enum MergeAnswer {
     Refused(Refusal),
     Merged(usize),
 }
 
 // The three fields of a record of a trace: 3, 4 and 25 bits.
-#[derive(Drop)]
+#[derive(Clone, Copy)]
 pub struct Fields {
     pub kind: u32,
     pub process: usize,
@@ -200,7 +200,7 @@ pub struct Fields {
 }
 
 // What a record of a trace stands for. The argument is kept whole, all of its 25 bits.
-#[derive(Drop)]
+#[derive(Clone, Copy)]
 pub enum Event {
     Checkpoint(usize),
     Send(usize, u32),

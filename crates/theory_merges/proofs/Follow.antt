@@ -16,7 +16,7 @@ use Rattle.histories.proofs.Local.{local_of, took_at, sent_at, local_took, local
 use Rattle.histories.proofs.SubMessages.{SubMessages, Counterpart, With, Without, passes, lost_without, delivered_without, sending_with, messages_stay, checkpointed_messages_stay, messages_same, messages_gone, messages_left, messages_skipped, messages_added}
 use Rattle.histories.proofs.SubRun.{Cheaper, SubRun, known_of, StepAt, at_because, without_because, stay_because, part_because, forces_because, subrun_kept, subrun_left, subrun_messages, checkpointed_at, sending_at, delivered_at, got_same, forces_same, delivered_takes, delivered_rises, checkpointed_rises, sending_row, own_part, live_part}
 use Rattle.model.proofs.simulation.View.{vector_of, message_of, messages_of, state_of, Limits}
-use Rattle.model.proofs.{simulation.Accepted.send_out, simulation.Reads.last_is, simulation.Reads.underway_is, simulation.Deliver.deliver_forces}
+use Rattle.model.proofs.{simulation.Accepted.send_out, simulation.Reads.last_is_lem, simulation.Reads.underway_is, simulation.Deliver.deliver_forces}
 use Rattle.model.proofs.{simulation.Messages.found_is, simulation.SoundLimits.messages_count}
 use Rattle.model.proofs.simulation.SoundCalls.{checkpoint_run, send_run, deliver_run, lose_run}
 use Rattle.model.proofs.simulation.Admitted.{checkpoint_admitted, send_admitted, deliver_admitted, lose_admitted, deliver_early}

@@ -13,7 +13,7 @@ pub const MOST_SPACING: usize = 1000;
 
 pub const MOST_STEPS: usize = 30000;
 
-#[derive(Drop)]
+#[derive(Clone, Copy)]
 pub enum TrialAnswer {
     Refused(Refusal),
     Tried,
@@ -21,7 +21,7 @@ pub enum TrialAnswer {
 
 // The five figures: deliveries, forced checkpoints, the most kept at any process after any step, and 1,000 times the forced checkpoints divided by the
 // deliveries, as quotient and remainder.
-#[derive(Drop)]
+#[derive(Clone, Copy)]
 pub struct TrialResult {
     pub answer: TrialAnswer,
     pub deliveries: u32,

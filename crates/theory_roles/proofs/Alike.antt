@@ -13,7 +13,7 @@ use Rattle.model.proofs.simulation.View.{checkpoint_of, state_of, parts_of, proc
 use Rattle.model.proofs.{simulation.Lines.states_is, simulation.Lines.member_is, simulation.Passing.select_passing, simulation.Passing.last_passing}
 use Rattle.model.proofs.{simulation.Rows.standing, simulation.Parts.Room, simulation.Parts.room_all, simulation.Parts.room_blank, simulation.Parts.count_put}
 use Rattle.model.proofs.simulation.Parts.{process_put, process_other}
-use Rattle.model.proofs.{simulation.Reads.count_is, simulation.Sound.state_sound}
+use Rattle.model.proofs.{simulation.Reads.count_is_lem, simulation.Sound.state_sound}
 use Rattle.whole_runs.specs.WholeRuns.{Reachable}
 use Rattle.whole_runs.proofs.{WholeRuns.reachable_reached, whole.Refused.members_found}
 use Rattle.theory_roles.specs.{Console.owns, Runs.ConsoleCall, Runs.console_call, Runs.state_after_console, Runs.ConsoleReached, Runs.ConsoleIsReachable}

@@ -6,7 +6,7 @@ use Rattle.model.specs.declared.{Refusal.Refusal, Refusal.TheVariants.BlocksUsed
 use Rattle.model.specs.{Words.most_interval, Words.most_blocks, Words.block_count, Words.process, Words.own, Words.in_set, Sound.is_block_count_of}
 use Rattle.model.specs.{Refusals.number, Refusals.first_of, Refusals.start_refusal, Refusals.checkpoint_refusal, laws.Refusals.refusal_in}
 use Rattle.histories.proofs.{Run.Ideal, Run.begin, Run.open_ledger, Run.begun, Begin.begin_own, Begin.begin_mark, Begin.begin_transit, Invariant.Inv}
-use Rattle.model.proofs.{simulation.View.state_of, simulation.View.Limits, simulation.Reads.count_is, simulation.Reads.own_is, simulation.Sound.state_sound}
+use Rattle.model.proofs.{simulation.View.state_of, simulation.View.Limits, simulation.Reads.count_is_lem, simulation.Reads.own_is, simulation.Sound.state_sound}
 use Rattle.model.proofs.{simulation.Admitted.checkpoint_admitted, simulation.SoundCalls.written_is, simulation.SoundCalls.count_is_of}
 use Rattle.whole_runs.specs.{Outcomes.checkpoint_report, Outcomes.checkpoint_outcome, Outcomes.start_outcome, Calls.checkpoint, Calls.Reply, Calls.answered}
 use Rattle.whole_runs.specs.Survival.{beginning}

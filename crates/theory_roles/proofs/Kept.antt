@@ -8,7 +8,7 @@ use Rattle.model.specs.{Words.most_processes, Words.process, Steps.Deletion, Ste
 use Rattle.whole_runs.specs.{Outcomes.pairs, Survival.Surviving, Answers.live_of}
 use Rattle.histories.proofs.{Run.Ideal, Run.keeps, Invariant.Inv}
 use Rattle.model.proofs.simulation.View.{kept_of, process_of, state_of}
-use Rattle.model.proofs.{simulation.Reads.count_is, simulation.Reads.process_is, simulation.Kept.kept_length, simulation.Kept.kept_most}
+use Rattle.model.proofs.{simulation.Reads.count_is_lem, simulation.Reads.process_is, simulation.Kept.kept_length, simulation.Kept.kept_most}
 use Rattle.whole_runs.proofs.{whole.Pairs.length_listed, whole.Pairs.length_pairs, whole.Handed.gather_length, whole.Agreement.Agrees, whole.Agreement.live_is, whole.Reached.Reached, WholeRuns.reached_sound}
 use Rattle.whole_runs.proofs.whole.Gone.{pairs_gather, pair_if, listed_pairs}
 use Rattle.theory_roles.specs.declared.{Caller.Caller, Operation.TheVariants.List as Listing, Operation.TheVariants.Counts}

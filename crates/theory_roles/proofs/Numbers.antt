@@ -7,7 +7,7 @@ use Rattle.model.specs.{Words.ones, Words.most_under_way, Words.most_messages, W
 use Rattle.model.specs.Refusals.{number, first_of, start_refusal, send_refusal}
 use Rattle.histories.proofs.{Run.Ideal, Run.begin, Run.begun, Run.sending, Run.lost, Begin.begin_transit, Invariant.Inv}
 use Rattle.model.proofs.{simulation.View.messages_of, simulation.View.state_of, simulation.View.Limits, simulation.Passing.passing_none}
-use Rattle.model.proofs.{simulation.Reads.count_is, simulation.Reads.last_is, simulation.Reads.underway_is, simulation.Sound.state_sound}
+use Rattle.model.proofs.{simulation.Reads.count_is_lem, simulation.Reads.last_is_lem, simulation.Reads.underway_is, simulation.Sound.state_sound}
 use Rattle.model.proofs.simulation.Admitted.{send_admitted, lose_admitted}
 use Rattle.whole_runs.specs.{Outcomes.send_report, Outcomes.send_outcome, Outcomes.start_outcome, Calls.send, Calls.lose, Calls.call, Calls.Reply, Calls.answered}
 use Rattle.whole_runs.specs.Survival.{beginning}

@@ -5,14 +5,14 @@ ghost use Rattle.theory_roles.specs.Console.{may, role_place, operation_place};
 
 use model::Refusal;
 
-#[derive(Drop)]
+#[derive(Clone, Copy)]
 pub enum Role {
     Operator,
     JobOwner,
     Viewer,
 }
 
-#[derive(Drop)]
+#[derive(Clone, Copy)]
 pub enum Operation {
     Start,
     Checkpoint,
@@ -27,14 +27,14 @@ pub enum Operation {
 }
 
 // The caller: its role, and the set of a job owner's processes, bit p of which stands for process p. Another role's set is not looked at.
-#[derive(Drop)]
+#[derive(Clone, Copy)]
 pub struct Caller {
     pub role: Role,
     pub owned: u16,
 }
 
 // Listed: how many checkpoints.
-#[derive(Drop)]
+#[derive(Clone, Copy)]
 pub enum ListAnswer {
     Refused(Refusal),
     Listed(usize),

@@ -17,14 +17,14 @@ pub const PROCESS_NAMES: u32 = PROCESSES as u32;
 pub const KIND: u32 = PROCESS_NAMES * ARGUMENTS;
 
 // What a part of a trace is found to be.
-#[derive(Drop)]
+#[derive(Clone, Copy)]
 pub enum Decoded {
     Malformed,
     StandsFor(Event),
 }
 
 // The record of an event. An event that does not fit the fields has none: the bytes are zeros then.
-#[derive(Drop)]
+#[derive(Clone, Copy)]
 pub struct Encoded {
     pub fits: bool,
     pub bytes: [u8; 4],

@@ -5,7 +5,7 @@ ghost use Rattle.laws.specs.Basics.{◌≡◌};
 ghost use Rattle.trace.specs.reader.Reading.{record_after_of, record_left_of, taken_after, new_reader, reader_after};
 
 // The whole trace, first byte included, and how many of its records were taken.
-#[derive(Drop)]
+#[derive(Clone, Copy)]
 pub struct Reader<'a> {
     pub trace: &'a [u8],
     pub taken: usize,

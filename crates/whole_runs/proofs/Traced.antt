@@ -12,7 +12,7 @@ use Rattle.whole_runs.specs.Survival.{Surviving, beginning, accepted, after, sur
 use Rattle.whole_runs.specs.Listing.{call_of, perform, most_records, state_after_records}
 use Rattle.whole_runs.specs.WholeRuns.{Reachable, Traced, TraceMeetsNoBound}
 use Rattle.histories.proofs.Run.{Ideal, begun, open_ledger}
-use Rattle.model.proofs.{simulation.View.checkpoint_of, simulation.View.process_of, simulation.Reads.count_is, simulation.Reads.process_is}
+use Rattle.model.proofs.{simulation.View.checkpoint_of, simulation.View.process_of, simulation.Reads.count_is_lem, simulation.Reads.process_is}
 use Rattle.model.proofs.{simulation.Kept.kept_every, simulation.Billing.stored_blocks, simulation.Accepted.start_out}
 use Rattle.whole_runs.proofs.{whole.Reached.Reached, whole.Runs.run_after, whole.Runs.counts_after}
 use Rattle.whole_runs.proofs.WholeRuns.{started_state, after_one, reachable_reached, reached_answer}

@@ -16,7 +16,7 @@ use Rattle.histories.proofs.{Run.Ideal, Run.begin, Run.open_ledger, Run.begun, R
 use Rattle.histories.proofs.{Begin.begin_inv, Begin.begin_n, Begin.begin_pin_own, Begin.begin_pin_other, Memory.Memory, Memory.begin_memory}
 use Rattle.histories.proofs.Rule.{keeps_in, keeps_out}
 use Rattle.model.proofs.{simulation.View.state_of, simulation.View.Limits, simulation.View.process_of, simulation.Parts.all_agree, simulation.Accepted.start_out}
-use Rattle.model.proofs.{simulation.Reads.count_is, simulation.Reads.process_is, simulation.Start.start_kept_in, simulation.Start.start_is}
+use Rattle.model.proofs.{simulation.Reads.count_is_lem, simulation.Reads.process_is, simulation.Start.start_kept_in, simulation.Start.start_is}
 use Rattle.model.proofs.{simulation.Kept.few_kept, simulation.Kept.pins_name, simulation.Kept.kept_holds, simulation.Lines.line_is}
 use Rattle.model.proofs.{simulation.Sound.state_sound, simulation.SoundLimits.limits_begin}
 use Rattle.whole_runs.proofs.{whole.Agreement.Agrees, whole.Accepted.Step, whole.Accepted.step_reached, whole.Answers.answer_right}

@@ -9,7 +9,7 @@ use crate::places;
 use model::{MESSAGES, Message};
 
 // The place of a message that is under way.
-#[derive(Drop)]
+#[derive(Clone, Copy)]
 pub enum Found {
     Nothing,
     At(usize),

@@ -95,7 +95,7 @@ fn find_start(w: &[u16], p: usize, index: u32) -> usize
 }
 
 // Where the vectors of the checkpoints that m pairs name start. `all` says whether each is kept.
-#[derive(Drop)]
+#[derive(Clone, Copy)]
 pub struct Starts {
     pub all: bool,
     pub starts: [u16; PROCESSES],

@@ -130,7 +130,7 @@ pub fn checkpoint(w: &mut [u16], i: usize, deleted: &mut [u16]) -> usize
 }
 
 // What a receipt answers: the set of the entries that rose, and how many checkpoints were deleted.
-#[derive(Drop)]
+#[derive(Clone, Copy)]
 pub struct Received {
     pub rose: u16,
     pub gone: usize,

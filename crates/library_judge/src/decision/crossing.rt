@@ -4,14 +4,14 @@ ghost use Rattle.model.specs.Words.{most_processes};
 ghost use Rattle.library_judge.specs.decision.Crossings.{Sized, crossing_of, lesser_of, least_crossing_of, NearEnd};
 
 // Whether a message crosses, and the least entry that the receiver's state of one that does has.
-#[derive(Drop)]
+#[derive(Clone, Copy)]
 pub struct Least {
     pub found: bool,
     pub least: u16,
 }
 
 // The first process for which a message crosses, and the least entry there.
-#[derive(Drop)]
+#[derive(Clone, Copy)]
 pub struct Near {
     pub found: bool,
     pub process: usize,

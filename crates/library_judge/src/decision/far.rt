@@ -6,7 +6,7 @@ ghost use Rattle.library_judge.specs.decision.Far.{Reaching, FarEnd};
 use crate::decision::NO_ROW;
 use model::PROCESSES;
 
-#[derive(Drop)]
+#[derive(Clone, Copy)]
 pub struct Far {
     pub found: bool,
     pub process: usize,

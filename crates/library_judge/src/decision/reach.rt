@@ -6,7 +6,7 @@ ghost use Rattle.library_judge.specs.decision.Reach.{Linked, lowered_by, relaxed
 use model::PROCESSES;
 
 // The least row reached of each process, 65535 for none, and whether this pass lowered one.
-#[derive(Drop)]
+#[derive(Clone, Copy)]
 pub struct Pass {
     pub reach: [u16; PROCESSES],
     pub changed: bool,

@@ -10,7 +10,7 @@ use Rattle.histories.proofs.Counted.{kept_in, new_in, delivered_new_forced, deli
 use Rattle.histories.proofs.CheckpointedViews.{checkpointed_n, checkpointed_own, checkpointed_own_other, checkpointed_vector, checkpointed_mark, checkpointed_mark_other, checkpointed_pin, checkpointed_pin_row, checkpointed_last}
 use Rattle.histories.proofs.TakenInViews.{taken_in_n, taken_in_own, taken_in_vector, taken_in_mark, taken_in_pin_other, taken_in_last}
 use Rattle.model.proofs.simulation.View.{passing, vector_of, checkpoint_of, kept_of, process_of, message_of, messages_of, disk_of, state_of}
-use Rattle.model.proofs.{simulation.Reads.last_is, simulation.Reads.disk_is, simulation.Reads.process_is, simulation.Stepping.one_part_messages}
+use Rattle.model.proofs.{simulation.Reads.last_is_lem, simulation.Reads.disk_is, simulation.Reads.process_is, simulation.Stepping.one_part_messages}
 use Rattle.model.proofs.{simulation.Rows.keeps_same, simulation.Rows.process_same, simulation.Rows.standing, simulation.Messages.others_are}
 use Rattle.model.proofs.simulation.Checkpoint.{checkpoint_vector, checkpoint_pins, checkpoint_kept, checkpoint_standing, checkpoint_gone, checkpoint_index, cause_other, counts_same}
 use Rattle.model.proofs.simulation.Taking.{taken_ledger, forces_is, taken_own_pin, taken_process, taken_gone}

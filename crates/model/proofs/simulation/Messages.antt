@@ -9,7 +9,7 @@ use Rattle.histories.proofs.{Run.Ideal, Run.keeps, Run.sending, Run.lost, Counte
 use Rattle.histories.proofs.Lost.{lost_n, lost_own, lost_vector, lost_mark, lost_pin, lost_last}
 use Rattle.model.proofs.simulation.View.{passing, pins_of, checkpoint_of, kept_of, process_of, message_of, messages_of, disk_of, state_of}
 use Rattle.model.proofs.simulation.Passing.{passing_same, passing_yes, select_passing, last_passing}
-use Rattle.model.proofs.{simulation.Reads.last_is, simulation.Reads.under_way_is, simulation.Reads.process_is, simulation.Rows.process_same}
+use Rattle.model.proofs.{simulation.Reads.last_is_lem, simulation.Reads.under_way_is, simulation.Reads.process_is, simulation.Rows.process_same}
 use Rattle.model.proofs.simulation.Stepping.{one_part_still, messages_alone}
 
 module _ (r : Ideal) (i j : ℕ) (few : r.n ≤ most_processes) (hi : i < r.n) where

@@ -12,7 +12,7 @@ use Rattle.whole_runs.specs.Answers.{lowest, reasons, failed_set, gone_pairs, Se
 use Rattle.whole_runs.specs.WholeRuns.{reported, LineIsRight}
 use Rattle.histories.proofs.{Run.Ideal, Run.forces, Invariant.Inv, Memory.Memory}
 use Rattle.histories.proofs.Knowledge.{Since, NewsOf, News, newer_news, news_newer, forced_since, forced_news, news_forces}
-use Rattle.model.proofs.{simulation.View.state_of, simulation.View.Limits, simulation.Reads.count_is}
+use Rattle.model.proofs.{simulation.View.state_of, simulation.View.Limits, simulation.Reads.count_is_lem}
 use Rattle.model.proofs.simulation.Risen.{rose_small, rose_is, rose_past}
 use Rattle.model.proofs.simulation.SoundCalls.{deliver_run, line_run, recover_run}
 use Rattle.whole_runs.proofs.{whole.EarliestLine.earliest_out, whole.Agreement.Agrees, whole.Gone.gone_all, whole.Gone.gone_agrees, whole.Runs.stepped}

@@ -10,7 +10,7 @@ use Rattle.whole_runs.specs.{Calls.earliest, Survival.Surviving, WholeRuns.Earli
 use Rattle.whole_runs.specs.Answers.{lowest, reasons, AllKept, SomeOrdered, Through, RightEarliest, NoneThrough}
 use Rattle.histories.proofs.{Run.Ideal, Invariant.Inv, Memory.Memory, Knowledge.stored_less, Knowledge.stored_knows}
 use Rattle.histories.proofs.Earliest.{earliest_within, earliest_through, earliest_consistent, earliest_least, consistent_unordered}
-use Rattle.model.proofs.{simulation.View.state_of, simulation.View.Limits, simulation.Reads.count_is}
+use Rattle.model.proofs.{simulation.View.state_of, simulation.View.Limits, simulation.Reads.count_is_lem}
 use Rattle.whole_runs.proofs.whole.EarliestLine.{Stored, earliest_out, named_kept, inside, below, entry_of, Chosen, named_topped}
 use Rattle.whole_runs.proofs.{whole.Agreement.Agrees, whole.Refused.number_of, whole.Agreement.live_is, whole.Refused.earliest_number}
 

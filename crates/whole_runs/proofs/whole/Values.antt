@@ -14,7 +14,7 @@ use Rattle.whole_runs.specs.Calls.{Call, checkpoint, send, deliver, lose, recove
 use Rattle.whole_runs.specs.Answers.{value_of, lent_deletions, lent_line, at_front, indexes_of}
 use Rattle.histories.proofs.{Run.Ideal, Run.forces, Invariant.Inv, Memory.Memory, Messages.underway_proper}
 use Rattle.model.proofs.{simulation.View.message_of, simulation.View.state_of, simulation.View.Limits, simulation.Checkpoint.checkpoint_index}
-use Rattle.model.proofs.{simulation.Reads.count_is, simulation.Reads.last_is, simulation.Reads.own_is, simulation.Deliver.deliver_index}
+use Rattle.model.proofs.{simulation.Reads.count_is_lem, simulation.Reads.last_is_lem, simulation.Reads.own_is, simulation.Deliver.deliver_index}
 use Rattle.model.proofs.simulation.Lines.{member_index, line_is}
 use Rattle.model.proofs.simulation.SoundCalls.{checkpoint_run, deliver_run, line_run, recover_run}
 use Rattle.whole_runs.proofs.{whole.EarliestLine.earliest_out, whole.Agreement.Agrees, whole.Reached.refusal, whole.Recovers.written_line}

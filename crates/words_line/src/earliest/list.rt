@@ -7,7 +7,7 @@ ghost use Rattle.words_line.specs.earliest.Copying.{no_named, nothing_copied_of,
 use model::{CheckpointIndex, Named, PROCESSES};
 
 // What is copied out of a list: its first 16 elements, how many elements it has, and the greatest process that one of them names.
-#[derive(Drop)]
+#[derive(Clone, Copy)]
 pub struct Copied {
     pub named: [Named; PROCESSES],
     pub length: usize,

@@ -15,7 +15,7 @@ const PAIRS: usize = 2 * PROCESSES + 2;
 const IN_NO_RUN: u32 = PROCESSES as u32;
 
 // The numbers in use stand before `end`.
-#[derive(Drop)]
+#[derive(Clone, Copy)]
 pub struct Pairs {
     pub numbers: [u32; PAIRS],
     pub end: usize,
