@@ -1,5 +1,8 @@
 // Whether a call is refused, and why, by the counts of a state, what the call names and how long the lists are that it is lent: the tests that several functions ask. The calls of the library, the replay of
 // a trace and the judge of a foreign one ask the same.
+
+#![tactic(auto)]
+
 ghost use Rattle.laws.specs.Basics.{◌≡◌, ◌||◌, ◌*◌, ◌/◌, ◌^◌, ◌≤◌, ltb, leb};
 ghost use Rattle.model.specs.Words.{most_interval, most_processes};
 ghost use Rattle.admissions.specs.Admissions.{past_most, send_admission_of, recovery_admission_of};

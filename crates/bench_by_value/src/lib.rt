@@ -1,5 +1,8 @@
 // The records of a trace as calls by value, for bench/run to time. They are apart from `bench_in_place`: the calls by value are made of the calls in place, and a
 // function with callers in both is compiled otherwise than it is for either.
+
+#![tactic(auto)]
+
 ghost use Rattle.laws.specs.Basics.{◌≡◌, ◌&&◌, ltb, pick};
 ghost use Rattle.model.specs.{Words.ones, Refusals.start_refusal};
 ghost use Rattle.whole_runs.specs.Listing.{most_records};

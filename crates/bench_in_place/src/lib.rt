@@ -1,5 +1,8 @@
 // What bench/in_place links besides the exported calls: the records of a trace as calls in place without the test. Text is left out. The result says how many records were
 // accepted, which the driver compares.
+
+#![tactic(auto)]
+
 ghost use Rattle.laws.specs.Basics.{◌≡◌, some, length};
 ghost use Rattle.model.specs.declared.Refusal.{Refusal};
 ghost use Rattle.model.specs.Words.{ones, most_processes, most_deletions};

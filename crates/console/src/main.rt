@@ -1,6 +1,8 @@
 // Makes the console calls of a script on standard input (document 02, Note 13), an operator's start first, and prints what each answered and wrote, one line a call. What it
 // asks of the system, and when, is stated and proved in `machine_console`: this program only obeys.
 
+#![tactic(auto)]
+
 ghost use Rattle.laws.specs.Basics.{◌≡◌, true, length};
 ghost use Rattle.machines.specs.Machines.{Ended};
 ghost use Rattle.machine_console.specs.{Consoling.consoling, Lent.has_room_of, Lent.state_of};

@@ -1,6 +1,9 @@
 // The exam sheet of document 01 by real calls, and cases of document 02 after it: every case makes its calls by `library_calls` and prints what they
 // answered and left, one fact a line; for each delivery that a case is about, also the set of entries that rose (document 02, Note 1). The independent oracle
 // prints the same text (`oracle --cases`, laid out above `print` in its cases.rs); the tests compare the two.
+
+#![tactic(auto)]
+
 use crate::act::After;
 use model::{DELETIONS, PROCESSES};
 

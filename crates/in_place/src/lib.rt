@@ -1,6 +1,8 @@
 // The calls in place: each works on the words that the caller lends. A function with `_on` in its name requires that the words stand for a sound state; the same call
 // without it tests that first, and refuses other words with number 2. A refused call leaves every word as it was.
 
+#![tactic(auto)]
+
 // start.rt: the first state of a run
 pub mod start;
 

@@ -1,5 +1,8 @@
 // The recovery of a failed set: each process goes back to its member of the line, its pins are moved and what no pin names is deleted; the messages that were sent up
 // to the line stay under way. For the empty set nobody goes back: it is a sweep.
+
+#![tactic(auto)]
+
 ghost use Rattle.laws.specs.Basics.{◌≡◌, true, ◌*◌, ◌≤◌, ◌<◌, length, get_or, sets, pick};
 ghost use Rattle.laws.specs.Tests.{count_below};
 ghost use Rattle.model.specs.{Sound.sound, Words.most_processes};

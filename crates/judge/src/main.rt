@@ -1,6 +1,8 @@
 // Judges the trace of another run-time on standard input: one line on standard output, `trackable`, `breaks P:K Q:X` or `refused R`. What it asks of the system, and
 // when, is stated and proved in `machine_judge`: this program only obeys.
 
+#![tactic(auto)]
+
 ghost use Rattle.laws.specs.Basics.{length};
 ghost use Rattle.machines.specs.Machines.{Ended};
 ghost use Rattle.machine_judge.specs.{Judging.judging, Words.EnoughRoom, Words.state_of};

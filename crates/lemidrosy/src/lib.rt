@@ -3,6 +3,8 @@
 // nothing. No function asks anything of its arguments: what does not fit is refused, and its number says why. An answer is one number with fields (`answers`,
 // specs/Codes). Lent slices must not overlap.
 
+#![tactic(auto)]
+
 // calls.rt: the calls in place
 pub mod calls;
 

@@ -2,6 +2,8 @@
 // The replay's is in `lemidrosy_replay`. What is said of slices in `lemidrosy` holds here, too. A machine works on the lists that it is lent, and its request goes to the last
 // one. A call returns 0, or 3 where a list is too short: then it leaves them all as they were.
 
+#![tactic(auto)]
+
 // How many numbers a request is.
 pub const REQUEST: usize = 4;
 

@@ -4,6 +4,8 @@
 // A state is 15,032 bytes, and copies of it cost more than the call. So each call has one variable for it, which is handed to `fill` and returned whatever the answer is:
 // three copies are left, the one in, the one for `fill` and the one out. Where there are more processes or messages than places, no words are cleared.
 
+#![tactic(auto)]
+
 // judged.rt: whether a state is sound
 pub mod judged;
 

@@ -2,6 +2,8 @@
 // the caller may not do is refused with number 25, before every other number, and so is a number that is no role's; the rest is done by the calls in place. Each takes any
 // numbers and any words: specs/Asked has the outcomes. A refused call leaves every word as it was; only a start that is refused with another number makes them zero.
 
+#![tactic(auto)]
+
 // denied.rt: who asks, and what is denied
 pub mod denied;
 

@@ -1,6 +1,8 @@
 // The merge of two halves of one run (document 02, Note 12). A record that is taken goes to a log, as its word in the merged trace, and the bytes are
 // written once all records are taken: so a merge that is refused has written nothing. The log also tells which messages were sent.
 
+#![tactic(auto)]
+
 // log.rt: the words of the records taken
 mod log;
 

@@ -1,5 +1,7 @@
 // Note 7 of document 02: a trace of another run-time is judged.
 
+#![tactic(auto)]
+
 // reading.rt: a trace is read into the tables
 mod reading;
 

@@ -1,5 +1,8 @@
 // What a run-time reads of the words, each by one reader: specs/Readings says what is answered and what the lent list then holds. The words stand for a sound state;
 // whoever exports these functions tests that first.
+
+#![tactic(auto)]
+
 ghost use Rattle.laws.specs.Basics.{◌≡◌, true, [], ◌∷◌, some, ℕ, ◌+◌, ◌*◌, ◌≤◌, ◌<◌, length, sets, pick};
 ghost use Rattle.laws.specs.Lists.{table};
 ghost use Rattle.model.specs.{Sound.sound, Words.most_processes, Words.most_under_way};

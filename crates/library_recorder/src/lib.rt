@@ -2,6 +2,8 @@
 // "A writer takes a call, does it, and appends the record to a lent buffer". What each function returns and leaves, refused or accepted, is in specs/Recording of the crate
 // theory_recording, of the run that the words stand for; a start in place is in specs/Recorded here, with what a replay of the buffer gives.
 
+#![tactic(auto)]
+
 ghost use Rattle.laws.specs.Basics.{◌≡◌, length};
 ghost use Rattle.model.specs.declared.Refusal.{Refusal};
 ghost use Rattle.theory_recording.specs.Recording.{recorded_checkpoint, recorded_send, recorded_deliver, recorded_lose, recorded_line, recorded_recover, recorded_earliest};

@@ -2,6 +2,8 @@
 // more after each recovery that deletes a checkpoint, which alone can leave words that stand for no sound state; a caller that knows that calls from a start led to them pays for no
 // test.
 
+#![tactic(auto)]
+
 // record.rt: one record
 pub mod record;
 

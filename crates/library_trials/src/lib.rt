@@ -1,5 +1,8 @@
 // Document 02, Note 10, "Trying a checkpoint spacing": the simulation itself. Every event of a step is a call in place, on words that stand for a state which calls
 // reached; what a step chooses and what is counted is in `spacing`.
+
+#![tactic(auto)]
+
 ghost use Rattle.laws.specs.Basics.{◌≡◌, true, List, [], ◌∷◌, none, some, ℕ, ◌≤◌, ◌<◌, length, pick};
 ghost use Rattle.model.specs.declared.Event.TheVariants.{Checkpoint, Deliver};
 ghost use Rattle.model.specs.{Sound.sound, Words.most_processes};

@@ -1,5 +1,8 @@
 // A record's line of text, printed into a lent buffer. Every function that writes prints one text of whole_runs's specs/Listing from a place
 // on, asks for room for that text and no more, and hands back the place after it. proofs/Bounds says how long a line can be.
+
+#![tactic(auto)]
+
 ghost use Rattle.laws.specs.Basics.{◌≡◌, [], ◌∷◌, ◌*◌, ◌≤◌, length};
 ghost use Rattle.whole_runs.specs.Listing.{decimal, value_text, deletions_text, accepted_text, line_text};
 ghost use Rattle.listing.specs.{Lines.value_in, Lines.reply_of, Lines.pair_text, Lines.refusal_line, Printed.Room, Printed.Printed};

@@ -1,6 +1,8 @@
 // The program `console` as a machine, without input or output: what the system answered goes in, what to ask for next comes out. Its states are defined in `specs/Consoling`,
 // with the theorem over every list of answers; which state the lent numbers and buffers stand for, in `specs/Lent`.
 
+#![tactic(auto)]
+
 // text.rt: the parts of a line
 mod text;
 

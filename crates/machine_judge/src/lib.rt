@@ -1,6 +1,8 @@
 // The program `judge` as a machine, without input or output: what the system answered goes in, what to ask for next comes out. Its states are defined in `specs/Judging`,
 // with the theorem over every list of answers; which state the lent numbers and buffers stand for, in `specs/Words`.
 
+#![tactic(auto)]
+
 // text.rt: the line of a verdict
 pub mod text;
 

@@ -1,6 +1,8 @@
 // The program `merge` as a machine, without input or output: what the system answered goes in, what to ask for next comes out. Its states are defined in `specs/Merging`,
 // the theorem over every list of answers in `specs/Promised`; which state the lent numbers and buffers stand for, in `specs/Words`.
 
+#![tactic(auto)]
+
 // marks.rt: the numbers of a state
 mod marks;
 

@@ -1,6 +1,8 @@
 // The program `record` as a machine, without input or output: what the system answered goes in, what to ask for next comes out. Its states are defined in
 // `specs/Machine`, with the promises over every list of answers in `specs/Promised`; which state the lent numbers and buffers stand for, in `specs/Lent`.
 
+#![tactic(auto)]
+
 // calls.rt: a record's call through the recorder
 mod calls;
 

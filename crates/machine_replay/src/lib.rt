@@ -2,6 +2,8 @@
 // of the run, a buffer for what is read and one for lines. Memory does not grow with the trace. What was replayed is written before more is read, so that no line that is
 // due is lost when the input fails or stalls.
 
+#![tactic(auto)]
+
 // place.rt: the numbers of a state
 pub mod place;
 

@@ -1,6 +1,8 @@
 // The program `simulate` as a machine, without input or output: what the system answered goes in, what to ask for next comes out. Its states are defined in
 // `specs/Simulating`, with the theorem over every list of answers; which state the lent numbers and buffers stand for, in `specs/Words`.
 
+#![tactic(auto)]
+
 // words.rt: the words that the program is started with
 pub mod words;
 

@@ -2,6 +2,8 @@
 // those that are handed out are the first of `out`. Which request and answer a form stands for is defined in `specs/Forms`; what a machine is, in `specs/Machines`.
 // `obey` does what a request asks for: the only function of all programs that calls the system.
 
+#![tactic(auto)]
+
 // system.rt: one function for each kind of request
 mod system;
 

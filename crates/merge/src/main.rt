@@ -2,6 +2,8 @@
 // process p. The merged trace goes to standard output. A refused merge writes `refused` and the number to standard error and nothing to standard output. What it
 // asks of the system, and when, is stated and proved in `machine_merge`: this program only obeys.
 
+#![tactic(auto)]
+
 ghost use Rattle.laws.specs.Basics.{length};
 ghost use Rattle.machines.specs.Machines.{Ended};
 ghost use Rattle.machine_merge.specs.{Merging.merging, Words.EnoughRoom, Words.state_of};

@@ -1,6 +1,8 @@
 // The types of the state, the answers and the events. Document 01's words and the rules of one call are definitions in specs/, the theorems about them are in
 // proofs/. What a call's outcome is, lists of calls and the surviving history stand in the crate whole_runs.
 
+#![tactic(auto)]
+
 // The limits, each once. specs/Words has every one of them under the same sentence, by the name in parentheses. That the two are equal follows from the contracts: a call
 // equals its definition, so it goes by the definition's number.
 //

@@ -2,6 +2,8 @@
 // the first byte and the records of the accepted calls. `record BYTES` stands for a buffer of that many bytes. What it asks of the system, and when, is stated and proved in
 // `machine_record`: this program only obeys.
 
+#![tactic(auto)]
+
 ghost use Rattle.laws.specs.Basics.{◌≡◌, true, length};
 ghost use Rattle.machines.specs.Machines.{Ended};
 ghost use Rattle.machine_record.specs.{Machine.machine, Lent.has_room_of, Lent.state_of};

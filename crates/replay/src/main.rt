@@ -1,6 +1,8 @@
 // Replays the trace on standard input: a line on standard output for each record. It stops after the line of the first refusal, unless it is started with the one argument
 // `all`. What it asks of the system, and when, is stated and proved in `machine_replay`: this program only obeys.
 
+#![tactic(auto)]
+
 ghost use Rattle.laws.specs.Basics.{◌≡◌, ◌≤◌, length};
 ghost use Rattle.listing.specs.Lines.{longest_line};
 ghost use Rattle.words.specs.Layout.{state_size};

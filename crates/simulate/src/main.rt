@@ -2,6 +2,8 @@
 // SEED` prints a row for each spacing from FROM to TO, a table that a plot can read. What is out of range is refused with 22. What it asks of the system, and when, is
 // said and proved in `machine_simulate`: this program only obeys.
 
+#![tactic(auto)]
+
 ghost use Rattle.laws.specs.Basics.{length};
 ghost use Rattle.machines.specs.Machines.{Ended};
 ghost use Rattle.machine_simulate.specs.{Simulating.simulating, Words.EnoughRoom, Words.state_of};

@@ -1,5 +1,8 @@
 // Note 13 of document 02, a console for shared clusters: who may do what. The outcome of each console call is in specs/Console, what is claimed of states that
 // console calls reach in specs/Runs and specs/Shown; the calls themselves are the crate library_console.
+
+#![tactic(auto)]
+
 ghost use Rattle.laws.specs.Basics.{◌≡◌};
 ghost use Rattle.theory_roles.specs.Console.{may, role_place, operation_place};
 

@@ -1,4 +1,7 @@
 // The records of a trace: the part of the trace that a record is, the event that it stands for, and the record of an event.
+
+#![tactic(auto)]
+
 ghost use Rattle.laws.specs.Basics.{◌≡◌, ◌≤◌, ◌<◌, length};
 ghost use Rattle.model.specs.Trace.{word, fields, if_zero_of, event_of_def, fields_of, word_of_def, bytes_of_def};
 ghost use Rattle.trace.specs.Answers.{record_at, fields_read, event_in, event_read, record_of_def};

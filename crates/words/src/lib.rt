@@ -1,5 +1,8 @@
 // The state of a run as 6,464 words of 16 bits that the caller lends. specs/Layout says which run words stand for; here rows and numbers are read out of words
 // and put into them. Callers pass all the words and a place, so that one borrow serves every function. A row has 16 words whatever the count of processes.
+
+#![tactic(auto)]
+
 ghost use Rattle.laws.specs.Basics.{◌≡◌, [], ◌∷◌, ◌+◌, ◌≤◌, ◌<◌, length};
 ghost use Rattle.model.specs.declared.Pin.TheVariants.{At};
 ghost use Rattle.model.specs.Words.{most_interval, most_processes};

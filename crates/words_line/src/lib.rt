@@ -1,5 +1,7 @@
 // The line and the recovery of one process, on its part of the words.
 
+#![tactic(auto)]
+
 // sifted.rt: the messages that a recovery loses leave their places
 pub mod sifted;
 

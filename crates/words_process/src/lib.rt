@@ -1,5 +1,7 @@
 // One process's part of the words: its vector, its pins and the checkpoints that it keeps.
 
+#![tactic(auto)]
+
 // steps.rt: a checkpoint of a process, and a receipt at it, whole
 pub mod steps;
 

@@ -1,5 +1,8 @@
 // Whether the words that a caller lends stand for a sound state (document 01, "A sound state", with Note 5's clauses). What stands in a place that is not in use counts
 // for nothing and is not looked at. A row of 16 words is tested with no exit on the way (rows.rt); a row that fails ends the test.
+
+#![tactic(auto)]
+
 ghost use Rattle.laws.specs.Basics.{◌≡◌, ◌&&◌, ◌+◌, ◌*◌, ◌≤◌, ◌<◌, eqb, leb, length};
 ghost use Rattle.laws.specs.Search.{all_below};
 ghost use Rattle.model.specs.{Sound.sound, Words.most_processes, Words.most_blocks};
