@@ -1,5 +1,4 @@
 -- Laws that belong to no one function.
 pub mod Fours
-pub mod Owned
 pub mod Room
 pub mod Whole

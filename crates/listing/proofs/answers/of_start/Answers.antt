@@ -1,0 +1,12 @@
+-- `listing::answers::of_start` meets its contract.
+-- Assumes nothing.
+use Rattle.laws.specs.Basics.{rules}
+use Rattle.listing.proofs.answers.of_start.Goals as goal
+
+pub code_of-requires : goal.code_of-requires
+code_of-requires c =
+    rw c.of_start-summary.ensures c.requires
+
+pub returns : goal.returns
+returns c =
+    rw (c.code_of.ensures, c.of_start-summary.ensures)

@@ -1,0 +1,10 @@
+-- `trace::bytes_of` meets its contract, by computation.
+-- Assumes nothing.
+use Rattle.laws.specs.Basics.{refl, rules}
+use Rattle.model.specs.Trace.{bytes_of_def}
+use Rattle.trace.proofs.bytes_of.Goals as goal
+
+pub returns : goal.returns
+unfolding bytes_of_def
+returns c =
+    refl

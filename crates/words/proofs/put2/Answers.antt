@@ -1,0 +1,12 @@
+-- `words::put2` meets its contract. Assumes nothing.
+use Rattle.laws.specs.Basics.{arith, length-set, rules}
+use Rattle.words.proofs.{Reading.set_is_put}
+use Rattle.words.proofs.put2.Goals as goal
+
+pub bounds-w-at-2 : goal.bounds-w-at-2
+bounds-w-at-2 c =
+    simp length-set (omega arith)
+
+pub returns : goal.returns
+returns c =
+    simp set_is_put
