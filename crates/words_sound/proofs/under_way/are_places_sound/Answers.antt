@@ -3,6 +3,7 @@ use Rattle.laws.specs.Basics.{ap, not, ◌-◌, arith, rules}
 use Rattle.laws.specs.Loops.{either}
 use Rattle.words_sound.proofs.Judging.{Read, none_read, one_read, none_there, read_fails, all_read}
 use Rattle.words_sound.proofs.under_way.are_places_sound.Goals as goal
+use Rattle.words_sound.proofs.under_way.are_places_sound.Goals.{then-number-ne0+else-not-ok, else-number-ne0}
 
 pub loop-k-init : goal.loop-k-init
 loop-k-init c =
@@ -22,10 +23,11 @@ overflow_add-count c =
 
 pub loop-k-preserved : goal.loop-k-preserved
 loop-k-preserved c =
-    let a = c.args in either c.if-number-ne0.branch
-    (λ z. rw (z.6, z.7, z.8) (one_read a.w.now a.end c.loop-k.k c.loop-k.before c.loop-k.count c.number_in-number.result c.loop-k.over c.loop-k.invariant c.loop-k-test.true c.number_in-number.ensures z.0.taken z.1.result z.1.ensures z.2.left
-    z.5.result z.4.result a.owns (rw z.3.ensures at z.4.ensures) c.requires.0.limits z.5.ensures))
-    (λ z. rw (z.1, z.2, z.3) (none_there a.w.now a.end c.loop-k.k c.loop-k.before c.loop-k.count c.number_in-number.result c.loop-k.over c.loop-k.invariant c.loop-k-test.true c.number_in-number.ensures z.0.left))
+    let a = c.args in elim c.if-number-ne0.branch [
+      | then-number-ne0+else-not-ok z ↦ rw (z.over-is, z.before-is, z.count-is) (one_read a.w.now a.end c.loop-k.k c.loop-k.before c.loop-k.count c.number_in-number.result c.loop-k.over c.loop-k.invariant c.loop-k-test.true c.number_in-number.ensures z.if-number-ne0.true z.is_message_sound-ok.result z.is_message_sound-ok.ensures (ap not z.if-not-ok.false)
+          z.over_by-more.result z.vector_at-vector.result a.owns (rw z.carried_at-vector_at.ensures at z.vector_at-vector.ensures) c.requires.0.limits z.over_by-more.ensures)
+      | else-number-ne0 z ↦ rw (z.over-is, z.before-is, z.count-is) (none_there a.w.now a.end c.loop-k.k c.loop-k.before c.loop-k.count c.number_in-number.result c.loop-k.over c.loop-k.invariant c.loop-k-test.true c.number_in-number.ensures z.if-number-ne0.false)
+    ]
 
 pub returns : goal.returns
 returns c =
