@@ -8,6 +8,7 @@ use Rattle.words.specs.Layout.{word, index_at_of, index_of_def, checkpoint_in}
 use Rattle.words_process.specs.{Kept.Used, Kept.Split, Pins.pin_row}
 use Rattle.words_process.proofs.Collecting.{pinned_is, index_is, index_there, split_first, split_stays, split_moves, unpinned, unpinned_none, unpinned_same, one_more, pair_more, pairs_none}
 use Rattle.words_process.proofs.kept.split.Goals as goal
+use Rattle.words_process.proofs.kept.split.Goals.{then-pinned, else-pinned}
 
 used_at : (w : List ℕ) (p n : ℕ) → Used w p n → (k : ℕ) → k < n → 1 ≤ word w (index_at_of p k)
 unfolding Used
@@ -61,30 +62,31 @@ pub loop-k-preserved : goal.loop-k-preserved
 loop-k-preserved c =
     let l = c.loop-k in let lt : l.k < c.args.kept_count = omega arith in
     let room : l.k < 16 = omega (arith, c.requires.w_len.3) in
-    let w = c.args.w.now in let p = c.args.p in let pins = pin_row c.args.pins in let same = index_there w c.requires.w_len.0 p c.requires.w_len.1 pins l.k l.w l.to l.invariant.4 room in let test = pinned_is w p l.k pins ∙ ap (λ (x : ℕ). some_of (λ pin. names pin (index_of_def x)) pins) (sym same) ∙ sym c.is_pinned-pinned.ensures in either c.if-pinned.branch
-    (λ t.
-    let e : is_pinned pins (checkpoint_in w p l.k) ≡ true = test ∙ t.0.taken in
-    let none = unpinned_same w p pins l.k e in (
-      omega (arith, l.invariant.0),
-      search rules,
-      ap length t.5 ∙ t.2.kept.0 ∙ l.invariant.2,
-      ap length t.6 ∙ l.invariant.3,
-      rw (t.5, t.7, t.2.ensures) (split_moves w c.requires.w_len.0 p c.requires.w_len.1 pins l.k l.w l.to l.invariant.4 room (used_at w p c.args.kept_count c.requires.w_len.4 l.k lt) e),
-      t.6 ∙ l.invariant.5 ∙ ap (λ (q : List Checkpoint). sets c.args.deleted.now (2 * c.args.before) (pairs (listed p q))) (sym none),
-      omega (arith, t.7, l.invariant.6, ap length none),
-    ))
-    (λ t.
-    let e : is_pinned pins (checkpoint_in w p l.k) ≡ false = test ∙ t.0.left in
-    let more = one_more w p pins l.k e in (
-      omega (arith, l.invariant.0),
-      search rules,
-      ap length t.6 ∙ l.invariant.2,
-      ap length t.7 ∙ t.3.kept.0 ∙ l.invariant.3,
-      rw (t.6, t.8) (split_stays w c.requires.w_len.0 p c.requires.w_len.1 pins l.k l.w l.to l.invariant.4 room e),
-      t.7 ∙ t.3.ensures ∙ ap (λ (x : CheckpointIndex). set (set l.deleted _ p) _ x.0) (t.2.ensures ∙ ap (λ (x : ℕ). index_of_def x) same ∙ sym (index_is w p l.k))
-          ∙ pair_more w p pins l.k e c.args.deleted.now l.deleted (2 * c.args.before) _ l.invariant.5 (omega (arith, l.invariant.6)),
-      omega (arith, t.8, l.invariant.6, more),
-    ))
+    let w = c.args.w.now in let p = c.args.p in let pins = pin_row c.args.pins in let same = index_there w c.requires.w_len.0 p c.requires.w_len.1 pins l.k l.w l.to l.invariant.4 room in let test = pinned_is w p l.k pins ∙ ap (λ (x : ℕ). some_of (λ pin. names pin (index_of_def x)) pins) (sym same) ∙ sym c.is_pinned-pinned.ensures in elim c.if-pinned.branch [
+      | then-pinned t ↦
+          let e : is_pinned pins (checkpoint_in w p l.k) ≡ true = test ∙ t.if-pinned.true in
+          let none = unpinned_same w p pins l.k e in (
+            omega (arith, l.invariant.0),
+            search rules,
+            ap length t.w-is ∙ t.move_up.auto.w ∙ l.invariant.2,
+            ap length t.deleted-is ∙ l.invariant.3,
+            rw (t.w-is, t.to-is, t.move_up.ensures) (split_moves w c.requires.w_len.0 p c.requires.w_len.1 pins l.k l.w l.to l.invariant.4 room (used_at w p c.args.kept_count c.requires.w_len.4 l.k lt) e),
+            t.deleted-is ∙ l.invariant.5 ∙ ap (λ (q : List Checkpoint). sets c.args.deleted.now (2 * c.args.before) (pairs (listed p q))) (sym none),
+            omega (arith, t.to-is, l.invariant.6, ap length none),
+          )
+      | else-pinned t ↦
+          let e : is_pinned pins (checkpoint_in w p l.k) ≡ false = test ∙ t.if-pinned.false in
+          let more = one_more w p pins l.k e in (
+            omega (arith, l.invariant.0),
+            search rules,
+            ap length t.w-is ∙ l.invariant.2,
+            ap length t.deleted-is ∙ t.write_pair.auto.deleted ∙ l.invariant.3,
+            rw (t.w-is, t.to-is) (split_stays w c.requires.w_len.0 p c.requires.w_len.1 pins l.k l.w l.to l.invariant.4 room e),
+            t.deleted-is ∙ t.write_pair.ensures ∙ ap (λ (x : CheckpointIndex). set (set l.deleted _ p) _ x.0) (t.index_of.ensures ∙ ap (λ (x : ℕ). index_of_def x) same ∙ sym (index_is w p l.k))
+                ∙ pair_more w p pins l.k e c.args.deleted.now l.deleted (2 * c.args.before) _ l.invariant.5 (omega (arith, l.invariant.6)),
+            omega (arith, t.to-is, l.invariant.6, more),
+          )
+    ]
 
 pub shape_of-w : goal.shape_of-w
 shape_of-w c =

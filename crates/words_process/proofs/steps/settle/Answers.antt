@@ -29,16 +29,16 @@ gone_is w size i room r p e most =
 
 pub collect-stay-requires : goal.collect-stay-requires
 collect-stay-requires c =
-    let a = c.args in let e = c.put_row.ensures in let q = (c.requires.from_bound, c.requires.i_len_bound) in record {
+    let a = c.args in let e = c.put_row.ensures in record {
       w_len = (
         c.put_row.auto.w ∙ c.requires.w_len.0,
         c.requires.w_len.1,
-        q.0.0,
-        q.0.1,
-        rw e (pinned_used a.w.now c.requires.w_len.0 a.i c.requires.w_len.1 a.pins (word a.w.now (kept_count_at_of a.i)) q.0.1 q.0.2),
-        rw e (pinned_still a.w.now c.requires.w_len.0 a.i c.requires.w_len.1 a.pins (pin_row a.pins) a.from (omega (arith, q.0.0, q.0.1)) q.0.3),
+        c.requires.from_bound.0,
+        c.requires.from_bound.1,
+        rw e (pinned_used a.w.now c.requires.w_len.0 a.i c.requires.w_len.1 a.pins (word a.w.now (kept_count_at_of a.i)) c.requires.from_bound.1 c.requires.from_bound.2),
+        rw e (pinned_still a.w.now c.requires.w_len.0 a.i c.requires.w_len.1 a.pins (pin_row a.pins) a.from (omega (arith, c.requires.from_bound.0, c.requires.from_bound.1)) c.requires.from_bound.3),
       );
-      kept_count_in_bounds = (omega (arith, q.1.1), omega arith);
+      kept_count_in_bounds = (omega (arith, c.requires.i_len_bound.1), omega arith);
     }
 
 pub store_if-requires : goal.store_if-requires

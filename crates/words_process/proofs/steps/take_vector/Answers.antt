@@ -8,6 +8,7 @@ use Rattle.words.specs.{Layout.part_at, Layout.vector_in, Puts.puts, Puts.vector
 use Rattle.words.proofs.Same.{vector_back, vector_length}
 use Rattle.words_process.proofs.{Stepping.put_again}
 use Rattle.words_process.proofs.steps.take_vector.Goals as goal
+use Rattle.words_process.proofs.steps.take_vector.Goals.{then-stores, else-stores}
 
 -- Where a checkpoint is stored, and where none is.
 module _ (w : List ℕ) where
@@ -40,15 +41,21 @@ advanced-requires c =
 
 pub take_in-requires : goal.take_in-requires
 take_in-requires c =
-    let long : length c.if-stores.w ≡ 6464 = either c.if-stores.branch (λ t. ap length t.6 ∙ t.3.kept.0 ∙ c.requires.0) (λ t. ap length t.1 ∙ c.requires.0) in
+    let long : length c.if-stores.w ≡ 6464 = elim c.if-stores.branch [ then-stores t ↦ ap length t.w-is ∙ t.put_vector.auto.w ∙ c.requires.0 | else-stores t ↦ ap length t.w-is ∙ c.requires.0 ] in
     omega (arith, c.requires.1)
 
 pub shape_of-w : goal.shape_of-w
 shape_of-w c =
-    c.take_in.auto.w ∙ either c.if-stores.branch (λ t. ap length t.6 ∙ t.3.kept.0) (λ t. ap length t.1)
+    c.take_in.auto.w ∙ (elim c.if-stores.branch [ then-stores t ↦ ap length t.w-is ∙ t.put_vector.auto.w | else-stores t ↦ ap length t.w-is ])
 
 pub returns : goal.returns
 returns c =
-    let a = c.args in let t = c.take_in.ensures in let z = either c.if-stores.branch
-    (λ q. first a.w.now c.requires.0 a.i c.requires.1 a.stores a.vector a.carried c.requires.2 c.if-stores.w _ _ q.0.taken (q.6 ∙ q.3.ensures ∙ ap (λ (x : List Interval). puts a.w.now (vector_put (part_at a.i) x ∷ [])) q.2.ensures) t.w_after t.value)
-    (λ q. plain a.w.now a.i a.stores a.vector a.carried c.requires.2 c.if-stores.w _ _ q.0.left q.1 t.w_after t.value) in record { w_after = z.0; value = z.1 }
+    let a = c.args in
+    elim c.if-stores.branch [
+      | then-stores q ↦
+          let z = first a.w.now c.requires.0 a.i c.requires.1 a.stores a.vector a.carried c.requires.2 c.if-stores.w _ _ q.if-stores.true (q.w-is ∙ q.put_vector.ensures ∙ ap (λ (x : List Interval). puts a.w.now (vector_put (part_at a.i) x ∷ [])) q.advanced.ensures) c.take_in.ensures.w_after c.take_in.ensures.value in
+          record { w_after = z.0; value = z.1 }
+      | else-stores q ↦
+          let z = plain a.w.now a.i a.stores a.vector a.carried c.requires.2 c.if-stores.w _ _ q.if-stores.false q.w-is c.take_in.ensures.w_after c.take_in.ensures.value in
+          record { w_after = z.0; value = z.1 }
+    ]
