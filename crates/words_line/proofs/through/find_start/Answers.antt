@@ -6,6 +6,7 @@ use Rattle.laws.specs.Loops.{either}
 use Rattle.words.specs.Layout.{word, kept_count_at_of, index_at_of, stored_at}
 use Rattle.words_line.specs.Through.{start_of}
 use Rattle.words_line.proofs.through.find_start.Goals as goal
+use Rattle.words_line.proofs.through.find_start.Goals.{then-here, else-here}
 
 nowhere : (w : List ℕ) (p i : ℕ) → 0 ≡ start_of w p i 0
 unfolding start_of
@@ -29,9 +30,10 @@ is_index-here-requires c =
 
 pub loop-k-preserved : goal.loop-k-preserved
 loop-k-preserved c =
-    let l = c.loop-k in let a = c.args in either c.if-here.branch
-    (λ t. (search rules, t.1 ∙ here a.w.now a.p a.index l.k (sym c.is_index-here.ensures ∙ t.0.taken)))
-    (λ t. (search rules, t.1 ∙ l.invariant.1 ∙ not_here a.w.now a.p a.index l.k (sym c.is_index-here.ensures ∙ t.0.left)))
+    let l = c.loop-k in let a = c.args in elim c.if-here.branch [
+      | then-here t ↦ (search rules, t.start-is ∙ here a.w.now a.p a.index l.k (sym c.is_index-here.ensures ∙ t.if-here.true))
+      | else-here t ↦ (search rules, t.start-is ∙ l.invariant.1 ∙ not_here a.w.now a.p a.index l.k (sym c.is_index-here.ensures ∙ t.if-here.false))
+    ]
 
 pub returns : goal.returns
 returns c =

@@ -7,6 +7,7 @@ use Rattle.model.specs.declared.Interval.{Interval}
 use Rattle.words.specs.Layout.{word}
 use Rattle.words_line.specs.Through.{greatest_in}
 use Rattle.words_line.proofs.through.greatest_entry.Goals as goal
+use Rattle.words_line.proofs.through.greatest_entry.Goals.{then-most-known, else-most-known}
 
 nothing : (w starts : List ℕ) (p : ℕ) → 0 ≡ greatest_in w starts p 0
 unfolding greatest_in
@@ -38,9 +39,10 @@ bounds-w-starts c =
 
 pub loop-k-preserved : goal.loop-k-preserved
 loop-k-preserved c =
-    let l = c.loop-k in let a = c.args in let e = ap (λ (x : Interval). x.0) c.interval_of-known.ensures in either c.if-most-known.branch
-    (λ t. (search rules, more a.w.now a.starts a.p l.k _ (omega (arith, e, l.invariant.1, t.1, t.0.taken))))
-    (λ t. (search rules, more a.w.now a.starts a.p l.k _ (omega (arith, e, l.invariant.1, t.1, t.0.left))))
+    let l = c.loop-k in let a = c.args in let e = ap (λ (x : Interval). x.0) c.interval_of-known.ensures in elim c.if-most-known.branch [
+      | then-most-known t ↦ (search rules, more a.w.now a.starts a.p l.k _ (omega (arith, e, l.invariant.1, t.most-is, t.if-most-known.true)))
+      | else-most-known t ↦ (search rules, more a.w.now a.starts a.p l.k _ (omega (arith, e, l.invariant.1, t.most-is, t.if-most-known.false)))
+    ]
 
 pub returns : goal.returns
 returns c =

@@ -19,4 +19,4 @@ loop-k-preserved c =
 
 pub returns : goal.returns
 returns c =
-    let l = c.loop-k in (l.invariant.1, λ k lt. l.invariant.2 k (omega (arith, c.loop-k-test.false)))
+    let l = c.loop-k in record { result_len = l.invariant.1; by_index = λ k lt. l.invariant.2 k (omega (arith, c.loop-k-test.false)) }

@@ -16,7 +16,7 @@ overflow_mul-result c =
 
 pub returns-then-m-process : goal.returns-then-m-process
 returns-then-m-process c =
-    let t = c.args.copied in record { end_in_bounds = omega (arith, (let few' : c.args.copied.length ≤ 16 = let t = c.args.copied in leb-true t.length 16 (and_out (leb t.length 16) (ltb t.process 16) c.if-m-process.true).0 in few'), c.numbers_of-numbers.ensures.0); same_line = λ l e. whole_same t l e ((let few' : c.args.copied.length ≤ 16 = let t = c.args.copied in leb-true t.length 16 (and_out (leb t.length 16) (ltb t.process 16) c.if-m-process.true).0 in few')) c.numbers_of-numbers.result c.numbers_of-numbers.ensures.0 c.numbers_of-numbers.ensures.1 }
+    let t = c.args.copied in record { end_in_bounds = omega (arith, (let few' : c.args.copied.length ≤ 16 = let t = c.args.copied in leb-true t.length 16 (and_out (leb t.length 16) (ltb t.process 16) c.if-m-process.true).0 in few'), c.numbers_of-numbers.ensures.result_len); same_line = λ l e. whole_same t l e ((let few' : c.args.copied.length ≤ 16 = let t = c.args.copied in leb-true t.length 16 (and_out (leb t.length 16) (ltb t.process 16) c.if-m-process.true).0 in few')) c.numbers_of-numbers.result c.numbers_of-numbers.ensures.result_len c.numbers_of-numbers.ensures.by_index }
 
 pub returns : goal.returns
 returns c =
