@@ -38,7 +38,7 @@ indexes_of-indexes-requires c =
 
 pub owns_after-owns-requires : goal.owns_after-owns-requires
 owns_after-owns-requires c =
-    ?
+    let w = c.args.w.now in ((sound_words w c.requires.0).size, all_returning w c.requires.0 c.args.failed ((let there' : no_member_of (run_of c.args.w.now) c.args.failed ≡ false = members_there c.args.w.now c.requires.0 c.args.n c.requires.1 c.args.failed _ c.limits_of-limits.ensures _ c.find_members-all.ensures.value (c.if-not-all.false) in there')) ((let small' : (k : ℕ) → word c.args.w.now k < 65536 = λ k. omega (arith, c.slice_known-1.given k) in small')) _ ((let pasts_are' : let w = c.args.w.now in c.find_members-all.new.pasts ≡ pasts_in w (count_of w) (limits_in w (count_of w) c.args.failed) = found-are c.args.w.now c.requires.0 c.args.n c.requires.1 c.args.failed _ c.limits_of-limits.ensures _ c.find_members-all.ensures.pasts_after in pasts_are')))
 
 pub count_rolled_back-back-requires : goal.count_rolled_back-back-requires
 count_rolled_back-back-requires c =
@@ -50,7 +50,7 @@ write_line-requires c =
 
 pub restore_all-gone-requires : goal.restore_all-gone-requires
 restore_all-gone-requires c =
-    ?
+    let w = c.args.w.now in (c.requires.0, c.requires.1, c.requires.2, all_restorable w c.requires.0 c.args.failed ((let there' : no_member_of (run_of c.args.w.now) c.args.failed ≡ false = members_there c.args.w.now c.requires.0 c.args.n c.requires.1 c.args.failed _ c.limits_of-limits.ensures _ c.find_members-all.ensures.value (c.if-not-all.false) in there')) ((let small' : (k : ℕ) → word c.args.w.now k < 65536 = λ k. omega (arith, c.slice_known-1.given k) in small')) c.args.n _ c.requires.1 ((let pasts_are' : let w = c.args.w.now in c.find_members-all.new.pasts ≡ pasts_in w (count_of w) (limits_in w (count_of w) c.args.failed) = found-are c.args.w.now c.requires.0 c.args.n c.requires.1 c.args.failed _ c.limits_of-limits.ensures _ c.find_members-all.ensures.pasts_after in pasts_are')))
 
 pub sift-requires : goal.sift-requires
 sift-requires c =
@@ -58,6 +58,6 @@ sift-requires c =
 
 pub returns : goal.returns
 returns c =
-    let w = c.args.w.now in let z = recovers w c.requires.0 c.args.failed c.args.deleted.now c.args.line.now ((let long' : let a = c.args in let n = count_of a.w.now in (ltb (length a.deleted.now) (2 * n * n) || ltb (length a.line.now) n) ≡ false = neither c.args.n (count_of c.args.w.now) (length c.args.deleted.now) (length c.args.line.now) c.requires.1 c.requires.2 c.requires.3 in long')) ((let passed' : recovery_admission_of (count_of c.args.w.now) c.args.failed ≡ Accepted = ap (λ (k : ℕ). recovery_admission_of k c.args.failed) (sym c.requires.1) ∙ c.requires.4 in passed')) ((let there' : no_member_of (run_of c.args.w.now) c.args.failed ≡ false = members_there c.args.w.now c.requires.0 c.args.n c.requires.1 c.args.failed _ c.limits_of-limits.ensures _ c.find_members-all.ensures.value (c.if-not-all.false) in there')) c.args.n _ _ _ c.requires.1 ((let pasts_are' : let w = c.args.w.now in c.find_members-all.new.1.1.1.0 ≡ pasts_in w (count_of w) (limits_in w (count_of w) c.args.failed) = found-are c.args.w.now c.requires.0 c.args.n c.requires.1 c.args.failed _ c.limits_of-limits.ensures _ c.find_members-all.ensures.pasts_after in pasts_are'))
+    let w = c.args.w.now in let z = recovers w c.requires.0 c.args.failed c.args.deleted.now c.args.line.now ((let long' : let a = c.args in let n = count_of a.w.now in (ltb (length a.deleted.now) (2 * n * n) || ltb (length a.line.now) n) ≡ false = neither c.args.n (count_of c.args.w.now) (length c.args.deleted.now) (length c.args.line.now) c.requires.1 c.requires.2 c.requires.3 in long')) ((let passed' : recovery_admission_of (count_of c.args.w.now) c.args.failed ≡ Accepted = ap (λ (k : ℕ). recovery_admission_of k c.args.failed) (sym c.requires.1) ∙ c.requires.4 in passed')) ((let there' : no_member_of (run_of c.args.w.now) c.args.failed ≡ false = members_there c.args.w.now c.requires.0 c.args.n c.requires.1 c.args.failed _ c.limits_of-limits.ensures _ c.find_members-all.ensures.value (c.if-not-all.false) in there')) c.args.n _ _ _ c.requires.1 ((let pasts_are' : let w = c.args.w.now in c.find_members-all.new.pasts ≡ pasts_in w (count_of w) (limits_in w (count_of w) c.args.failed) = found-are c.args.w.now c.requires.0 c.args.n c.requires.1 c.args.failed _ c.limits_of-limits.ensures _ c.find_members-all.ensures.pasts_after in pasts_are'))
     c.indexes_of-indexes.ensures c.owns_after-owns.ensures _ _ c.restore_all-gone.ensures.restored c.sift.ensures _ _ _ _ c.count_rolled_back-back.ensures c.restore_all-gone.ensures.value
     c.restore_all-gone.ensures.deleted_after c.write_line.ensures in record { w_after = z.0; value = z.1.0; deleted_after = z.1.1.0; line_after = z.1.1.1.0; w_unchanged = z.1.1.1.1.0; leaves = z.1.1.1.1.1 }

@@ -18,4 +18,4 @@ counted-requires c =
 
 pub returns : goal.returns
 returns c =
-    let m = rw c.end_in-end.ensures at (c.write_messages-many.ensures.out_after, c.write_messages-many.ensures.value) in let z = answer_is (messages_read c.args.w.now c.requires c.args.messages.now c.if-messages.false) (rw m.1 at c.counted.ensures) m.0 in record { value = z.0; messages_after = z.1 }
+    let z = answer_is (messages_read c.args.w.now c.requires c.args.messages.now c.if-messages.false) (rw (rw c.end_in-end.ensures at c.write_messages-many.ensures.value) at c.counted.ensures) (rw c.end_in-end.ensures at c.write_messages-many.ensures.out_after) in record { value = z.0; messages_after = z.1 }

@@ -21,4 +21,4 @@ counted-requires c =
 
 pub returns : goal.returns
 returns c =
-    let line = indexes_are c.args.w.now c.args.n c.args.failed _ c.requires.1 (c.members_of-members.ensures.indexes_value ((let there' : no_member_of (run_of c.args.w.now) c.args.failed ≡ false = not-true _ (sym c.members_of-members.ensures.all_value ∙ not-false _ c.if-not-members.false) in there'))) in let m = rw c.end_in-end.ensures at (c.write_lost-many.ensures.out_after, c.write_lost-many.ensures.value) in let z = answer_is (lost_read c.args.w.now c.requires.0 c.args.failed c.args.messages.now c.requires.3 ((let inside' : leb (2 ^ count_of c.args.w.now) c.args.failed ≡ false = ap (λ (k : ℕ). leb (2 ^ k) c.args.failed) (sym c.requires.1) ∙ c.requires.2 in inside')) ((let there' : no_member_of (run_of c.args.w.now) c.args.failed ≡ false = not-true _ (sym c.members_of-members.ensures.all_value ∙ not-false _ c.if-not-members.false) in there')) _ line) (rw m.1 at c.counted.ensures) m.0 in record { value = z.0; messages_after = z.1 }
+    let line = indexes_are c.args.w.now c.args.n c.args.failed _ c.requires.1 (c.members_of-members.ensures.indexes_value ((let there' : no_member_of (run_of c.args.w.now) c.args.failed ≡ false = not-true _ (sym c.members_of-members.ensures.all_value ∙ not-false _ c.if-not-members.false) in there'))) in let z = answer_is (lost_read c.args.w.now c.requires.0 c.args.failed c.args.messages.now c.requires.3 ((let inside' : leb (2 ^ count_of c.args.w.now) c.args.failed ≡ false = ap (λ (k : ℕ). leb (2 ^ k) c.args.failed) (sym c.requires.1) ∙ c.requires.2 in inside')) ((let there' : no_member_of (run_of c.args.w.now) c.args.failed ≡ false = not-true _ (sym c.members_of-members.ensures.all_value ∙ not-false _ c.if-not-members.false) in there')) _ line) (rw (rw c.end_in-end.ensures at c.write_lost-many.ensures.value) at c.counted.ensures) (rw c.end_in-end.ensures at c.write_lost-many.ensures.out_after) in record { value = z.0; messages_after = z.1 }
