@@ -1,6 +1,6 @@
 -- `library_halves::record::judge` meets its contract: the arm of the `match` says which case of `halfEventOf` holds.
 -- Assumes nothing.
-use Rattle.laws.specs.Basics.{refl, ◌∙◌, inl, inr}
+use Rattle.laws.specs.Basics.{rules, refl, ◌∙◌, inl, inr}
 use Rattle.theory_merges.specs.Merge.{on_record}
 use Rattle.library_halves.specs.Taking.{Judges}
 use Rattle.library_halves.proofs.Ready.{read_is, half_zero, half_one, half_two, half_three, half_none}
@@ -25,4 +25,4 @@ returns-in-3 c =
 pub returns-in_default : goal.returns-in_default
 unfolding Judges on_record
 returns-in_default c =
-    let x = c.read_fields-r in let f = x.ensures ∙ read_is _ c.requires.1 in let o = c.in_default.in_default-own.rest in λ l h e next. rw (← f, half_none x.result o.0.0.0.1 o.0.0.1 o.0.1 o.1)
+    let x = c.read_fields-r in let f = x.ensures ∙ read_is _ c.requires.1 in λ l h e next. rw (← f, half_none x.result (search rules) (search rules) (search rules) (search rules))

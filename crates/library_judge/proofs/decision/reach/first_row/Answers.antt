@@ -11,7 +11,7 @@ loop-r-init c =
 
 pub overflow_cast-q : goal.overflow_cast-q
 overflow_cast-q c =
-    omega (arith, c.shared_slice_known-in-loop-r-1.given c.loop-r.r)
+    omega (arith, c.type_inv.process c.loop-r.r)
 
 pub entry-own-requires : goal.entry-own-requires
 entry-own-requires c =
