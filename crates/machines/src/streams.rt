@@ -71,22 +71,31 @@ impl Streams {
         }
     }
 
-    // Writes all of these bytes to standard output.
-    pub(crate) fn write(&mut self, bytes: &[u8]) -> io::Result<()> {
-        Print::write_all(&self.output, bytes)
+    // Writes all of these bytes to standard output, and hands back whether they are written.
+    pub fn write(&mut self, bytes: &[u8]) -> bool {
+        match Print::write_all(&self.output, bytes) {
+            Ok(()) => true,
+            Err(error) => {
+                self.failed(error);
+                false
+            }
+        }
     }
 
     // Writes these bytes to standard error. Where that fails, nobody is left to be told.
-    pub(crate) fn say(&self, bytes: &[u8]) {
+    pub fn say(&self, bytes: &[u8]) {
         let _ = Print::write_all(&self.errors, bytes);
     }
 
-    // Writes what the system says of the call that failed last.
-    pub(crate) fn say_error(&self) {
+    // Writes a line to standard error: these bytes, a colon and what the system says of the call that failed last.
+    pub fn fail(&self, what: &[u8]) {
         let mut text = [0u8; 128];
         let size = put_error(self.error, &mut text);
         let said = &text[..size];
+        self.say(what);
+        self.say(b": ");
         self.say(without_number(said));
+        self.say(b"\n");
     }
 }
 

@@ -152,13 +152,7 @@ pub fn write(streams: &mut Streams, request: Request, size: usize, out: &[u8]) -
     requires { (request ≡ Request.Write size) × (size ≤ length out.now) }
     ensures { Fits request result }
 {
-    match streams.write(&out[..size]) {
-        Ok(()) => done_answer(true),
-        Err(error) => {
-            streams.failed(error);
-            done_answer(false)
-        }
-    }
+    done_answer(streams.write(&out[..size]))
 }
 
 pub fn say(streams: &mut Streams, request: Request, size: usize, out: &[u8]) -> Answer
@@ -169,14 +163,11 @@ pub fn say(streams: &mut Streams, request: Request, size: usize, out: &[u8]) -> 
     Answer::Done
 }
 
-// A line of these bytes, a colon and what the system says of the call that failed last.
+// `Streams::fail` adds what the system says of the call that failed.
 pub fn fail(streams: &mut Streams, request: Request, size: usize, out: &[u8]) -> Answer
     requires { (request ≡ Request.Fail size) × (size ≤ length out.now) }
     ensures { Fits request result }
 {
-    streams.say(&out[..size]);
-    streams.say(b": ");
-    streams.say_error();
-    streams.say(b"\n");
+    streams.fail(&out[..size]);
     Answer::Done
 }
