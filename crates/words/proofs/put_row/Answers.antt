@@ -10,7 +10,7 @@ loop-f-init c =
 
 pub loop-f-preserved : goal.loop-f-preserved
 loop-f-preserved c =
-    let l = c.loop-f in let a = c.args in (search rules, simp length-set l.invariant.1, put_step a.w.now a.at (λ q. get_or a.t3 q 0) l.f l.w _ l.invariant.2 refl)
+    let l = c.loop-f in let a = c.args in (search rules, simp length-set l.invariant.1, put_step a.w.now a.at (λ q. get_or a.r q 0) l.f l.w _ l.invariant.2 refl)
 
 pub returns : goal.returns
 returns c =

@@ -25,7 +25,7 @@ returns-then-not-used c =
 
 pub loop-k-preserved : goal.loop-k-preserved
 loop-k-preserved c =
-    let l = c.loop-k in (search rules, one_more c.args.w.now l.k (omega (arith, c.shared_slice_known-1.given (low_at l.k))) (sym c.is_used-used.ensures ∙ not-false c.is_used-used.result c.if-not-used.false) l.invariant.1)
+    let l = c.loop-k in (search rules, one_more c.args.w.now l.k (omega (arith, c.shared_slice_known-1.given (low_at l.k))) (sym c.is_used-used.ensures ∙ c.if-not-used.false) l.invariant.1)
 
 pub returns : goal.returns
 returns c =

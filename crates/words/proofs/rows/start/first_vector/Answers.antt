@@ -7,4 +7,4 @@ use Rattle.words.proofs.rows.start.first_vector.Goals as goal
 pub returns : goal.returns
 unfolding started
 returns c =
-    rw c.zero_vector-v.ensures
+    λ b. search rules

@@ -12,7 +12,7 @@ loop-f-init c =
 pub loop-f-preserved : goal.loop-f-preserved
 unfolding taken_entry
 loop-f-preserved c =
-    let a = c.args in (search rules, step_set (taken_entry a.t1 a.t2) _ _ _ c.loop-f.invariant.1 _ c.greater-z.ensures)
+    let a = c.args in (search rules, step_set (taken_entry a.a a.b) _ _ _ c.loop-f.invariant.1 _ c.greater-z.ensures)
 
 pub returns : goal.returns
 unfolding taken_vector

@@ -1,18 +1,17 @@
 -- `words::messages::place_of` meets its contract. Assumes nothing.
-use Rattle.laws.specs.Basics.{◌≡◌, refl, sym, ◌∙◌, ap, List, ℕ, zero, suc, ◌+◌, ◌-◌, ◌*◌, ◌/◌, ◌%◌, ◌≤◌, ◌<◌, arith, eqb, needs, eq-eqb, ne_eqb, pick, by_eq}
+use Rattle.laws.specs.Basics.{◌≡◌, refl, sym, ◌∙◌, ap, List, ℕ, zero, suc, ◌+◌, ◌-◌, ◌*◌, ◌/◌, ◌%◌, ◌≤◌, ◌<◌, arith, eqb, rules, eq-eqb, ne_eqb, pick, by_eq}
 use lib.Bits.{bit_or, or_add_and, and_le_l, and_le_r}
 use Rattle.words.specs.Layout.{word, end_of, low_at, high_at, message_in}
 use Rattle.words.specs.declared.messages.Found.TheVariants.{At}
 use Rattle.words.specs.messages.Places.{place_below, lows_below, place_of, found_at}
-use Rattle.words.proofs.messages.place_of.Statement.{statement}
-use Rattle.words.proofs.messages.place_of.Tie as tie
+use Rattle.words.proofs.messages.place_of.Goals as goal
 
 -- What is or-ed together is no less than either.
-or-bounds : (a b : ℕ) → (a ≤ bit_or a b) × (b ≤ bit_or a b)
+or_bounds : (a b : ℕ) → (a ≤ bit_or a b) × (b ≤ bit_or a b)
 or_bounds a b = (omega (arith, or_add_and a b, and_le_r a b), omega (arith, or_add_and a b, and_le_l a b))
 
 -- The low word stands in no place from there on.
-low-missing : (w : List ℕ) (x n j : ℕ) → lows_below w x n ≤ j → j < n → word w (low_at j) ≡ x → ⊥
+low_missing : (w : List ℕ) (x n j : ℕ) → lows_below w x n ≤ j → j < n → word w (low_at j) ≡ x → ⊥
 unfolding lows_below
 low_missing w x zero j le lt e = omega arith
 low_missing w x (suc n) j le lt e =
@@ -63,44 +62,25 @@ unfolding found_at
 at_place zero ne = absurd (ne refl)
 at_place (suc k) ne = ap At (let e : suc k - 1 ≡ k = omega arith in e)
 
-returns : tie.Need-returns
+pub returns-then-m-eq0 : goal.returns-then-m-eq0
 unfolding found_at
-returns c = let a = c.before.before.args in rw (no_number a.w.now a.m c.if1.true) refl
+returns-then-m-eq0 c =
+    let a = c.args in rw (no_number a.w.now a.m c.if-m-eq0.true) refl
 
-returns-2 : tie.Need-returns-2
+pub returns-then-past-eq0 : goal.returns-then-past-eq0
 unfolding found_at
-returns-2 c =
-    let l = c.before in
-    let g = l.before in
-    let a = g.before.before.before.args in
-    let none = none_below a.w.now a.m _ (λ j. omega (arith, g.shared-slice-known2.given (low_at j))) (end_of a.w.now) _ (whole _) l.lows-before.ensures c.if2.true in
-    rw (some_number a.w.now a.m g.before.if1.false, none) refl
+returns-then-past-eq0 c =
+    let a = c.args in let none = none_below a.w.now a.m _ (λ j. omega (arith, c.shared_slice_known-2-1.given (low_at j))) (end_of a.w.now) _ (whole _) c.lows_before-past.ensures c.if-past-eq0.true in rw (some_number a.w.now a.m c.if-m-eq0.false, none) refl
 
-returns-3 : tie.Need-returns-3
-returns-3 c =
-    let e = c.before.before.before.before.before in
-    let a = e.before.before.args in
-    c.search-before.ensures ∙ ap found_at (sym (some_number a.w.now a.m e.if1.false))
+pub returns-then-end-past : goal.returns-then-end-past
+returns-then-end-past c =
+    let a = c.args in c.search_before.ensures ∙ ap found_at (sym (some_number a.w.now a.m c.if-m-eq0.false))
 
-returns-4 : tie.Need-returns-4
-returns-4 c =
-    let s = c.before in
-    let l = s.before.before.before in
-    let g = l.before in
-    let a = g.before.before.before.args in
-    let here = last_below a.w.now a.m _ (λ j. omega (arith, g.shared-slice-known2.given (low_at j))) (end_of a.w.now) _ (whole _) l.lows-before.ensures s.before.if3.false
-    s.before.before.if2.false (sym s.number_at.ensures ∙ c.if4.true) in
-    at_place _ s.before.before.if2.false ∙ ap found_at (sym (some_number a.w.now a.m g.before.if1.false ∙ here))
+pub returns-then-number-m : goal.returns-then-number-m
+returns-then-number-m c =
+    let a = c.args in let here = last_below a.w.now a.m _ (λ j. omega (arith, c.shared_slice_known-2-1.given (low_at j))) (end_of a.w.now) _ (whole _) c.lows_before-past.ensures c.if-end-past.false
+    c.if-past-eq0.false (sym c.number_at-number.ensures ∙ c.if-number-m.true) in at_place _ c.if-past-eq0.false ∙ ap found_at (sym (some_number a.w.now a.m c.if-m-eq0.false ∙ here))
 
-returns-5 : tie.Need-returns-5
-returns-5 c =
-    let e = c.before.before.before.before.before.before.before in
-    let a = e.before.before.args in
-    c.search-before2.ensures ∙ ap found_at (sym (some_number a.w.now a.m e.if1.false))
-
-pub place-of-spec : {M : Type 1} → statement M
-place-of-spec =
-    tie.close
-    (tie.spec returns (λ c. search needs) (λ c. search needs) (λ c. search needs) (λ c. search needs) (λ c. search needs) (λ c. search needs) (λ c κs. search needs)
-    (λ c. search needs) returns-2 (λ c κs. search needs) returns-3 (λ c. search needs) (λ c κs. search needs) (λ c. search needs) returns-4 (λ c κs. search needs)
-    returns-5)
+pub returns : goal.returns
+returns c =
+    let a = c.args in c.search_before-2.ensures ∙ ap found_at (sym (some_number a.w.now a.m c.if-m-eq0.false))
