@@ -26,7 +26,7 @@ module _ (lists : Lists) (v : Vectors lists) where
       (λ ne. omega (arith, higher p k j f (omega arith) (omega arith), v.rises p j f (omega arith)))
 
   -- A path that begins later begins earlier too.
-  pub weaker : {a b h : ℕ} (α β : ℕ) → α ≤ β → Path lists a β b h → Path lists a α b h
+  pub weaker : {a : ℕ} (α β : ℕ) {b h : ℕ} → α ≤ β → Path lists a β b h → Path lists a α b h
   weaker α β le (one s lt r) = one s (omega arith) r
   weaker α β le (onward w s le2 r) = onward (weaker α β le w) s le2 r
 
@@ -42,7 +42,7 @@ module _ (lists : Lists) (v : Vectors lists) where
     pub crosses : v.vector q h f < v.vector p g f
 
   -- The far end of a path knows the near end, unless a message on the way crosses at or below the near end.
-  pub known_or_crossing : {a b h : ℕ} (α : ℕ) → Path lists a α b h → (α < v.vector b h a) ⊎ ((c : Crossing a) × (v.vector c.q c.h a ≤ α))
+  pub known_or_crossing : {a : ℕ} (α : ℕ) {b h : ℕ} → Path lists a α b h → (α < v.vector b h a) ⊎ ((c : Crossing a) × (v.vector c.q c.h a ≤ α))
   known_or_crossing {a} α (one {b = b} {g = g} {h = h} {m = m} s lt r) = inl (omega (arith, v.sends a g m s, v.takes b h m a r))
   known_or_crossing {a} α (onward {c = c} {h = h} {b = b} {g = g} {j = j} {m = m} w s le r) = elim (known_or_crossing α w) [
     | inl k ↦ by_bool (ltb α (v.vector b j a))

@@ -1,6 +1,6 @@
 -- `trace::bytes_of` meets its contract, by computation.
 -- Assumes nothing.
-use Rattle.laws.specs.Basics.{refl, rules}
+use Rattle.laws.specs.Basics.{refl}
 use Rattle.model.specs.Trace.{bytes_of_def}
 use Rattle.trace.proofs.bytes_of.Goals as goal
 

@@ -1,6 +1,6 @@
 -- `trace::decode` meets its contract: the test says whether the part has four bytes, and `event_of` the event of its fields.
 -- Assumes nothing.
-use Rattle.laws.specs.Basics.{◌∙◌, rules, eq-eqb, ne_eqb}
+use Rattle.laws.specs.Basics.{◌∙◌, eq-eqb, ne_eqb}
 use Rattle.model.specs.Trace.{decoded}
 use Rattle.trace.specs.Answers.{event_in, event_read}
 use Rattle.trace.proofs.decode.Goals as goal

@@ -1,6 +1,6 @@
 -- `trace::event_of` meets its contract: the arm of the `match` says which case of `eventOf` holds.
 -- Assumes nothing.
-use Rattle.laws.specs.Basics.{rules, ne_eqb}
+use Rattle.laws.specs.Basics.{ne_eqb}
 use Rattle.model.specs.Trace.{event_of_def}
 use Rattle.trace.specs.Answers.{event_read}
 use Rattle.trace.proofs.event_of.Goals as goal
@@ -33,4 +33,4 @@ returns-in-4 c =
 pub returns-in_default : goal.returns-in_default
 unfolding event_of_def event_read
 returns-in_default c =
-    let kind = c.args.r.kind in let others = c.in_default.rest in rw (ne_eqb kind 0 others.0.0.0.0.1, ne_eqb kind 1 others.0.0.0.1, ne_eqb kind 2 others.0.0.1, ne_eqb kind 3 others.0.1, ne_eqb kind 4 others.1)
+    let kind = c.args.r.kind in let others = c.in_default.in_default-own.rest in rw (ne_eqb kind 0 others.0.0.0.0.1, ne_eqb kind 1 others.0.0.0.1, ne_eqb kind 2 others.0.0.1, ne_eqb kind 3 others.0.1, ne_eqb kind 4 others.1)

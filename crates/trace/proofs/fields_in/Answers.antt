@@ -1,6 +1,5 @@
 -- `trace::fields_in` meets its contract: the fields of the word that the bytes are.
 -- Assumes nothing.
-use Rattle.laws.specs.Basics.{rules}
 use Rattle.model.specs.Trace.{fields}
 use Rattle.trace.proofs.fields_in.Goals as goal
 

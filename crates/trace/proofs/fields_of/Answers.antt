@@ -1,6 +1,5 @@
 -- `trace::fields_of` meets its contract, by computation in each case.
 -- Assumes nothing.
-use Rattle.laws.specs.Basics.{rules}
 use Rattle.model.specs.Trace.{fields_of}
 use Rattle.trace.proofs.fields_of.Goals as goal
 

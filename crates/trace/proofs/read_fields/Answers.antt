@@ -1,6 +1,6 @@
 -- `trace::read_fields` meets its contract: the test says whether the part has four bytes.
 -- Assumes nothing.
-use Rattle.laws.specs.Basics.{◌∙◌, rules, eq-eqb, ne_eqb}
+use Rattle.laws.specs.Basics.{◌∙◌, eq-eqb, ne_eqb}
 use Rattle.trace.specs.Answers.{fields_read}
 use Rattle.trace.proofs.read_fields.Goals as goal
 

@@ -1,7 +1,7 @@
 -- `trace::reader::part_after` meets its contract: below a fourth of the length the record's place is the callee's to judge; from there on no whole
 -- record has room after the first byte.
 -- Assumes nothing.
-use Rattle.laws.specs.Basics.{length, rules}
+use Rattle.laws.specs.Basics.{length}
 use Rattle.trace.specs.{Answers.record_at, reader.Reading.record_after_of}
 use Rattle.trace.proofs.{reader.Room.no_room}
 use Rattle.trace.proofs.reader.part_after.Goals as goal

@@ -1,6 +1,6 @@
 -- `theory_recording::spacing::draws::next` meets its contract.
 -- Assumes nothing.
-use Rattle.laws.specs.Basics.{◌≡◌, ℕ, ◌+◌, ◌*◌, ◌%◌, ◌^◌, arith, rules}
+use Rattle.laws.specs.Basics.{◌≡◌, ℕ, ◌+◌, ◌*◌, ◌%◌, ◌^◌, arith}
 use Rattle.theory_recording.specs.spacing.Spacing.{generated}
 use Rattle.theory_recording.proofs.spacing.draws.next.Goals as goal
 
@@ -10,4 +10,4 @@ wraps x r s e h = omega arith
 
 pub returns : goal.returns
 returns c =
-    wraps c.args.x c.low_product.result c.wrapping_add_u32.result c.low_product.ensures c.wrapping_add_u32.ensures
+    wraps c.args.x c.low_product.result c.wrapping_add_u32.result c.low_product.ensures c.wrapping_add_u32.ensures.value

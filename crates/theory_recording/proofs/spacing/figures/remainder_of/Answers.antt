@@ -1,6 +1,6 @@
 -- `theory_recording::spacing::figures::remainder_of` meets its contract.
 -- Assumes nothing.
-use Rattle.laws.specs.Basics.{rules, eq-eqb, ne_eqb}
+use Rattle.laws.specs.Basics.{eq-eqb, ne_eqb}
 use Rattle.theory_recording.specs.spacing.Spacing.{remainder_of_def}
 use Rattle.theory_recording.proofs.spacing.figures.remainder_of.Goals as goal
 
