@@ -1,0 +1,33 @@
+-- `in_place::line::line_on` meets its contract: the list's length, the verdict on the failed set, then the line. Assumes nothing.
+use Rattle.laws.specs.Basics.{◌≡◌, refl, sym, ◌∙◌, false, ◌≤◌, arith, ltb, length, rules, ltb-false}
+use Rattle.admissions.specs.declared.Admission.TheVariants.{Accepted}
+use Rattle.words.specs.Layout.{count_of}
+use Rattle.words.proofs.ViewSound.{sound_words}
+use Rattle.in_place.proofs.{Lining.refused, Lining.line_short, Lining.line_refused, Lining.line_passed}
+use Rattle.in_place.proofs.line.line_on.Goals as goal
+
+pub bounds-w-0 : goal.bounds-w-0
+bounds-w-0 c =
+    omega (arith, (sound_words c.args.w.now c.requires).size)
+
+pub overflow_cast-n : goal.overflow_cast-n
+overflow_cast-n c =
+    omega (arith, c.shared_slice_known-2-1.given 0)
+
+pub returns-then-short : goal.returns-then-short
+unfolding refused
+returns-then-short c =
+    rw (line_short c.args.w.now c.requires c.args.failed c.args.line.now (sym c.is_line_short-short.ensures ∙ c.if-short.true)) (record { w_value = refl; value = refl; line_after = refl })
+
+pub line_within-requires : goal.line_within-requires
+line_within-requires c =
+    (c.requires, refl, ltb-false (length c.args.line.now) (count_of c.args.w.now) ((let long' : let a = c.args in ltb (length a.line.now) (count_of a.w.now) ≡ false = sym c.is_line_short-short.ensures ∙ c.if-short.false in long')))
+
+pub returns-in-Refused : goal.returns-in-Refused
+unfolding refused
+returns-in-Refused c =
+    rw (line_refused c.args.w.now c.requires c.args.failed c.args.line.now ((let long' : let a = c.args in ltb (length a.line.now) (count_of a.w.now) ≡ false = sym c.is_line_short-short.ensures ∙ c.if-short.false in long')) _ (sym c.recovery_admission-admission.ensures ∙ c.in-Refused.is)) (record { w_value = refl; value = refl; line_after = refl })
+
+pub returns-in-Accepted : goal.returns-in-Accepted
+returns-in-Accepted c =
+    rw (line_passed c.args.w.now c.requires c.args.failed c.args.line.now ((let long' : let a = c.args in ltb (length a.line.now) (count_of a.w.now) ≡ false = sym c.is_line_short-short.ensures ∙ c.if-short.false in long')) (sym c.recovery_admission-admission.ensures ∙ (let accepted' : c.recovery_admission-admission.result ≡ Accepted = search rules in accepted'))) (record { w_value = refl; value = c.line_within.ensures.value; line_after = c.line_within.ensures.line_after })
