@@ -8,17 +8,28 @@ ghost use Rattle.machines.specs.Machines.{Ended};
 ghost use Rattle.machine_console.specs.{Consoling.consoling, Lent.has_room_of, Lent.state_of};
 
 use machines::Request;
+use machines::streams::Streams;
+use std::env::Env;
+use std::fs::File;
+use std::rt::Files;
 use words::WORDS;
 
 // Each request is obeyed, and what came of it handed back, until the machine stops.
-fn drive(memory: &mut [u64], words: &mut [u16], input: &mut [u8], out: &mut [u8]) -> Request
+fn drive<R: Env + Files<File = File>>(
+    rt: &R,
+    streams: &mut Streams,
+    memory: &mut [u64],
+    words: &mut [u16],
+    input: &mut [u8],
+    out: &mut [u8],
+) -> Request
     requires { has_room_of (length memory.old) (length words.old) (length input.old) (length out.old) ≡ true }
     ensures { Ended consoling (state_of memory.new words.new input.new out.new) }
 {
     let mut request = machine_console::begin(memory, words, input, out);
     let mut source = machines::standard_input();
     while machines::goes_on(request) {
-        let obeyed = machines::obey(request, source, input, out);
+        let obeyed = machines::obey(rt, streams, request, source, input, out);
         let answer = obeyed.answer;
         let next = obeyed.source;
         source = next;
@@ -27,10 +38,18 @@ fn drive(memory: &mut [u64], words: &mut [u16], input: &mut [u8], out: &mut [u8]
     request
 }
 
-fn main() {
+fn main(rt: HostRuntime) {
+    let mut streams = Streams::new(rt.stdin(), rt.stdout(), rt.stderr());
     let mut memory = [0u64; 4];
     let mut words = [0u16; WORDS];
     let mut input = [0u8; machine_console::CALL_SIZE];
     let mut out = [0u8; machine_console::LONGEST_LINE];
-    drive(&mut memory, &mut words, &mut input, &mut out);
+    drive(
+        &rt,
+        &mut streams,
+        &mut memory,
+        &mut words,
+        &mut input,
+        &mut out,
+    );
 }

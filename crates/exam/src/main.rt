@@ -5,6 +5,8 @@
 #![tactic(auto)]
 
 use crate::act::After;
+use crate::say::Sheet;
+use machines::streams::Streams;
 use model::{DELETIONS, PROCESSES};
 
 // say.rt: text on standard output
@@ -26,130 +28,131 @@ mod disk;
 mod named;
 
 // What a case says of the state that it reaches.
-fn case(number: u64, s: After) {
-    say::title(b"case", number);
-    facts::state(s);
+fn case(sheet: &mut Sheet, number: u64, s: After) {
+    say::title(sheet, b"case", number);
+    facts::state(sheet, s);
 }
 
 // Cases 1 to 6 follow the ten-record example, each after the records that its line of the sheet names. The state after
 // record 4 is handed on: case 7 goes on from it too. The title of case 1 is the first text of all: `main` writes it.
-fn cases_1_to_3() -> After {
+fn cases_1_to_3(sheet: &mut Sheet) -> After {
     let start = act::start(2);
     let first = act::send(start, 0, 1);
-    let second = facts::deliver(first, 1);
-    facts::state(second);
+    let second = facts::deliver(sheet, first, 1);
+    facts::state(sheet, second);
     let third = act::checkpoint(second, 1, DELETIONS);
-    case(2, third);
+    case(sheet, 2, third);
     let fourth = act::checkpoint(third, 0, DELETIONS);
-    case(3, fourth);
+    case(sheet, 3, fourth);
     fourth
 }
 
-fn cases_4_to_6(fourth: After) {
+fn cases_4_to_6(sheet: &mut Sheet, fourth: After) {
     let fifth = act::send(fourth, 1, 0);
-    say::title(b"case", 4);
-    let sixth = facts::deliver(fifth, 2);
-    facts::state(sixth);
+    say::title(sheet, b"case", 4);
+    let sixth = facts::deliver(sheet, fifth, 2);
+    facts::state(sheet, sixth);
     let seventh = act::send(sixth, 0, 1);
-    say::title(b"case", 5);
-    let eighth = facts::deliver(seventh, 3);
-    facts::state(eighth);
+    say::title(sheet, b"case", 5);
+    let eighth = facts::deliver(sheet, seventh, 3);
+    facts::state(sheet, eighth);
     let ninth = act::recover(eighth, 1, DELETIONS, PROCESSES);
-    case(6, ninth);
+    case(sheet, 6, ninth);
 }
 
 // "After 4, recover {1} instead"
-fn case_7(fourth: After) {
-    say::title(b"case", 7);
-    let recovered = facts::recover(fourth, 2);
-    facts::state(recovered);
+fn case_7(sheet: &mut Sheet, fourth: After) {
+    say::title(sheet, b"case", 7);
+    let recovered = facts::recover(sheet, fourth, 2);
+    facts::state(sheet, recovered);
 }
 
 // "Three processes, 0 to 1 sent and delivered, then 1 to 2 sent and delivered"
-fn case_8() {
-    say::title(b"case", 8);
+fn case_8(sheet: &mut Sheet) {
+    say::title(sheet, b"case", 8);
     let start = act::start(3);
     let first = act::send(start, 0, 1);
-    let second = facts::deliver(first, 1);
+    let second = facts::deliver(sheet, first, 1);
     let third = act::send(second, 1, 2);
-    let fourth = facts::deliver(third, 2);
-    facts::state(fourth);
+    let fourth = facts::deliver(sheet, third, 2);
+    facts::state(sheet, fourth);
 }
 
 // The title of a case of two processes, and the state after its first call, a send from 0 to 1.
-fn sent_once(words: &[u8], number: u64) -> After {
-    say::title(words, number);
+fn sent_once(sheet: &mut Sheet, words: &[u8], number: u64) -> After {
+    say::title(sheet, words, number);
     let start = act::start(2);
     act::send(start, 0, 1)
 }
 
 // A recovery of a failed set, and the delivery of message 1 after it.
-fn recovered(sent: After, failed: u16) {
-    let back = facts::recover(sent, failed);
-    let delivered = facts::deliver(back, 1);
-    facts::state(delivered);
+fn recovered(sheet: &mut Sheet, sent: After, failed: u16) {
+    let back = facts::recover(sheet, sent, failed);
+    let delivered = facts::deliver(sheet, back, 1);
+    facts::state(sheet, delivered);
 }
 
 // "Two processes, send 0 to 1, recover {1}: line (1,0)"; document 02: "deliver 1 is then accepted"
-fn case_9() {
-    let sent = sent_once(b"case", 9);
-    recovered(sent, 2);
+fn case_9(sheet: &mut Sheet) {
+    let sent = sent_once(sheet, b"case", 9);
+    recovered(sheet, sent, 2);
 }
 
 // "Forcing whenever the sent mark is set, though nothing carried is newer": process 1 has sent, and message 2 brings it nothing.
-fn mark_2() {
-    let first = sent_once(b"mark", 2);
+fn mark_2(sheet: &mut Sheet) {
+    let first = sent_once(sheet, b"mark", 2);
     let second = act::send(first, 0, 1);
-    let known = facts::deliver(second, 1);
+    let known = facts::deliver(sheet, second, 1);
     let marked = act::send(known, 1, 0);
-    let quiet = facts::deliver(marked, 2);
-    facts::state(quiet);
+    let quiet = facts::deliver(sheet, marked, 2);
+    facts::state(sheet, quiet);
 }
 
 // What a recovery loses, each case by the number of the message that it does: process 0 sends and then rolls back to before its send, or to between two sends.
-fn lost_1() {
-    let sent = sent_once(b"lost", 1);
-    recovered(sent, 1);
+fn lost_1(sheet: &mut Sheet) {
+    let sent = sent_once(sheet, b"lost", 1);
+    recovered(sheet, sent, 1);
 }
 
-fn lost_2() {
-    let first = sent_once(b"lost", 2);
+fn lost_2(sheet: &mut Sheet) {
+    let first = sent_once(sheet, b"lost", 2);
     let stored = act::checkpoint(first, 0, DELETIONS);
     let second = act::send(stored, 0, 1);
-    let recovered = facts::recover(second, 1);
-    let missing = facts::deliver(recovered, 2);
-    let delivered = facts::deliver(missing, 1);
-    facts::state(delivered);
+    let recovered = facts::recover(sheet, second, 1);
+    let missing = facts::deliver(sheet, recovered, 2);
+    let delivered = facts::deliver(sheet, missing, 1);
+    facts::state(sheet, delivered);
 }
 
 // Nobody failed: a sweep that deletes, what it leaves, and after it the delivery of a message that was under way.
-fn sweep_0() {
-    let first = sent_once(b"sweep", 0);
+fn sweep_0(sheet: &mut Sheet) {
+    let first = sent_once(sheet, b"sweep", 0);
     let second = act::checkpoint(first, 1, DELETIONS);
     let third = act::deliver(second, 1, DELETIONS);
     let fourth = act::checkpoint(third, 1, DELETIONS);
     let fifth = act::checkpoint(fourth, 0, DELETIONS);
     let sixth = act::send(fifth, 0, 1);
-    let swept = facts::recover(sixth, 0);
-    facts::state(swept);
-    facts::deliver(swept, 2);
+    let swept = facts::recover(sheet, sixth, 0);
+    facts::state(sheet, swept);
+    facts::deliver(sheet, swept, 2);
 }
 
-fn main() {
-    if !say::begin(b"case 1\n") {
+fn main(rt: HostRuntime) {
+    let mut sheet = Sheet::new(Streams::new(rt.stdin(), rt.stdout(), rt.stderr()));
+    if !say::begin(&mut sheet, b"case 1\n") {
         return;
     }
-    let fourth = cases_1_to_3();
-    cases_4_to_6(fourth);
-    case_7(fourth);
-    case_8();
-    case_9();
-    limits::case_10();
-    mark_2();
-    lost_1();
-    lost_2();
-    sweep_0();
-    disk::disk_1();
-    disk::disk_2();
-    named::note_8();
+    let fourth = cases_1_to_3(&mut sheet);
+    cases_4_to_6(&mut sheet, fourth);
+    case_7(&mut sheet, fourth);
+    case_8(&mut sheet);
+    case_9(&mut sheet);
+    limits::case_10(&mut sheet);
+    mark_2(&mut sheet);
+    lost_1(&mut sheet);
+    lost_2(&mut sheet);
+    sweep_0(&mut sheet);
+    disk::disk_1(&mut sheet);
+    disk::disk_2(&mut sheet);
+    named::note_8(&mut sheet);
 }

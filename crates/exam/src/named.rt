@@ -2,6 +2,7 @@
 ghost use Rattle.laws.specs.Basics.{◌≤◌};
 
 use crate::act::After;
+use crate::say::Sheet;
 use crate::{act, facts, limits, say};
 use model::{CheckpointIndex, DELETIONS, Named, PROCESSES};
 
@@ -60,55 +61,55 @@ fn four(p: usize, i: u16, q: usize, j: u16, r: usize, k: u16, t: usize, l: u16) 
     and(list, t, l)
 }
 
-fn element(c: Named) {
+fn element(sheet: &mut Sheet, c: Named) {
     let index = c.index;
-    say::value(c.process as u64);
-    say::text(b":");
-    say::number(index.0 as u64);
+    say::value(sheet, c.process as u64);
+    say::text(sheet, b":");
+    say::number(sheet, index.0 as u64);
 }
 
 // The list, each as process:index: of up to four, as long as the lists below are.
-fn elements(list: NamedList) {
+fn elements(sheet: &mut Sheet, list: NamedList) {
     let named = list.named;
     let length = list.length;
     if 0 < length {
-        element(named[0]);
+        element(sheet, named[0]);
     }
     if 1 < length {
-        element(named[1]);
+        element(sheet, named[1]);
     }
     if 2 < length {
-        element(named[2]);
+        element(sheet, named[2]);
     }
     if 3 < length {
-        element(named[3]);
+        element(sheet, named[3]);
     }
-    say::end();
+    say::end(sheet);
 }
 
 // The first three indexes of a line.
-fn indexes(line: &[u16; PROCESSES]) {
-    say::value(facts::wide(line[0]));
-    say::value(facts::wide(line[1]));
-    say::value(facts::wide(line[2]));
+fn indexes(sheet: &mut Sheet, line: &[u16; PROCESSES]) {
+    say::value(sheet, facts::wide(line[0]));
+    say::value(sheet, facts::wide(line[1]));
+    say::value(sheet, facts::wide(line[2]));
 }
 
 // A list, and what the call answers: 0 and the line, or the refusal number.
-fn show(s: After, number: u64, list: NamedList) {
-    say::heading(b"named", number);
-    elements(list);
+fn show(sheet: &mut Sheet, s: After, number: u64, list: NamedList) {
+    say::heading(sheet, b"named", number);
+    elements(sheet, list);
     let named = list.named;
     let mut line = [0u16; PROCESSES];
     let outcome = library_calls::through::earliest_among(s.run, named, list.length, &mut line);
     let answer = outcome.answer;
     let summary = listing::summaries::of_line(answer);
     let refused = summary.refused;
-    say::heading(b"earliest", number);
-    say::value(refused as u64);
+    say::heading(sheet, b"earliest", number);
+    say::value(sheet, refused as u64);
     if refused == 0 {
-        indexes(&line);
+        indexes(sheet, &line);
     }
-    say::end();
+    say::end(sheet);
 }
 
 // The state: process 2 keeps three checkpoints, process 1 two, process 0 the last one.
@@ -128,40 +129,40 @@ fn shown() -> After {
 }
 
 // Lists that the call accepts.
-fn accepted(s: After) {
-    show(s, 1, one(0, 2));
-    show(s, 2, one(2, 2));
-    show(s, 3, one(2, 1));
-    show(s, 4, one(1, 1));
-    show(s, 5, one(2, 0));
-    show(s, 6, two(0, 2, 2, 1));
-    show(s, 7, two(2, 2, 0, 2));
-    show(s, 8, three(0, 2, 1, 1, 2, 0));
-    show(s, 9, two(2, 0, 1, 0));
-    show(s, 10, two(1, 1, 2, 1));
-    show(s, 11, three(2, 1, 0, 2, 1, 1));
+fn accepted(sheet: &mut Sheet, s: After) {
+    show(sheet, s, 1, one(0, 2));
+    show(sheet, s, 2, one(2, 2));
+    show(sheet, s, 3, one(2, 1));
+    show(sheet, s, 4, one(1, 1));
+    show(sheet, s, 5, one(2, 0));
+    show(sheet, s, 6, two(0, 2, 2, 1));
+    show(sheet, s, 7, two(2, 2, 0, 2));
+    show(sheet, s, 8, three(0, 2, 1, 1, 2, 0));
+    show(sheet, s, 9, two(2, 0, 1, 0));
+    show(sheet, s, 10, two(1, 1, 2, 1));
+    show(sheet, s, 11, three(2, 1, 0, 2, 1, 1));
 }
 
 // Lists that it refuses, with 20, 19, 18 and 4.
-fn refused(s: After) {
-    show(s, 12, two(1, 1, 2, 2));
-    show(s, 13, two(2, 2, 1, 1));
-    show(s, 14, three(1, 0, 0, 2, 2, 1));
-    show(s, 15, one(0, 1));
-    show(s, 16, one(1, 2));
-    show(s, 17, one(2, 65535));
-    show(s, 18, three(1, 1, 2, 2, 0, 0));
-    show(s, 19, none());
-    show(s, 20, two(1, 1, 1, 1));
-    show(s, 21, three(0, 0, 1, 1, 0, 0));
-    show(s, 22, two(1, 0, 1, 1));
-    show(s, 23, four(0, 2, 1, 1, 2, 1, 0, 2));
-    show(s, 24, four(0, 2, 1, 1, 2, 1, 3, 0));
-    show(s, 25, three(0, 0, 0, 0, 3, 0));
+fn refused(sheet: &mut Sheet, s: After) {
+    show(sheet, s, 12, two(1, 1, 2, 2));
+    show(sheet, s, 13, two(2, 2, 1, 1));
+    show(sheet, s, 14, three(1, 0, 0, 2, 2, 1));
+    show(sheet, s, 15, one(0, 1));
+    show(sheet, s, 16, one(1, 2));
+    show(sheet, s, 17, one(2, 65535));
+    show(sheet, s, 18, three(1, 1, 2, 2, 0, 0));
+    show(sheet, s, 19, none());
+    show(sheet, s, 20, two(1, 1, 1, 1));
+    show(sheet, s, 21, three(0, 0, 1, 1, 0, 0));
+    show(sheet, s, 22, two(1, 0, 1, 1));
+    show(sheet, s, 23, four(0, 2, 1, 1, 2, 1, 0, 2));
+    show(sheet, s, 24, four(0, 2, 1, 1, 2, 1, 3, 0));
+    show(sheet, s, 25, three(0, 0, 0, 0, 3, 0));
 }
 
 // A new run of n processes, and a line list of some length.
-fn earliest_line(n: usize, length: usize)
+fn earliest_line(sheet: &mut Sheet, n: usize, length: usize)
     requires { length ≤ 16 }
 {
     let start = act::start(n);
@@ -176,19 +177,19 @@ fn earliest_line(n: usize, length: usize)
     );
     let answer = outcome.answer;
     let summary = listing::summaries::of_line(answer);
-    limits::with_list(b"earliestline", n, length, summary.refused);
+    limits::with_list(sheet, b"earliestline", n, length, summary.refused);
 }
 
-pub(crate) fn note_8() {
-    say::title(b"note", 8);
+pub(crate) fn note_8(sheet: &mut Sheet) {
+    say::title(sheet, b"note", 8);
     let s = shown();
-    facts::state(s);
-    accepted(s);
-    refused(s);
-    earliest_line(1, 1);
-    earliest_line(1, 0);
-    earliest_line(2, 2);
-    earliest_line(2, 1);
-    earliest_line(16, 16);
-    earliest_line(16, 15);
+    facts::state(sheet, s);
+    accepted(sheet, s);
+    refused(sheet, s);
+    earliest_line(sheet, 1, 1);
+    earliest_line(sheet, 1, 0);
+    earliest_line(sheet, 2, 2);
+    earliest_line(sheet, 2, 1);
+    earliest_line(sheet, 16, 16);
+    earliest_line(sheet, 16, 15);
 }

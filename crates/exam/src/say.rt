@@ -1,69 +1,86 @@
 // Text on standard output: words, numbers, and the shapes of a line. The first write that fails is reported on standard error.
-use libc::{EBADF, STDOUT_FILENO};
+use machines::streams::Streams;
 
-// The first words of all, and whether they are written. If not, that is reported.
-pub(crate) fn begin(words: &[u8]) -> bool {
-    let written = io::write_all(STDOUT_FILENO, words);
-    if !written {
-        os::fail(b"exam: standard output");
-    }
-    written
+// What is printed on. After a write that failed nothing more is written.
+#[derive(Drop)]
+pub(crate) struct Sheet {
+    streams: Streams,
+    lost: bool,
 }
 
-// Reports that a write failed, once: it closes standard output, and every later write fails because it is closed.
-fn report_failure(written: bool) {
-    if !written {
-        if os::errno() != EBADF {
-            os::fail(b"exam: standard output");
-            libc::close(STDOUT_FILENO);
+impl Sheet {
+    pub(crate) fn new(streams: Streams) -> Sheet {
+        Sheet {
+            streams,
+            lost: false,
         }
     }
 }
 
-pub(crate) fn text(words: &[u8]) {
-    report_failure(io::write_all(STDOUT_FILENO, words));
+// The first words of all, and whether they are written. If not, that is reported.
+pub(crate) fn begin(sheet: &mut Sheet, words: &[u8]) -> bool {
+    text(sheet, words);
+    !sheet.lost
 }
 
-pub(crate) fn number(x: u64) {
-    report_failure(io::print_decimal(STDOUT_FILENO, x));
+// Reports that a write failed, once.
+fn report_failure(sheet: &mut Sheet, written: bool) {
+    if !written {
+        sheet.lost = true;
+        sheet.streams.fail(b"exam: standard output");
+    }
+}
+
+pub(crate) fn text(sheet: &mut Sheet, words: &[u8]) {
+    if sheet.lost {
+        return;
+    }
+    let written = sheet.streams.write(words);
+    report_failure(sheet, written);
+}
+
+pub(crate) fn number(sheet: &mut Sheet, x: u64) {
+    let mut digits = [0u8; 20];
+    let end = listing::write_number(&mut digits, 0, x);
+    text(sheet, &digits[..end]);
 }
 
 // A value after a space.
-pub(crate) fn value(x: u64) {
-    text(b" ");
-    number(x);
+pub(crate) fn value(sheet: &mut Sheet, x: u64) {
+    text(sheet, b" ");
+    number(sheet, x);
 }
 
-pub(crate) fn end() {
-    text(b"\n");
+pub(crate) fn end(sheet: &mut Sheet) {
+    text(sheet, b"\n");
 }
 
 // What a line's values are of, as `vector 0:`.
-pub(crate) fn heading(words: &[u8], x: u64) {
-    text(words);
-    value(x);
-    text(b":");
+pub(crate) fn heading(sheet: &mut Sheet, words: &[u8], x: u64) {
+    text(sheet, words);
+    value(sheet, x);
+    text(sheet, b":");
 }
 
 // A line with one value.
-pub(crate) fn fact(words: &[u8], number: u64, x: u64) {
-    heading(words, number);
-    value(x);
-    end();
+pub(crate) fn fact(sheet: &mut Sheet, words: &[u8], number: u64, x: u64) {
+    heading(sheet, words, number);
+    value(sheet, x);
+    end(sheet);
 }
 
 // What begins a case or a part of one: a word and a number, as `case 1`. `mark` is one of the wrong marks on past papers, `lost` and `sweep` are about what a
 // recovery loses and one of an empty failed set, `disk` with its `step`s about the blocks on disk, `note` about a change request.
-pub(crate) fn title(words: &[u8], number: u64) {
-    text(words);
-    value(number);
-    end();
+pub(crate) fn title(sheet: &mut Sheet, words: &[u8], number: u64) {
+    text(sheet, words);
+    value(sheet, number);
+    end(sheet);
 }
 
 // The answer of a call: 0, or the refusal number.
-pub(crate) fn answer(call: &[u8], refused: u8) {
-    text(call);
-    text(b":");
-    value(refused as u64);
-    end();
+pub(crate) fn answer(sheet: &mut Sheet, call: &[u8], refused: u8) {
+    text(sheet, call);
+    text(sheet, b":");
+    value(sheet, refused as u64);
+    end(sheet);
 }

@@ -4,11 +4,11 @@ use Rattle.laws.specs.Basics.{◌≡◌, refl, sym, ◌∙◌, ap, true, false, 
 use Rattle.laws.specs.Truth.{and_no_right}
 use lib.IntN.{ℤ, pos, negsuc}
 use lib.Signed.{lt_z}
-use Rattle.io.specs.Counts.{clamp_len}
+use Rattle.std.proofs.Math.Nat.{min-eq_left}
 use mir.Syntax.{w32}
 use mir.Val.{SFits, of_z}
-use Rattle.machines.specs.Machines.{Answer, Bytes, End, Done, Failed, heard_word, heard_read}
-use Rattle.machines.specs.Forms.{answer_of, taken_of, Between, read_answer, word_answer, from, open_answer}
+use Rattle.machines.specs.Machines.{Bytes, Failed, heard_word, heard_read}
+use Rattle.machines.specs.Forms.{answer_of, taken_of, Between, read_answer, word_answer, from, open_answer, clamp_len}
 use Rattle.machines.specs.declared.Source.{Source}
 use Rattle.machines.specs.declared.Answer as answers
 use Rattle.machines.specs.declared.Answer.TheVariants as answer
@@ -107,3 +107,8 @@ open_done z (negsuc k) source e h = absurd (false≢true (sym h ∙ ap (λ (x : 
 -- A read, by the number that the system returned.
 pub read_came : (a : answers.Answer) (got : ℤ) (size room most : ℕ) → a ≡ read_answer got size → size ≡ clamp_len got room → room ≡ most → (z : ℤ) × (a ≡ read_answer z (clamp_len z most))
 read_came a got size room most is counts whole = (got, is ∙ ap (read_answer got) (counts ∙ ap (λ (k : ℕ). clamp_len got k) whole))
+
+-- A read that brought bytes, no more than there is room for: the number is how many.
+pub read_brought : (a : answers.Answer) (z : ℤ) (size most : ℕ) → a ≡ read_answer z size → z ≡ pos size → size ≤ most → (got : ℤ) × (a ≡ read_answer got (clamp_len got most))
+read_brought a z size most is e fits =
+    (pos size, is ∙ ap (λ (x : ℤ). read_answer x size) e ∙ ap (read_answer (pos size)) (sym (min-eq_left fits)))

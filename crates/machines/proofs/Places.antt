@@ -18,11 +18,8 @@ around_put at most input last h e = (
   drop_put at (at + most) input last (omega arith) h (e ∙ mid_len at (at + most) input h),
 )
 
-pub put_most : (at most : ℕ) (input last : List ℕ) → at + most ≤ length input → length last ≡ length (mid_of at (at + most - at) input)
-    → length (mid_of at (at + most - at) (put_mid at (at + most - at) input last)) ≡ most
-put_most at most input last h e =
-    let after = put_mid at (at + most - at) input last in
-    mid_len at (at + most) after (omega (arith, h, same_len_mid at (at + most - at) input last e)) ∙ omega arith
+pub last_most : (at most : ℕ) (input last : List ℕ) → at + most ≤ length input → length last ≡ length (mid_of at (at + most - at) input) → length last ≡ most
+last_most at most input last h e = e ∙ mid_len at (at + most) input h ∙ omega arith
 
 -- Three lists are long enough, by the test.
 pub long_enough : (a x b y c z : ℕ) → ltb a x || (ltb b y || ltb c z) ≡ false → (x ≤ a) × (y ≤ b) × (z ≤ c)

@@ -2,8 +2,7 @@
 -- that it hands out stand at the front of its buffer `out`.
 -- Assumes nothing.
 use Rattle.laws.specs.Basics.{◌≡◌, Bool, true, false, List, ℕ, zero, suc, ◌+◌, ◌≤◌, eqb, leb, length, take, drop, pick}
-use Rattle.std.specs.Prelude.{ℤ, pos, negsuc}
-use Rattle.io.specs.Counts.{clamp_len}
+use Rattle.std.specs.Prelude.{ℤ, pos, negsuc, min}
 use Rattle.machines.specs.Machines.{Request, Count, Argument, Open, Read, Write, Say, Fail, Stop, Answer, Number, Bytes, End, Done, Failed, Machine}
 use Rattle.machines.specs.declared.{Source.Source, Obeyed.Obeyed}
 use Rattle.machines.specs.declared.Request as requests
@@ -108,6 +107,11 @@ Between taken.Failed least most = Unit {0}
 unfoldable pub read_answer : ℤ → ℕ → answers.Answer
 read_answer (pos k) size = pick (eqb size 0) answer.End (answer.Bytes size)
 read_answer (negsuc k) size = answer.Failed
+
+-- The count of bytes that a call brought, by the number that it returned: none below 0, and no more than there is room for.
+abbrev pub clamp_len : ℤ → ℕ → ℕ
+clamp_len (pos k) most = min k most
+clamp_len (negsuc k) most = 0
 
 -- A word: an error number of 0 says that all of it is there.
 unfoldable pub word_answer : ℤ → ℕ → answers.Answer

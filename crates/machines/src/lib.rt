@@ -4,6 +4,9 @@
 
 #![tactic(auto)]
 
+// streams.rt: what a program holds of the system while it runs
+pub mod streams;
+
 // system.rt: one function for each kind of request
 mod system;
 
@@ -21,6 +24,14 @@ pub mod programs;
 
 ghost use Rattle.laws.specs.Basics.{◌≡◌, length};
 ghost use Rattle.machines.specs.Forms.{goes_on_of, Placed, standard_input, from, Obeys};
+
+use std::env::Env;
+use std::fs::File;
+use std::rt::Files;
+use streams::Streams;
+
+// Standard input's descriptor.
+const STANDARD_INPUT: i32 = 0;
 
 #[derive(Clone, Copy)]
 pub enum Request {
@@ -60,7 +71,7 @@ pub struct Obeyed {
 pub fn standard_input() -> Source
     ensures { result ≡ standard_input }
 {
-    let descriptor = libc::STDIN_FILENO;
+    let descriptor = STANDARD_INPUT;
     Source(descriptor)
 }
 
@@ -88,24 +99,31 @@ fn with_source(source: Source, answer: Answer) -> Obeyed
 }
 
 // Does what a request asks for, and hands back what came of it.
-pub fn obey(request: Request, source: Source, input: &mut [u8], out: &[u8]) -> Obeyed
+pub fn obey<R: Env + Files<File = File>>(
+    rt: &R,
+    streams: &mut Streams,
+    request: Request,
+    source: Source,
+    input: &mut [u8],
+    out: &[u8],
+) -> Obeyed
     requires { Placed request (length input.old) (length out.now) }
     ensures { Obeys request source input.old input.new result }
 {
     match request {
-        Request::Count => with_source(source, system::count(request)),
+        Request::Count => with_source(source, system::count(rt, request)),
         Request::Argument(i, at, most) => with_source(
             source,
-            system::argument(request, i, at, most, input),
+            system::argument(rt, streams, request, i, at, most, input),
         ),
-        Request::Open(size) => system::open(request, size, out, source),
+        Request::Open(size) => system::open(rt, streams, request, size, out, source),
         Request::Read(at, most) => with_source(
             source,
-            system::read(request, at, most, input, source),
+            system::read(streams, request, at, most, input, source),
         ),
-        Request::Write(size) => with_source(source, system::write(request, size, out)),
-        Request::Say(size) => with_source(source, system::say(request, size, out)),
-        Request::Fail(size) => with_source(source, system::fail(request, size, out)),
+        Request::Write(size) => with_source(source, system::write(streams, request, size, out)),
+        Request::Say(size) => with_source(source, system::say(streams, request, size, out)),
+        Request::Fail(size) => with_source(source, system::fail(streams, request, size, out)),
         Request::Stop => with_source(source, Answer::Done),
     }
 }

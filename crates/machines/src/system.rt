@@ -4,8 +4,12 @@
 ghost use Rattle.laws.specs.Basics.{◌≡◌, ◌+◌, ◌≤◌, length};
 ghost use Rattle.machines.specs.Forms.{Around, read_answer, word_answer, done_answer, open_answer, Comes, Fits};
 
+use crate::streams::{EILSEQ, EINVAL, ENAMETOOLONG, Streams};
 use crate::{Answer, Obeyed, Request, Source};
-use libc::{STDERR_FILENO, STDOUT_FILENO};
+use std::env::{Env, FillError};
+use std::fs::File;
+use std::rt::Files;
+use std::{io, str};
 
 // What a number that a read returned comes to, with the count of the bytes that it brought.
 fn read_answer(got: isize, size: usize) -> Answer
@@ -55,61 +59,115 @@ fn open_answer(opened: i32, source: Source) -> Obeyed
     }
 }
 
-pub fn count(request: Request) -> Answer
+// How many words there are: std has them one by one, up to the first that is not there.
+pub fn count<R: Env>(rt: &R, request: Request) -> Answer
     requires { request ≡ Request.Count }
     ensures { Fits request result }
 {
-    Answer::Number(os::arg_count())
+    let mut none = [0u8; 0];
+    for i in 0..usize::MAX {
+        if let Err(FillError::NotPresent) = rt.arg(i, &mut none) {
+            return Answer::Number(i);
+        }
+    }
+    Answer::Number(usize::MAX)
 }
 
-// `arg` sets `errno` to 0 exactly if all of the word is in the buffer.
-pub fn argument(request: Request, i: usize, at: usize, most: usize, input: &mut [u8]) -> Answer
+pub fn argument<R: Env>(
+    rt: &R,
+    streams: &mut Streams,
+    request: Request,
+    i: usize,
+    at: usize,
+    most: usize,
+    input: &mut [u8],
+) -> Answer
     requires { (request ≡ Request.Argument i at most) × (at + most ≤ length input.old) }
     ensures { Around at most input.old input.new × Fits request result }
 {
     let end = at + most;
-    let size = os::arg(i, &mut input[at..end]);
-    word_answer(os::errno(), size)
+    match rt.arg(i, &mut input[at..end]) {
+        Ok(size) => word_answer(0, size),
+        Err(error) => {
+            let number = match error {
+                FillError::NotPresent => EINVAL,
+                FillError::TooLong => ENAMETOOLONG,
+            };
+            streams.failed_by(number);
+            word_answer(number, 0)
+        }
+    }
 }
 
-// The file stays open to the program's end.
-pub fn open(request: Request, size: usize, out: &[u8], source: Source) -> Obeyed
+// A file is opened for reading, if its name is text: std opens no other. It stays open until another is.
+pub fn open<R: Files<File = File>>(
+    rt: &R,
+    streams: &mut Streams,
+    request: Request,
+    size: usize,
+    out: &[u8],
+    source: Source,
+) -> Obeyed
     requires { (request ≡ Request.Open size) × (size ≤ length out.now) }
     ensures { Comes request source result }
 {
-    open_answer(os::open_read(&out[..size]), source)
+    match opened(rt, &out[..size]) {
+        Ok(file) => open_answer(streams.keep(file), source),
+        Err(error) => {
+            streams.failed(error);
+            open_answer(-1, source)
+        }
+    }
 }
 
-pub fn read(request: Request, at: usize, most: usize, input: &mut [u8], source: Source) -> Answer
+fn opened<R: Files<File = File>>(rt: &R, name: &[u8]) -> io::Result<File> {
+    match str::from_utf8(name) {
+        Ok(path) => File::open(rt, path),
+        Err(_) => Err(io::Error::from_raw_os_error(EILSEQ)),
+    }
+}
+
+pub fn read(
+    streams: &mut Streams,
+    request: Request,
+    at: usize,
+    most: usize,
+    input: &mut [u8],
+    source: Source,
+) -> Answer
     requires { (request ≡ Request.Read at most) × (at + most ≤ length input.old) }
     ensures { Around at most input.old input.new × Fits request result }
 {
     let end = at + most;
-    let got = libc::read(source.0, &mut input[at..end]);
-    let size = io::count(got, &input[at..end]);
-    read_answer(got, size)
+    match streams.read(source, &mut input[at..end]) {
+        Ok(size) => read_answer(size as isize, size),
+        Err(error) => {
+            streams.failed(error);
+            read_answer(-1, 0)
+        }
+    }
 }
 
-pub fn write(request: Request, size: usize, out: &[u8]) -> Answer
+pub fn write(streams: &mut Streams, request: Request, size: usize, out: &[u8]) -> Answer
     requires { (request ≡ Request.Write size) × (size ≤ length out.now) }
     ensures { Fits request result }
 {
-    done_answer(io::write_all(STDOUT_FILENO, &out[..size]))
+    done_answer(streams.write(&out[..size]))
 }
 
-pub fn say(request: Request, size: usize, out: &[u8]) -> Answer
+pub fn say(streams: &mut Streams, request: Request, size: usize, out: &[u8]) -> Answer
     requires { (request ≡ Request.Say size) × (size ≤ length out.now) }
     ensures { Fits request result }
 {
-    io::write_all(STDERR_FILENO, &out[..size]);
+    streams.say(&out[..size]);
     Answer::Done
 }
 
-// `os::fail` adds what the system says of the call that failed.
-pub fn fail(request: Request, size: usize, out: &[u8]) -> Answer
+// `Streams::fail` adds what the system says of the call that failed.
+pub fn fail(streams: &mut Streams, request: Request, size: usize, out: &[u8]) -> Answer
     requires { (request ≡ Request.Fail size) × (size ≤ length out.now) }
     ensures { Fits request result }
 {
-    os::fail(&out[..size]);
+    streams.fail(&out[..size]);
     Answer::Done
 }

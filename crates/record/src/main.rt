@@ -9,10 +9,16 @@ ghost use Rattle.machines.specs.Machines.{Ended};
 ghost use Rattle.machine_record.specs.{Machine.machine, Lent.has_room_of, Lent.state_of};
 
 use machines::Request;
+use machines::streams::Streams;
+use std::env::Env;
+use std::fs::File;
+use std::rt::Files;
 use words::WORDS;
 
 // Each request is obeyed, and what came of it handed back, until the machine stops.
-fn drive(
+fn drive<R: Env + Files<File = File>>(
+    rt: &R,
+    streams: &mut Streams,
     memory: &mut [u64],
     words: &mut [u16],
     input: &mut [u8],
@@ -25,7 +31,7 @@ fn drive(
     let mut request = machine_record::begin(memory, words, input, out, lines);
     let mut source = machines::standard_input();
     while machines::goes_on(request) {
-        let obeyed = machines::obey(request, source, input, out);
+        let obeyed = machines::obey(rt, streams, request, source, input, out);
         let answer = obeyed.answer;
         let next = obeyed.source;
         source = next;
@@ -34,11 +40,20 @@ fn drive(
     request
 }
 
-fn main() {
+fn main(rt: HostRuntime) {
+    let mut streams = Streams::new(rt.stdin(), rt.stdout(), rt.stderr());
     let mut memory = [0u64; 6];
     let mut words = [0u16; WORDS];
     let mut input = [0u8; machine_record::INPUT_SIZE];
     let mut out = [0u8; machine_record::BLOCK_LINES];
     let mut lines = [0u8; machine_record::BLOCK_LINES];
-    drive(&mut memory, &mut words, &mut input, &mut out, &mut lines);
+    drive(
+        &rt,
+        &mut streams,
+        &mut memory,
+        &mut words,
+        &mut input,
+        &mut out,
+        &mut lines,
+    );
 }

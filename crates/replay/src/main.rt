@@ -10,17 +10,28 @@ ghost use Rattle.machines.specs.Machines.{Ended};
 ghost use Rattle.machine_replay.specs.{Replaying.replaying, Standing.numbers, Standing.least_input, Standing.state_of};
 
 use machines::Request;
+use machines::streams::Streams;
+use std::env::Env;
+use std::fs::File;
+use std::rt::Files;
 use words::WORDS;
 
 // Each request is obeyed, and what came of it handed back, until the machine stops.
-fn drive(words: &mut [u16], memory: &mut [u64], input: &mut [u8], out: &mut [u8]) -> Request
+fn drive<R: Env + Files<File = File>>(
+    rt: &R,
+    streams: &mut Streams,
+    words: &mut [u16],
+    memory: &mut [u64],
+    input: &mut [u8],
+    out: &mut [u8],
+) -> Request
     requires { (numbers ≤ length memory.old) × (length words.old ≡ state_size) × (least_input ≤ length input.old) × (longest_line ≤ length out.old) }
     ensures { Ended (replaying (length input.old) (length out.old)) (state_of words.new memory.new input.new out.new) }
 {
     let mut request = machine_replay::step::begin(words, memory, input, out);
     let mut source = machines::standard_input();
     while machines::goes_on(request) {
-        let obeyed = machines::obey(request, source, input, out);
+        let obeyed = machines::obey(rt, streams, request, source, input, out);
         let answer = obeyed.answer;
         let next = obeyed.source;
         source = next;
@@ -29,10 +40,18 @@ fn drive(words: &mut [u16], memory: &mut [u64], input: &mut [u8], out: &mut [u8]
     request
 }
 
-fn main() {
+fn main(rt: HostRuntime) {
+    let mut streams = Streams::new(rt.stdin(), rt.stdout(), rt.stderr());
     let mut words = [0u16; WORDS];
     let mut memory = [0u64; 6];
     let mut input = [0u8; 65536];
     let mut out = [0u8; 65536];
-    drive(&mut words, &mut memory, &mut input, &mut out);
+    drive(
+        &rt,
+        &mut streams,
+        &mut words,
+        &mut memory,
+        &mut input,
+        &mut out,
+    );
 }

@@ -9,16 +9,26 @@ ghost use Rattle.machines.specs.Machines.{Ended};
 ghost use Rattle.machine_simulate.specs.{Simulating.simulating, Words.EnoughRoom, Words.state_of};
 
 use machines::Request;
+use machines::streams::Streams;
+use std::env::Env;
+use std::fs::File;
+use std::rt::Files;
 
 // Each request is obeyed, and what came of it handed back, until the machine stops.
-fn drive(memory: &mut [u64], input: &mut [u8], out: &mut [u8]) -> Request
+fn drive<R: Env + Files<File = File>>(
+    rt: &R,
+    streams: &mut Streams,
+    memory: &mut [u64],
+    input: &mut [u8],
+    out: &mut [u8],
+) -> Request
     requires { EnoughRoom (length memory.old) (length input.old) (length out.old) }
     ensures { Ended simulating (state_of memory.new input.new out.new) }
 {
     let mut request = machine_simulate::begin(memory, input, out);
     let mut source = machines::standard_input();
     while machines::goes_on(request) {
-        let obeyed = machines::obey(request, source, input, out);
+        let obeyed = machines::obey(rt, streams, request, source, input, out);
         let answer = obeyed.answer;
         let next = obeyed.source;
         source = next;
@@ -27,9 +37,10 @@ fn drive(memory: &mut [u64], input: &mut [u8], out: &mut [u8]) -> Request
     request
 }
 
-fn main() {
+fn main(rt: HostRuntime) {
+    let mut streams = Streams::new(rt.stdin(), rt.stdout(), rt.stderr());
     let mut memory = [0u64; 8];
     let mut input = [0u8; machine_simulate::LONGEST_WORD];
     let mut out = [0u8; machine_simulate::LONGEST_TEXT];
-    drive(&mut memory, &mut input, &mut out);
+    drive(&rt, &mut streams, &mut memory, &mut input, &mut out);
 }
