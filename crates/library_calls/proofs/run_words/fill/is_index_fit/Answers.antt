@@ -1,0 +1,9 @@
+-- `library_calls::run_words::fill::is_index_fit` meets its contract. Assumes nothing.
+use Rattle.laws.specs.Basics.{rules}
+use Rattle.library_calls.specs.run_words.Fits.{index_fits}
+use Rattle.library_calls.proofs.run_words.fill.is_index_fit.Goals as goal
+
+pub returns : goal.returns
+unfolding index_fits
+returns c =
+    search rules

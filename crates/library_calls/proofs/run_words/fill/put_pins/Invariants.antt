@@ -1,0 +1,11 @@
+-- `library_calls::run_words::fill::put_pins` meets its contract. Assumes nothing.
+use Rattle.laws.specs.Basics.{◌≡◌, refl, ◌-◌, ◌≤◌, arith, length, get_or, length-set, rules}
+use Rattle.laws.specs.{Below.all_and, Loops.all_zero, Search.all_below}
+use Rattle.model.specs.declared.Pin.TheVariants.{Nothing}
+use Rattle.words.specs.Puts.{put_from}
+use Rattle.words.proofs.Reading.{put_none, put_step}
+use Rattle.library_calls.specs.{run_words.Fits.pin_fits, run_words.Filled.pin_word}
+use Rattle.library_calls.proofs.run_words.fill.put_pins.Given as goal
+
+abbrev pub invariant-loop-f : goal.invariant-loop-f
+invariant-loop-f l = (l.f ≤ 16) × (length l.w ≡ length l.initial.w) × (l.all ≡ all_below l.f (λ q. pin_fits (get_or l.pins q Nothing))) × (l.w ≡ put_from l.initial.w l.at l.f (λ q. pin_word (get_or l.pins q Nothing)))

@@ -1,0 +1,27 @@
+-- `library_calls::run_words::read::messages_of` meets its contract. Assumes nothing.
+use Rattle.laws.specs.Basics.{◌≡◌, refl, ◌∙◌, ap, ◌-◌, ◌≤◌, arith, length, replicate, rules}
+use Rattle.laws.specs.{Loops.either, Lists.select, Lists.table, Lists.placed, Prefixes.placed_none}
+use Rattle.model.specs.declared.Message.{Message}
+use Rattle.model.specs.Words.{no_message}
+use Rattle.words.specs.Layout.{end_of, messages_in}
+use Rattle.library_calls.proofs.run_words.Tables.{first_messages, first_messages_used, first_messages_unused}
+use Rattle.library_calls.proofs.run_words.read.messages_of.Goals as goal
+
+pub loop-k-init : goal.loop-k-init
+unfolding select table
+loop-k-init c =
+    (search rules, search rules, refl, ap (λ (x : Message). replicate 64 x) c.no_message-none.ensures ∙ placed_none 64 no_message)
+
+pub loop-k-preserved : goal.loop-k-preserved
+loop-k-preserved c =
+    let l = c.loop-k in let a = c.args in either c.if-x-ne0.branch
+    (λ t.
+    let n = first_messages_used a.w.now l.k l.many l.messages _ (search rules) c.message_at-x.ensures l.invariant.2 l.invariant.3 t.0.taken in (search rules, omega (arith, t.2), t.2 ∙ n.0, t.1 ∙ n.1))
+    (λ t.
+    let n = first_messages_unused a.w.now l.k l.many l.messages _ (search rules) c.message_at-x.ensures l.invariant.2 l.invariant.3 t.0.left in (search rules, omega (arith, t.2), t.2 ∙ n.0, t.1 ∙ n.1))
+
+pub returns : goal.returns
+unfolding messages_in
+returns c =
+    let l = c.loop-k in let e : l.k ≡ end_of c.args.w.now = omega (arith, c.requires.1) in
+    rw e at l.invariant.3

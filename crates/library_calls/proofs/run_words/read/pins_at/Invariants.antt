@@ -1,0 +1,8 @@
+-- `library_calls::run_words::read::pins_at` meets its contract. Assumes nothing.
+use Rattle.laws.specs.Basics.{◌≡◌, refl, ◌∙◌, ◌+◌, ◌-◌, ◌≤◌, arith, rules}
+use Rattle.laws.specs.Loops.{set_below, below_none, step_set, below_all}
+use Rattle.words.specs.Layout.{word, pin_of_def, pins_in}
+use Rattle.library_calls.proofs.run_words.read.pins_at.Given as goal
+
+abbrev pub invariant-loop-f : goal.invariant-loop-f
+invariant-loop-f l = (l.f ≤ 16) × (l.pins ≡ set_below l.f (λ q. pin_of_def (word l.w (l.at + q))) l.initial.pins)

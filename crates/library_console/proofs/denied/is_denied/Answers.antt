@@ -1,0 +1,16 @@
+-- `library_console::denied::is_denied` meets its contract: it is no role, or the table says no.
+-- Assumes nothing.
+use Rattle.laws.specs.Basics.{refl, sym, ap, not, rules}
+use Rattle.theory_roles.specs.Console.{denied}
+use Rattle.library_console.specs.Asked.{denied_as}
+use Rattle.library_console.proofs.denied.is_denied.Goals as goal
+
+pub returns-in-Unknown : goal.returns-in-Unknown
+unfolding denied_as
+returns-in-Unknown c =
+    rw (sym c.claim_of-claim.ensures, c.in-Unknown.is) refl
+
+pub returns-in-As : goal.returns-in-As
+unfolding denied_as denied
+returns-in-As c =
+    rw (sym c.claim_of-claim.ensures, c.in-As.is) (ap not c.may.ensures)

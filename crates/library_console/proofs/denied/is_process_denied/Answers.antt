@@ -1,0 +1,16 @@
+-- `library_console::denied::is_process_denied` meets its contract: it is no role, the table says no, or the caller is not entitled.
+-- Assumes nothing.
+use Rattle.laws.specs.Basics.{refl, sym, rules}
+use Rattle.theory_roles.specs.Console.{denied_process, entitled}
+use Rattle.library_console.specs.Asked.{denied_as}
+use Rattle.library_console.proofs.denied.is_process_denied.Goals as goal
+
+pub returns-in-Unknown : goal.returns-in-Unknown
+unfolding denied_as
+returns-in-Unknown c =
+    rw (sym c.claim_of-claim.ensures, c.in-Unknown.is) refl
+
+pub returns-in-As : goal.returns-in-As
+unfolding denied_as denied_process entitled
+returns-in-As c =
+    rw (sym c.claim_of-claim.ensures, c.in-As.is, sym c.count_of-n.ensures, c.is_entitled-entitled.ensures, c.may-allowed.ensures) refl

@@ -1,0 +1,18 @@
+-- `library_recorder::without_room::checkpoint` meets its contract: the call was made on a copy of the words with lists of its own, and its answer is its refusal, or else 21 is said.
+-- Assumes nothing.
+use Rattle.laws.specs.Basics.{sym, take, replicate, length-take-le, rules}
+use Rattle.words.specs.Layout.{run_of}
+use Rattle.library_recorder.proofs.{record.Scratch.checkpoint_alike, record.Ways.checkpoint_ways}
+use Rattle.library_recorder.proofs.without_room.checkpoint.Goals as goal
+
+pub slice_bounds-checkpoint-end-2 : goal.slice_bounds-checkpoint-end-2
+slice_bounds-checkpoint-end-2 c =
+    let k = c.least-entries in sym (length-take-le k.result (replicate 512 0) k.ensures.1)
+
+pub returns-then-summary-eq0 : goal.returns-then-summary-eq0
+returns-then-summary-eq0 c =
+    let k = c.least-entries in let copy = c.copy_of-copy in let a = c.args in let same = checkpoint_alike (run_of copy.result) (run_of a.w.now) copy.ensures k.result a.size lent k.ensures e a.i in (checkpoint_ways (run_of copy.result) a.i (take k.result (replicate 512 0))).short _ _ c.checkpoint-answer.ensures.value c.of_checkpoint-summary.ensures c.if-summary-eq0.true _ same
+
+pub returns : goal.returns
+returns c =
+    let k = c.least-entries in let copy = c.copy_of-copy in let a = c.args in let same = checkpoint_alike (run_of copy.result) (run_of a.w.now) copy.ensures k.result a.size lent k.ensures e a.i in (checkpoint_ways (run_of copy.result) a.i (take k.result (replicate 512 0))).refused _ _ c.checkpoint-answer.ensures.value c.of_checkpoint-summary.ensures c.if-summary-eq0.false _ same

@@ -1,0 +1,13 @@
+-- `library_replay::record::deliver` meets its contract. Assumes nothing.
+use Rattle.laws.specs.Basics.{sym, ◌∙◌, ap, rules}
+use Rattle.model.specs.Sound.{sound}
+use Rattle.words.specs.Layout.{run_of}
+use Rattle.library_replay.proofs.{Summarised.deliver_performs}
+use Rattle.in_place.proofs.Staying.{calls_keep_sound}
+use Rattle.in_place.specs.Staying.{CallsKeepSound}
+use Rattle.library_replay.proofs.record.deliver.Goals as goal
+
+pub returns : goal.returns
+unfolding CallsKeepSound
+returns c =
+    let a = c.args in let g = c.deliver_on-delivered.ensures in record { performs = deliver_performs (run_of a.w.now) a.m a.deleted.now c.requires.1 g.w_after g.answer_value g.deleted_after c.of_deliver-summary.ensures; sound_value = sym (ap sound g.w_after ∙ (calls_keep_sound a.w.now c.requires.0).deliver a.m a.deleted.now); leaves = g.leaves }
