@@ -9,14 +9,17 @@ use std::io::{Print, Read, Stderr, Stdin, Stdout, Write};
 use std::os::fd::AsRawFd;
 use std::{io, str};
 
-// The system's numbers of errors: a descriptor that no file has, what is not there or is no name, bytes that are no text, a name that is too long.
+// The system's numbers of errors: a descriptor that no file has, what is not there or is no name, a pipe that nobody reads any more, a name that is too long, bytes that
+// are no text.
 const EBADF: i32 = 9;
 
 pub(crate) const EINVAL: i32 = 22;
 
-pub(crate) const EILSEQ: i32 = 84;
+const EPIPE: i32 = 32;
 
 pub(crate) const ENAMETOOLONG: i32 = 36;
+
+pub(crate) const EILSEQ: i32 = 84;
 
 // `error` is 0 until a call fails.
 #[derive(Drop)]
@@ -87,8 +90,12 @@ impl Streams {
         let _ = Print::write_all(&self.errors, bytes);
     }
 
-    // Writes a line to standard error: these bytes, a colon and what the system says of the call that failed last.
+    // Writes a line to standard error: these bytes, a colon and what the system says of the call that failed last. That nobody reads a pipe any more is not said: there a
+    // program ends quietly.
     pub fn fail(&self, what: &[u8]) {
+        if self.error == EPIPE {
+            return;
+        }
         let mut text = [0u8; 128];
         let size = put_error(self.error, &mut text);
         let said = &text[..size];
