@@ -18,7 +18,7 @@ export PART=${PART:-}
 build() {
     local name
     for name in "$@"; do
-        [ -x "$programs/$name" ] || [ -n "${PROGRAMS:-}" ] || rt check "$name" >/dev/null
+        [ -n "${PROGRAMS:-}" ] || "$top/tools/build" program "$name"
         [ -x "$programs/$name" ] || { echo "the program $name is not built"; exit 1; }
     done
     [ -n "${ORACLE:-}" ] || cargo build --release --offline --quiet --manifest-path "$top/tests/oracle/Cargo.toml" || exit 1

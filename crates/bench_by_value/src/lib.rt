@@ -55,8 +55,7 @@ fn apply_by_value(s: Run, trace: &[u8]) -> u64
 }
 
 // The same after a start of n processes with block counts of 1. Where the start is refused, none is accepted.
-#[unsafe(no_mangle)]
-pub extern "C" fn timing_by_value(n: usize, trace: &[u8]) -> u64
+pub fn timing_by_value(n: usize, trace: &[u8]) -> u64
     ensures { result ≡ (timed_trace (start_refusal n ones) n trace.now).accepted }
 {
     let started = library_calls::start::start(n, [1; PROCESSES]);
