@@ -6,12 +6,12 @@ use Rattle.machine_simulate.proofs.size_of.Goals as goal
 
 pub returns-in-Brought : goal.returns-in-Brought
 returns-in-Brought c =
-    let at-taken = c.taken-1 in size_brought c.args.taken c.requires _ at-taken.given.1
+    size_brought c.args.taken c.requires _ c.in-Brought.is
 
 pub returns-in-Ended : goal.returns-in-Ended
 returns-in-Ended c =
-    let at-enum-told = c.enum_told-1 in size_ended c.args.taken c.requires at-enum-told.given.1
+    size_ended c.args.taken c.requires c.in-Ended.is
 
 pub returns-in-Failed : goal.returns-in-Failed
 returns-in-Failed c =
-    let at-enum-told2 = c.enum_told-in-Failed-1 in size_failed c.args.taken c.requires at-enum-told2.given.1
+    size_failed c.args.taken c.requires c.in-Failed.is

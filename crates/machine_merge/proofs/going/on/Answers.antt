@@ -37,6 +37,6 @@ returns-in-6 c =
 
 pub returns-in_default : goal.returns-in_default
 returns-in_default c =
-    let q = c.args.m.phase in let o = c.in_default.rest in led
+    let q = c.args.m.phase in let o = c.in_default.in_default-own.rest in led
     (rest_stops c.args.m _ _ _ (ne_eqb q 1 o.0.0.0.0.0.1) (ne_eqb q 2 o.0.0.0.0.1) (ne_eqb q 3 o.0.0.0.1) (ne_eqb q 4 o.0.0.1) (ne_eqb q 5 o.0.1) (ne_eqb q 6 o.1))
     (c.stop.ensures _ _)

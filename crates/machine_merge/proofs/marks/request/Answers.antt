@@ -47,4 +47,4 @@ returns-in-8 c =
 pub returns-in_default : goal.returns-in_default
 unfolding asks_for
 returns-in_default c =
-    let p = c.args.m.phase in let o = c.in_default.rest in rw (ne_eqb p 1 o.0.0.0.0.0.0.0.1, ne_eqb p 2 o.0.0.0.0.0.0.1, ne_eqb p 3 o.0.0.0.0.0.1, ne_eqb p 4 o.0.0.0.0.1, ne_eqb p 5 o.0.0.0.1, ne_eqb p 6 o.0.0.1, ne_eqb p 7 o.0.1, ne_eqb p 8 o.1) refl
+    let p = c.args.m.phase in let o = c.in_default.in_default-own.rest in rw (ne_eqb p 1 o.0.0.0.0.0.0.0.1, ne_eqb p 2 o.0.0.0.0.0.0.1, ne_eqb p 3 o.0.0.0.0.0.1, ne_eqb p 4 o.0.0.0.0.1, ne_eqb p 5 o.0.0.0.1, ne_eqb p 6 o.0.0.1, ne_eqb p 7 o.0.1, ne_eqb p 8 o.1) refl
