@@ -8,7 +8,7 @@ use Rattle.machine_merge.proofs.going.after_set.Goals as goal
 pub slice_bounds-take_set-end : goal.slice_bounds-take_set-end
 unfolding Between
 slice_bounds-take_set-end c =
-    let b = rw c.in-Brought.is at c.word-taken.ensures.1 in sym (length-take-le c.taken-1.given.0.0 c.args.input.now (omega (arith, b.1, c.requires.0)))
+    let b = rw c.in-Brought.is at c.word-taken.ensures.1 in sym (length-take-le c.in-Brought.size c.args.input.now (omega (arith, b.1, c.requires.0)))
 
 pub returns-in-Brought : goal.returns-in-Brought
 returns-in-Brought c =
