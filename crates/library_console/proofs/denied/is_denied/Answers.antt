@@ -8,9 +8,9 @@ use Rattle.library_console.proofs.denied.is_denied.Goals as goal
 pub returns-in-Unknown : goal.returns-in-Unknown
 unfolding denied_as
 returns-in-Unknown c =
-    rw (sym c.claim_of-claim.ensures, c.in-Unknown.is) refl
+    λ owned. rw (sym c.claim_of-claim.ensures, c.in-Unknown.is) refl
 
 pub returns-in-As : goal.returns-in-As
 unfolding denied_as denied
 returns-in-As c =
-    rw (sym c.claim_of-claim.ensures, c.in-As.is) (ap not c.may.ensures)
+    λ owned. rw (sym c.claim_of-claim.ensures, c.in-As.is) (ap not c.may.ensures)

@@ -11,8 +11,8 @@ slice_bounds-checkpoint-end-2 c =
 
 pub returns-then-summary-eq0 : goal.returns-then-summary-eq0
 returns-then-summary-eq0 c =
-    let k = c.least-entries in let copy = c.copy_of-copy in let a = c.args in let same = checkpoint_alike (run_of copy.result) (run_of a.w.now) copy.ensures k.result a.size lent k.ensures e a.i in (checkpoint_ways (run_of copy.result) a.i (take k.result (replicate 512 0))).short _ _ c.checkpoint-answer.ensures.value c.of_checkpoint-summary.ensures c.if-summary-eq0.true _ same
+    λ lent e. let k = c.least-entries in let copy = c.copy_of-copy in let a = c.args in let same = checkpoint_alike (run_of copy.result) (run_of a.w.now) copy.ensures k.result a.size lent k.ensures e a.i in (checkpoint_ways (run_of copy.result) a.i (take k.result (replicate 512 0))).short _ _ c.checkpoint-answer.ensures.value c.of_checkpoint-summary.ensures c.if-summary-eq0.true _ same
 
 pub returns : goal.returns
 returns c =
-    let k = c.least-entries in let copy = c.copy_of-copy in let a = c.args in let same = checkpoint_alike (run_of copy.result) (run_of a.w.now) copy.ensures k.result a.size lent k.ensures e a.i in (checkpoint_ways (run_of copy.result) a.i (take k.result (replicate 512 0))).refused _ _ c.checkpoint-answer.ensures.value c.of_checkpoint-summary.ensures c.if-summary-eq0.false _ same
+    λ lent e. let k = c.least-entries in let copy = c.copy_of-copy in let a = c.args in let same = checkpoint_alike (run_of copy.result) (run_of a.w.now) copy.ensures k.result a.size lent k.ensures e a.i in (checkpoint_ways (run_of copy.result) a.i (take k.result (replicate 512 0))).refused _ _ c.checkpoint-answer.ensures.value c.of_checkpoint-summary.ensures c.if-summary-eq0.false _ same

@@ -1,0 +1,14 @@
+-- `machine_console::calls::members` meets its contract. Assumes nothing.
+use Rattle.laws.specs.Basics.{refl, rules}
+use Rattle.whole_runs.specs.{Outcomes.line_report, Calls.answered}
+use Rattle.theory_roles.specs.{declared.Operation.TheVariants.Line, Runs.console_answered}
+use Rattle.library_console.specs.Asked.{line_as}
+use Rattle.machine_console.specs.{Made.made_with, Text.answer_text}
+use Rattle.machine_console.proofs.{Replying.replies}
+use Rattle.machine_console.proofs.calls.members.Goals as goal
+
+pub returns : goal.returns
+unfolding line_as made_with console_answered answered answer_text
+returns c =
+    λ pairs.
+    let e = c.line-answer.ensures in replies line_report Line c.args.role c.args.owned c.args.c.caller _ _ _ _ _ pairs _ c.requires e.w_value e.value c.of_line-summary.ensures (λ k n. rw e.line_after refl)
