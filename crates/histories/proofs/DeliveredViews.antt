@@ -1,4 +1,4 @@
--- How a delivery changes the run: one lemma for each view. Where no checkpoint is forced the delivery is `takenIn`, whose views are in TakenInViews.
+-- How a delivery changes the run: one lemma for each view. Where no checkpoint is forced the delivery is `taken_in`, whose views are in TakenInViews.
 use Rattle.laws.specs.Basics.{◌≡◌, sym, ◌∙◌, ap, true, false, [], ℕ, suc, ◌≤◌, ◌<◌, max, arith, by_bool, by_eq}
 use Rattle.histories.proofs.Run.{Ideal, forces, checkpointed, taken_in, delivered, keeps}
 use Rattle.histories.proofs.CheckpointedViews.{checkpointed_n, checkpointed_own, checkpointed_own_other, checkpointed_live, checkpointed_vector_other, checkpointed_transit, checkpointed_receiver, checkpointed_last, checkpointed_keeps_old}

@@ -114,7 +114,7 @@ fn answer_of(many: usize, n: usize, block_counts: &[u32]) -> StartAnswer
 }
 
 // A run of n processes with the block count of each: those at n and above are neither judged nor stored. The words of a refused start are zero; those of another
-// number are left as they were. Where enough is lent, it is document 01's start (`starts-the-same`). Accepted, what is kept and its blocks are right (demand 3).
+// number are left as they were. Where enough is lent, it is document 01's start (`starts_the_same`). Accepted, what is kept and its blocks are right (demand 3).
 pub fn start(w: &mut [u16], n: usize, block_counts: &[u32]) -> StartAnswer
     ensures value { result ≡ (start_outcome_in (length w.old) n block_counts.now).answer }
     ensures w_after { run_of w.new ≡ (start_outcome_in (length w.old) n block_counts.now).run }

@@ -20,7 +20,7 @@ restored_vector w p past = pick (goes_back w p past) (advanced p (vector_in w (s
 unfoldable pub restored_own : List ℕ → ℕ → ℕ → Interval
 restored_own w p past = pick (ltb 0 past && goes_back w p past) (interval_of (word w (stored_at p (past - 1) + p) + 1)) (interval_of (word w (part_at p + p)))
 
--- A place at n or above has no member. The entry that the words hold there is of no use: no pin is for it (`pin-is` of proofs/Recovery).
+-- A place at n or above has no member. The entry that the words hold there is of no use: no pin is for it (`pin_is` of proofs/Recovery).
 unfoldable pub owns_after_of : List ℕ → List ℕ → List Interval
 owns_after_of w pasts = table most_processes (λ p. restored_own w p (get_or pasts p 0))
 

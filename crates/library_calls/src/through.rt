@@ -34,8 +34,7 @@ fn earliest_of(s: Run, copied: Copied, line: &mut [u16]) -> EarliestOutcome
     EarliestOutcome { run: s, answer }
 }
 
-// The earliest consistent line through every named checkpoint: its indexes go to the front of the lent line list. Nothing else changes. The list of named checkpoints is
-// a lent slice of structs, so this function is proved by hand.
+// The earliest consistent line through every named checkpoint: its indexes go to the front of the lent line list. Nothing else changes.
 // Wherever calls from an accepted start led to s, the line is right, and 20 is given only where no consistent line passes through all of them (document 02, Note 8). The
 // line may name deleted checkpoints and live states: it is to be shown, not restarted from.
 pub fn earliest(s: Run, named: &[Named], line: &mut [u16]) -> EarliestOutcome

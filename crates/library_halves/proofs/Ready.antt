@@ -17,7 +17,7 @@ pub read_is : (part : List ℕ) → length part ≡ 4 → fields_read part ≡ f
 unfolding fields_read
 read_is part h = rw (eq-eqb (length part) 4 h)
 
--- What the tests of the code say of `readyAt`.
+-- What the tests of the code say of `ready_at`.
 module _ (l : List HalfEvent) (half : List ℕ) (at : ℕ) (part : List ℕ) (p : part ≡ record_at half (1 + 4 * at)) where
   pub not_ready : (length part ≡ 4 → ⊥) → false ≡ ready_at l half at
   unfolding ready_at
@@ -36,7 +36,7 @@ module _ (l : List HalfEvent) (half : List ℕ) (at : ℕ) (part : List ℕ) (p 
     unfolding ready_at is_ready
     sent_three g h = rw (← p, eq-eqb (length part) 4 four, ← f, ne_eqb x.kind 2 g, eq-eqb x.kind 3 h)
 
--- The cases of `halfEventOf`.
+-- The cases of `half_event_of`.
 module _ (x : Fields) where
   pub half_zero : x.kind ≡ 0 → half_event_of x ≡ if_zero_of x.argument (checkpoint_at x.process)
   unfolding half_event_of

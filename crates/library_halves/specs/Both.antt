@@ -4,7 +4,7 @@ use Rattle.laws.specs.Basics.{Bool, List, [], ◌∷◌}
 use Rattle.model.specs.declared.Refusal.TheVariants.{CountOutsideRange, ListTooShort, NoSuchFailedProcess, NoFirstByte, LeftOverBytes, TooManyRecords, HalvesMismatch}
 use Rattle.model.specs.Refusals.{Rule}
 
--- The rules of `mergeRefusal`, where their tests are given.
+-- The rules of `merge_refusal`, where their tests are given.
 abbrev pub rules_of : Bool → Bool → Bool → Bool → Bool → Bool → Bool → List Rule
 rules_of bad short empty unequal outside left many =
     record { holds = bad; gives = CountOutsideRange }

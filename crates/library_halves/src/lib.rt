@@ -21,7 +21,7 @@ ghost use Rattle.theory_merges.specs.{Halves.OrdersAgree, Merge.merge_outcome, M
 use admissions::Admission;
 use model::MergeAnswer;
 
-// "17": "more than 4,096 records" of a half (mostOfHalf in the specs of theory_merges); the log has room for both.
+// "17": "more than 4,096 records" of a half (most_of_half in the specs of theory_merges); the log has room for both.
 pub const MOST_OF_HALF: usize = 4096;
 
 const LOG: usize = 2 * MOST_OF_HALF;

@@ -35,7 +35,7 @@ count_on : (k : ℕ) (u : ℕ → Bool) → count_below (suc k) (upd u k true) �
 unfolding count_below
 count_on k u = rw (upd_same u k true) (omega (arith, count_same k (upd u k true) u (λ i l. upd_other u k true i (λ d. omega arith))))
 
--- What isUnderWay says of a place.
+-- What is_under_way says of a place.
 under_low : (passing : List ℕ) (last m : ℕ) → is_under_way passing last m ≡ true → (y : ℕ) × (m ≡ suc y) × (y < last)
 unfolding is_under_way
 under_low passing last zero e = absurd (false≢true e)

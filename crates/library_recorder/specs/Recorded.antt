@@ -1,4 +1,4 @@
--- The recorder on the calls in place. `recordedCheckpoint` .. `recordedEarliest` of the crate theory_recording are of the run that the words stand for; here are a start in place
+-- The recorder on the calls in place. `recorded_checkpoint` .. `recorded_earliest` of the crate theory_recording are of the run that the words stand for; here are a start in place
 -- through the recorder, and what a replay of the buffer gives. proofs/Recorded has the theorem.
 -- Assumes nothing.
 use Rattle.laws.specs.Basics.{◌≡◌, List, [], ◌∷◌, ℕ, ltb, length, pick}

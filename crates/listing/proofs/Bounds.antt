@@ -1,4 +1,4 @@
--- No line is longer than `longestLine`: a bound for the buffer that lines are printed into.
+-- No line is longer than `longest_line`: a bound for the buffer that lines are printed into.
 -- Assumes nothing.
 use Rattle.laws.specs.Basics.{◌≡◌, refl, List, [], ◌∷◌, Option, none, some, ℕ, zero, suc, ◌*◌, ◌^◌, ◌≤◌, ◌<◌, arith, eqb, length, get_or, length-append, by_bool}
 use Rattle.whole_runs.specs.{Calls.Reply, Listing.decimal, Listing.value_text, Listing.deletions_text, Listing.accepted_text, Listing.line_text}

@@ -16,7 +16,7 @@ pub mod output;
 // answers.rt: an answer as one number of 64 bits, for callers in a language to which no enum can be handed
 pub mod answers;
 
-// No line of a record has more bytes (longestLine in specs/Lines).
+// No line of a record has more bytes (longest_line in specs/Lines).
 pub const LONGEST_LINE: usize = 3102;
 
 // The value of a line: a hyphen where there is none.

@@ -31,7 +31,7 @@ ghost use Rattle.machine_console.specs.{Consoling.consoling, Consoling.Opening, 
 use machines::{Answer, Request};
 use words::WORDS;
 
-// How many bytes a caller lends: for a call (callSize in specs/Text), and for the longest line (longestLine in specs/Replied).
+// How many bytes a caller lends: for a call (call_size in specs/Text), and for the longest line (longest_line in specs/Replied).
 pub const CALL_SIZE: usize = 8;
 
 pub const LONGEST_LINE: usize = 12000;

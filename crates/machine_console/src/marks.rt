@@ -25,7 +25,7 @@ pub const FAILING: u64 = 5;
 
 pub const STOPPED: u64 = 0;
 
-// No script is so long (mostCalls in specs/Consoling).
+// No script is so long (most_calls in specs/Consoling).
 pub const MOST_CALLS: u64 = 9000000000000000000;
 
 // The last of them, counted from 0.

@@ -25,7 +25,7 @@ const FAILING: u64 = 2;
 
 const STOPPED: u64 = 3;
 
-// How many bytes a caller lends: for the first byte and one record more than a trace may have (mostRead in specs/Judging), and for the longest line (longestVerdict in
+// How many bytes a caller lends: for the first byte and one record more than a trace may have (most_read in specs/Judging), and for the longest line (longest_verdict in
 // specs/Text).
 pub const MOST_READ: usize = 1 + 4 * (MOST_JUDGED + 1);
 

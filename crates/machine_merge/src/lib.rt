@@ -16,7 +16,7 @@ ghost use Rattle.machine_merge.specs.Words.{EnoughRoom, lacks_room_of, state_of,
 
 use machines::{Answer, Request};
 
-// How many bytes a caller lends: for the longest word, and for both halves in one trace (longestTrace in specs/Words).
+// How many bytes a caller lends: for the longest word, and for both halves in one trace (longest_trace in specs/Words).
 pub const LONGEST_WORD: usize = marks::LONGEST_WORD;
 
 pub const LONGEST_TRACE: usize = 2 * marks::MOST_KEPT;

@@ -38,7 +38,7 @@ pub const FAILING: u64 = 8;
 
 pub const STOPPED: u64 = 0;
 
-// The bytes of the longest word that the system hands to a program, and of the longest name of a file (longestWord, longestName in specs/Merging).
+// The bytes of the longest word that the system hands to a program, and of the longest name of a file (longest_word, longest_name in specs/Merging).
 pub const LONGEST_WORD: usize = 131072;
 
 pub const LONGEST_NAME: usize = 4096;
@@ -46,7 +46,7 @@ pub const LONGEST_NAME: usize = 4096;
 // The bytes of a first byte and of one record more than a half may have.
 const TOO_MANY_RECORDS: usize = 1 + 4 * (MOST_OF_HALF + 1);
 
-// So many bytes of a half are kept at most (mostKept in specs/Buffered): those, and what may be left over.
+// So many bytes of a half are kept at most (most_kept_of in specs/Buffered): those, and what may be left over.
 pub const MOST_KEPT: usize = TOO_MANY_RECORDS + 3;
 
 // Where the second file's name stands, after the first one and what is kept of the first half; and the second half.
@@ -54,7 +54,7 @@ const SECOND_NAME: usize = LONGEST_NAME + MOST_KEPT;
 
 pub const SECOND_HALF: usize = SECOND_NAME + LONGEST_NAME;
 
-// A half is read no further than this (mostCounted in specs/Buffered).
+// A half is read no further than this (most_counted in specs/Buffered).
 pub const MOST_COUNTED: usize = 9000000000000000000;
 
 // A phase that is about no file.

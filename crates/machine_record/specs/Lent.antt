@@ -11,7 +11,7 @@ use Rattle.machine_record.specs.Machine.{Position, State, counting, naming, begi
 use Rattle.machines.specs.declared.Request as requests
 use Rattle.machines.specs.declared.Request.TheVariants as request
 
--- As many bytes as are kept of a record, and a word or a block after them; and as many as the longest trace has (`longEnough`).
+-- As many bytes as are kept of a record, and a word or a block after them; and as many as the longest trace has (`long_enough`).
 abbrev pub input_size : ℕ
 input_size = 4_099
 

@@ -68,7 +68,7 @@ fn end_refused(out: &mut [u8], number: u64, x: u64) -> Marks
     }
 }
 
-// The largest buffer that an argument may ask for (largestBuffer in specs/Machine).
+// The largest buffer that an argument may ask for (largest_buffer in specs/Machine).
 const LARGEST_BUFFER: u64 = 1048576;
 
 fn after_count(out: &mut [u8], answer: Answer) -> Marks

@@ -25,15 +25,15 @@ ghost use Rattle.machine_record.specs.{Machine.machine, Machine.counting, Lent.h
 use machines::{Answer, Request};
 use words::WORDS;
 
-// The bytes of the longest word that is looked at, and of a block (longestWord, blockBytes in specs/Machine).
+// The bytes of the longest word that is looked at, and of a block (longest_word, block_bytes in specs/Machine).
 const LONGEST_WORD: usize = 4096;
 
 const BLOCK_BYTES: usize = 4096;
 
-// No line of a record is longer (longestLine in specs/Played).
+// No line of a record is longer (longest_line in specs/Played).
 const LONGEST_LINE: usize = 66;
 
-// How many bytes a caller lends: for a word or a block after what is kept of a record (inputSize in specs/Lent), and for the lines of a block (blockLines in
+// How many bytes a caller lends: for a word or a block after what is kept of a record (input_size in specs/Lent), and for the lines of a block (block_lines in
 // specs/Played).
 pub const INPUT_SIZE: usize = BLOCK_BYTES + 3;
 

@@ -36,7 +36,7 @@ const FAILING: u64 = 8;
 
 const STOPPED: u64 = 9;
 
-// How many bytes a caller lends: for the longest word that is looked at (longestWord in specs/Simulating), and for the longest text (longestText in specs/Text).
+// How many bytes a caller lends: for the longest word that is looked at (longest_word in specs/Simulating), and for the longest text (longest_text in specs/Text).
 pub const LONGEST_WORD: usize = 65536;
 
 pub const LONGEST_TEXT: usize = 260;

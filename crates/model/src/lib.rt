@@ -6,25 +6,25 @@
 // The limits, each once. specs/Words has every one of them under the same sentence, by the name in parentheses. That the two are equal follows from the contracts: a call
 // equals its definition, so it goes by the definition's number.
 //
-// "A run has n processes, 1 to 16, numbered from 0." (mostProcesses) A row has so many places, whatever n is.
+// "A run has n processes, 1 to 16, numbered from 0." (most_processes) A row has so many places, whatever n is.
 pub const PROCESSES: usize = 16;
 
-// "At most 64 messages are under way." (mostUnderWay)
+// "At most 64 messages are under way." (most_under_way)
 pub const MESSAGES: usize = 64;
 
-// "Message numbers run from 1 to 1,000,000" (mostMessages)
+// "Message numbers run from 1 to 1,000,000" (most_messages)
 pub const LAST_MESSAGE: u32 = 1000000;
 
-// "Vector entries are 0 to 65,535." (mostInterval)
+// "Vector entries are 0 to 65,535." (most_interval)
 pub const LAST_INTERVAL: u16 = 65535;
 
-// Note 5: "block counts from 1 to 65,535" (mostBlockCount)
+// Note 5: "block counts from 1 to 65,535" (most_block_count)
 pub const MOST_BLOCK_COUNT: u32 = 65535;
 
-// Note 5: "16 .. for a stored checkpoint that would take written past 1,000,000,000,000,000" (mostBlocks)
+// Note 5: "16 .. for a stored checkpoint that would take written past 1,000,000,000,000,000" (most_blocks)
 pub const MOST_BLOCKS: u64 = 1000000000000000;
 
-// "3: deletion list below 2 × n × n entries": so many do for every run (mostDeletions).
+// "3: deletion list below 2 × n × n entries": so many do for every run (most_deletions).
 pub const DELETIONS: usize = 2 * PROCESSES * PROCESSES;
 
 // An interval's number. "An interval number is never read as a checkpoint index": the two are types of their own.

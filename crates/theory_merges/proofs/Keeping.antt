@@ -53,7 +53,7 @@ not_stopped : (r : Refusal) (T : List HalfEvent) → stopped r ≡ took T → �
 not_stopped r T e = let z : ◌≡◌ {A = ℕ} 0 1 = cc in omega arith
 
 module _ (n set : ℕ) where
-  -- What a step is, by its nextRecord.
+  -- What a step is, by its next_record.
   pub next_out : (taken : List HalfEvent) (T : List HalfEvent) (next : HalfEvent → List Fields → List Fields → Taken) (o : Next) → on_next n set taken next o ≡ took T
       → (side : Bool) × (r : Fields) × (a b : List Fields) × (o ≡ next_is side r a b) × (on_record n set taken side (λ x. next x a b) (half_event_of r) ≡ took T)
   unfolding on_next

@@ -91,7 +91,7 @@ histories_are_trackable n block_counts ok calls =
     reached_trackable n (state_after (start_outcome n block_counts).run calls) (surviving n block_counts (transcript (start_outcome n block_counts).run calls)) (run_after (begun n block_counts) calls)
     (reachable_reached n block_counts ok calls)
 
--- Document 01's `comesBefore`, on the vectors that a state of the run holds, is causal precedence in the surviving history.
+-- Document 01's `comes_before`, on the vectors that a state of the run holds, is causal precedence in the surviving history.
 module _ (n : ℕ) (s : Run) (h : Surviving) (v : EntriesAreRight n s h) (f a p : ℕ) (hf : f < n) (near : a < checkpoints (h.lists f)) (hp : p < n) where
   by_vector : (k : ℕ) (entries : List Interval) → k ≤ checkpoints (h.lists p) → entry entries f ≡ record { 0 = v.vector p k f }
       → (Before h.lists f a p k → comes_before (record { 0 = a }) f entries ≡ true) × (comes_before (record { 0 = a }) f entries ≡ true → Before h.lists f a p k)

@@ -44,7 +44,7 @@ Before lists a α b β = Precedes lists a (place_of α (lists a)) b (place_of β
 
 -- Definition 3. A zigzag path that begins after checkpoint α of a, and whose last message b receives in interval h. Interval g of an event is the number
 -- of checkpoints before it in its list (`StandsIn e g l`), so an event after checkpoint α has an interval above α, and one before state β one of at most β
--- (`interval-after`, `interval-before` in proofs/Placing say this by places).
+-- (`interval_after`, `interval_before` in proofs/Placing say this by places).
 pub data Path (lists : Lists) (a α : ℕ) : ℕ → ℕ → Type 0 where
   -- "(i) p_a sends m_1 after c"
   one : {b g h m : ℕ} → StandsIn (sent m) g (lists a) → α < g → StandsIn (received m) h (lists b) → Path lists a α b h

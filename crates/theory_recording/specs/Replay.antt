@@ -29,7 +29,7 @@ unfoldable pub performed : Run → List Event → List EventReply
 performed s [] = []
 performed s (e ∷ l) = record { event = e; reply = (call s (call_of e)).reply } ∷ performed (call s (call_of e)).run l
 
--- The replies of a replay, one for each record; `stateAfterRecords` is the state after it.
+-- The replies of a replay, one for each record; `state_after_records` is the state after it.
 unfoldable pub replies_of : Run → List ℕ → List Reply
 replies_of s [] = []
 replies_of s (a ∷ []) = []

@@ -8,7 +8,7 @@ pub mod draws;
 // figures.rt: the numbers of the result
 pub mod figures;
 
-// Note 10: "a spacing k of 1 to 1,000, 1 to 30,000 steps" (mostSpacing, mostSteps in specs/Spacing).
+// Note 10: "a spacing k of 1 to 1,000, 1 to 30,000 steps" (most_spacing, most_steps in specs/Spacing).
 pub const MOST_SPACING: usize = 1000;
 
 pub const MOST_STEPS: usize = 30000;

@@ -3,5 +3,5 @@
 
 #![tactic(auto)]
 
-// "The program ends after record 1,000,000,000 and reads nothing past it." (mostRecords in specs/Listing)
+// "The program ends after record 1,000,000,000 and reads nothing past it." (most_records in specs/Listing)
 pub const MOST_RECORDS: u64 = 1000000000;

@@ -43,7 +43,7 @@ part_is w part unused d p lt room = get_d_table 16 (λ q. pick (ltb q (count_of 
 pub part_past : {A : Type 0} (w : List ℕ) (part : ℕ → A) (unused d : A) (p : ℕ) → count_of w ≤ p → p < 16 → get_or (of_processes w part unused) p d ≡ unused
 part_past w part unused d p le room = get_d_table 16 (λ q. pick (ltb q (count_of w)) (part q) unused) p d room ∙ rw (le-ltb p (count_of w) le)
 
--- Kept checkpoints: 16 places, unused from `keptCount` on; where every index below `keptCount` is there, they are the checkpoints in their places.
+-- Kept checkpoints: 16 places, unused from `kept_count_of_def` on; where every index below `kept_count_of_def` is there, they are the checkpoints in their places.
 pub kept_length : (w : List ℕ) (p : ℕ) → length (kept_in w p) ≡ 16
 unfolding kept_in
 kept_length w p = length_table 16 _

@@ -11,7 +11,7 @@ ghost use Rattle.words.specs.Puts.{puts, row_put, vector_put, zero_put, puts2, p
 
 use model::{CheckpointIndex, Interval, MESSAGES, PROCESSES, Pin};
 
-// How many words a state is: 6,464 (stateSize in specs/Layout).
+// How many words a state is: 6,464 (state_size in specs/Layout).
 pub const WORDS: usize = places::CARRIED + places::ROW * MESSAGES;
 
 // places.rt: where each thing stands

@@ -47,7 +47,7 @@ module _ (w : List ℕ) (size : length w ≡ 6464) (i : ℕ) (room : i < 16) (r 
   unfolding AllPinned
   pinned_still pins n most all k lt = ap (is_pinned pins) (pinned_checkpoint k (omega arith)) ∙ all k lt
 
-  -- Then it is collected, `stay` of `keptCount` stay, and what follows leaves x of them.
+  -- Then it is collected, `stay` of `kept_count_of_def` stay, and what follows leaves x of them.
   module _ (kept_count_of_def : ℕ) (is : kept_count_of_def ≡ word w (kept_count_at_of i)) (most : kept_count_of_def ≤ 16) (v : List ℕ) (stay : ℕ) (c : Collected pinned i kept_count_of_def (pin_row r) v stay) where
     v_low : (q : ℕ) → q < 80 + 320 * i → word v q ≡ word w q
     v_low q less = c.only.lower q (omega arith) ∙ pinned_low q less

@@ -5,7 +5,7 @@
 -- Clauses: the clauses of document 01 about one process, each as a test of the words.
 -- OneProcess, Messages: all that is asked of one process, and of the messages.
 -- Whole: the theorem.
---   verdict : (w) → ((k) → word w k ≤ 65535) → soundIn w ≡ sound (runOf w)
+--   verdict : (w) → ((k) → word w k ≤ 65535) → sound_in w ≡ sound (run_of w)
 -- Judging: what the functions find, part by part.
 pub mod Laws
 pub mod Parts

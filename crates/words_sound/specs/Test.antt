@@ -45,7 +45,7 @@ kept_tests w p k =
 unfoldable pub kept_fits : List ℕ → ℕ → ℕ → Bool
 kept_fits w p k = all_of (kept_tests w p k)
 
--- "Every pin is none or names a kept one", one of the first `keptCount`.
+-- "Every pin is none or names a kept one", one of the first `kept_count_of_def`.
 unfoldable pub pin_fits : List ℕ → ℕ → ℕ → ℕ → Bool
 pin_fits w p kept_count_of_def f = eqb (pin_in w p f) 0 || any_below kept_count_of_def (λ k. eqb (pin_in w p f) (index_in_of w p k))
 

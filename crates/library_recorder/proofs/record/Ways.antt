@@ -30,8 +30,8 @@ small i j h = ltb-true j 33554432 (and_right (ltb i 16) (ltb j 33554432) h)
 pub has_room : {v : Bool} (size place : ℕ) → v ≡ not (ltb (size - place) 4) → not v ≡ false → place + 4 ≤ size
 has_room {v} size place e h = omega (arith, ltb-false (size - place) 4 (not-true (ltb (size - place) 4) (sym e ∙ not-false v h)))
 
--- The ways of one call: what follows where the number of its answer's summary x, or the room for its record, tells which it is. `reportOf` is an answer's report, `asLent` an
--- outcome that leaves the state and the lists as they came, `refusedBy` the answer of a refusal.
+-- The ways of one call: what follows where the number of its answer's summary x, or the room for its record, tells which it is. `report_of` is an answer's report, `asLent` an
+-- outcome that leaves the state and the lists as they came, `refused_by` the answer of a refusal.
 pub record Ways {A : Type 0} (own : Option Refusal) (e : Event) (outcome : Outcome A) (report_of : A → Report) (recorded : List ℕ → ℕ → Recorded A) (asLent : A → Outcome A) (refused_by : Refusal → A) : Type 0 where
   pub fine : (answer : A) (x : Summary) → answer ≡ outcome.answer → report_in x ≡ report_of answer → x.refused ≡ 0 → fits e ≡ true
   -- With room the record of an accepted call is appended.

@@ -32,4 +32,4 @@ request-requires c =
 
 pub returns : goal.returns
 returns c =
-    let before = (let room' : has_room_of (length c.args.memory.now) (length c.args.words.now) (length c.args.input.now) (length c.args.out.now) (length c.args.lines.now) ≡ true = sym c.has_room.ensures ∙ c.if-not-has_room.false in room') in let next = c.on-next in let same = next.auto in let put = c.put in step_stands _ _ _ _ _ _ _ _ _ _ _ _ _ _ before c.read-m.ensures ((let inside' : in_bounds_of c.read-m.result (length c.args.out.now) ≡ true = sym c.in_bounds.ensures ∙ c.if-not-in_bounds.false in inside')) (room_kept _ _ _ _ _ _ _ _ _ _ put.auto.memory same.1.0 same.1.1.0 same.1.1.1.0 same.1.1.1.1.0 before) put.ensures next.ensures c.request.ensures
+    let before = (let room' : has_room_of (length c.args.memory.now) (length c.args.words.now) (length c.args.input.now) (length c.args.out.now) (length c.args.lines.now) ≡ true = sym c.has_room.ensures ∙ c.if-not-has_room.false in room') in let next = c.on-next in let put = c.put in step_stands _ _ _ _ _ _ _ _ _ _ _ _ _ _ before c.read-m.ensures ((let inside' : in_bounds_of c.read-m.result (length c.args.out.now) ≡ true = sym c.in_bounds.ensures ∙ c.if-not-in_bounds.false in inside')) (room_kept _ _ _ _ _ _ _ _ _ _ put.auto.memory c.on-next.auto.words c.on-next.auto.input c.on-next.auto.out c.on-next.auto.lines before) put.ensures next.ensures c.request.ensures

@@ -2,7 +2,7 @@
 ghost use Rattle.laws.specs.Basics.{◌≡◌, Option, ℕ, ◌≤◌};
 ghost use Rattle.machines.specs.programs.Numbers.{grown, stands_for, number_in, at_most, no_number};
 
-// The greatest number of 32 bits; what stands for every greater one, and for a word that is no number (tooGreat, noNumber in specs/Numbers).
+// The greatest number of 32 bits; what stands for every greater one, and for a word that is no number (too_great, no_number in specs/Numbers).
 pub const GREATEST: u64 = 4294967295;
 
 pub const TOO_GREAT: u64 = GREATEST + 1;

@@ -1,4 +1,4 @@
--- `trace::event_of` meets its contract: the arm of the `match` says which case of `eventOf` holds.
+-- `trace::event_of` meets its contract: the arm of the `match` says which case of `event_of_def` holds.
 -- Assumes nothing.
 use Rattle.laws.specs.Basics.{ne_eqb}
 use Rattle.model.specs.Trace.{event_of_def}

@@ -1,4 +1,4 @@
--- `trace::if_zero` meets its contract: the test says which case of `ifZero` holds.
+-- `trace::if_zero` meets its contract: the test says which case of `if_zero_of` holds.
 -- Assumes nothing.
 use Rattle.laws.specs.Basics.{◌≡◌, refl, sym, none, ℕ, zero, suc}
 use Rattle.model.specs.declared.Event.{Event}

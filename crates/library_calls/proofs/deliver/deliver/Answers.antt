@@ -1,11 +1,8 @@
 -- `library_calls::deliver::deliver` meets its contract: what the call in place says of words that were filled from the state, it says of the state. Demand 3 is the theorem
 -- of `whole_runs`.
 -- Assumes nothing.
-use Rattle.laws.specs.Basics.{not, ◌≡◌, ◌∙◌, ap, true, ℕ, [], ◌∷◌, inl, inr, arith, rules}
-use denote.Enum.Declared.{tag_of}
-use types.Run.{OneOf}
-use Rattle.model.specs.contracts.DeliverAnswer.{the_type}
-use Rattle.model.specs.declared.{DeliverAnswer.DeliverAnswer, DeliverAnswer.TheVariants.Refused, Refusal.TheVariants.UnsoundState, Run.Run}
+use Rattle.laws.specs.Basics.{not, ◌≡◌, ◌∙◌, ap, true, rules}
+use Rattle.model.specs.declared.{Run.Run}
 use Rattle.model.specs.Sound.{sound}
 use Rattle.words.specs.Layout.{run_of}
 use Rattle.whole_runs.specs.Outcomes.{deliver_outcome}
@@ -13,14 +10,6 @@ use Rattle.whole_runs.proofs.{Unsound.deliver_unsound, WholeRuns.deliver_promise
 use Rattle.library_calls.proofs.{run_words.Sizes.sizes, Stepping.deliver_small}
 use Rattle.library_calls.proofs.Changing.{sound_small, small_readable, over_unsound, within, says, stays, accepted}
 use Rattle.library_calls.proofs.deliver.deliver.Goals as goal
-
--- Variants 1 and 2 are those of an accepted call.
-one_or_two : (OneOf (1 ∷ 2 ∷ []) 0) → ⊥
-one_or_two (inl e) = omega (arith, e)
-one_or_two (inr e) = omega (arith, e)
-
-not_refused : (answer : DeliverAnswer) → OneOf (1 ∷ 2 ∷ []) (tag_of the_type answer) → answer ≡ Refused UnsoundState → ⊥
-not_refused answer keys refused = one_or_two (rw refused at keys)
 
 pub returns-then-not-few : goal.returns-then-not-few
 returns-then-not-few c =
@@ -33,10 +22,10 @@ fill-requires c =
 pub read-run-requires : goal.read-run-requires
 read-run-requires c =
     let a = c.args in small_readable _ (deliver_outcome a.s a.m a.deleted.now).run ((let after' : let a = c.args in run_of c.deliver-delivered.new.w ≡ (deliver_outcome a.s a.m a.deleted.now).run = let a = c.args in c.deliver-delivered.ensures.w_after ∙ ap (λ (x : Run). (deliver_outcome x a.m a.deleted.now).run) (c.fill.ensures.1 ((let whole' : sound c.args.s ≡ true = let a = c.args in let d = a.deleted.now in accepted a.s _ c.fill.ensures (λ x. (deliver_outcome x a.m d).answer) _ (λ t e. (deliver_unsound t e a.m d).1.0) _ c.deliver-delivered.ensures.answer_value
-    (not_refused _ c.in_default.is) in whole'))) in after'))
+    (c.in_default.not-Refused _) in whole'))) in after'))
     (deliver_small a.s ((let whole' : sound c.args.s ≡ true = let a = c.args in let d = a.deleted.now in accepted a.s _ c.fill.ensures (λ x. (deliver_outcome x a.m d).answer) _ (λ t e. (deliver_unsound t e a.m d).1.0) _ c.deliver-delivered.ensures.answer_value
-    (not_refused _ c.in_default.is) in whole')) (sound_small a.s (sizes a.s _ c.well_formed.0) ((let whole' : sound c.args.s ≡ true = let a = c.args in let d = a.deleted.now in accepted a.s _ c.fill.ensures (λ x. (deliver_outcome x a.m d).answer) _ (λ t e. (deliver_unsound t e a.m d).1.0) _ c.deliver-delivered.ensures.answer_value
-    (not_refused _ c.in_default.is) in whole'))) a.m a.deleted.now)
+    (c.in_default.not-Refused _) in whole')) (sound_small a.s (sizes a.s _ c.well_formed.0) ((let whole' : sound c.args.s ≡ true = let a = c.args in let d = a.deleted.now in accepted a.s _ c.fill.ensures (λ x. (deliver_outcome x a.m d).answer) _ (λ t e. (deliver_unsound t e a.m d).1.0) _ c.deliver-delivered.ensures.answer_value
+    (c.in_default.not-Refused _) in whole'))) a.m a.deleted.now)
 
 pub shape_of-deleted-in-Refused : goal.shape_of-deleted-in-Refused
 shape_of-deleted-in-Refused c =
@@ -71,7 +60,7 @@ shape_of-deleted-in_default c =
 pub returns-in_default : goal.returns-in_default
 returns-in_default c =
     let a = c.args in let run = c.read-run.ensures ∙ (let after' : let a = c.args in run_of c.deliver-delivered.new.w ≡ (deliver_outcome a.s a.m a.deleted.now).run = let a = c.args in c.deliver-delivered.ensures.w_after ∙ ap (λ (x : Run). (deliver_outcome x a.m a.deleted.now).run) (c.fill.ensures.1 ((let whole' : sound c.args.s ≡ true = let a = c.args in let d = a.deleted.now in accepted a.s _ c.fill.ensures (λ x. (deliver_outcome x a.m d).answer) _ (λ t e. (deliver_unsound t e a.m d).1.0) _ c.deliver-delivered.ensures.answer_value
-    (not_refused _ c.in_default.is) in whole'))) in after') in record {
+    (c.in_default.not-Refused _) in whole'))) in after') in record {
       run_value = run;
       answer_value = ((let said' : let a = c.args in (c.deliver-delivered.result.answer ≡ (deliver_outcome a.s a.m a.deleted.now).answer) × (c.deliver-delivered.result.rose ≡ (deliver_outcome a.s a.m a.deleted.now).rose) × (c.deliver-delivered.new.deleted ≡ (deliver_outcome a.s a.m a.deleted.now).deleted) = let a = c.args in let d = a.deleted.now in let g = c.deliver-delivered.ensures in let from = c.fill.ensures in (
         g.answer_value ∙ says a.s _ from (λ x. (deliver_outcome x a.m d).answer) _ (λ t e. (deliver_unsound t e a.m d).1.0),

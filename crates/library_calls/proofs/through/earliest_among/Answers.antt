@@ -1,6 +1,6 @@
 -- `library_calls::through::earliest_among` meets its contract: the list at the front of the array is copied, and the function on what was copied does the rest.
 -- Assumes nothing.
-use Rattle.laws.specs.Basics.{take, rules}
+use Rattle.laws.specs.Basics.{take}
 use Rattle.whole_runs.proofs.WholeRuns.{earliest_promise}
 use Rattle.words_line.specs.earliest.Copying.{IsCopy}
 use Rattle.library_calls.proofs.through.earliest_among.Goals as goal

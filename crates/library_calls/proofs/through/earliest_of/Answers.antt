@@ -30,7 +30,7 @@ module _ (s : Run) (w numbers : List ℕ) (end : ℕ) (l : List Named) (line : L
   run_is left = by_bool (sound s) (λ e. sym (from.1 e) ∙ left ∙ ap (λ (x : Outcome LineAnswer). x.run) (same_outcome e)) (λ e. (earliest_unsound s e l line).0)
 
 pub returns-then-not-few : goal.returns-then-not-few
-returns-then-not-few c =
+returns-then-not-few c l e =
     let a = c.args in let g = earliest_unsound a.s (over_unsound a.s _ c.are_counts_fit-few.ensures (ap not c.if-not-few.true)) l a.line.now in (g.0, g.1.0, g.1.1)
 
 pub fill-requires : goal.fill-requires
@@ -42,7 +42,7 @@ slice_bounds-earliest-end-2 c =
     c.pairs_of-pairs.ensures.end_in_bounds
 
 pub returns : goal.returns
-returns c =
+returns c l e =
     let a = c.args in let line = a.line.now in let g = c.earliest-answer.ensures in let r = c.pairs_of-pairs.result in let from = c.fill.ensures in let same = c.pairs_of-pairs.ensures.same_line l e in (
       run_is a.s _ r.numbers r.end l line from same g.w_value,
       g.value ∙ says_through a.s _ r.numbers r.end l line from same (λ x. x.answer) _ (λ t u m. (earliest_unsound t u m line).1.0),

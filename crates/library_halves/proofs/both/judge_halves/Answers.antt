@@ -1,4 +1,4 @@
--- `library_halves::both::judge_halves` meets its contract: the tests are those of `mergeRefusal`.
+-- `library_halves::both::judge_halves` meets its contract: the tests are those of `merge_refusal`.
 -- Assumes nothing.
 use Rattle.laws.specs.Basics.{◌∙◌}
 use Rattle.library_halves.proofs.{Rules.rules_are}

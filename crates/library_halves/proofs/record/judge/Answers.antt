@@ -1,4 +1,4 @@
--- `library_halves::record::judge` meets its contract: the arm of the `match` says which case of `halfEventOf` holds.
+-- `library_halves::record::judge` meets its contract: the arm of the `match` says which case of `half_event_of` holds.
 -- Assumes nothing.
 use Rattle.laws.specs.Basics.{rules, refl, ◌∙◌, inl, inr}
 use Rattle.theory_merges.specs.Merge.{on_record}

@@ -5,7 +5,7 @@ use Rattle.machine_console.proofs.making.make_with.Goals as goal
 
 pub write_line-requires : goal.write_line-requires
 write_line-requires c =
-    let p = c.requires in let k = c.call-replied.auto in (omega (arith, pairs_few _ c.args.c _ p.2, k.1.1.0), omega (arith, line_few _ c.args.c _ p.3, k.1.1.1.0), omega (arith, p.4))
+    let p = c.requires in (omega (arith, pairs_few _ c.args.c _ p.2, c.call-replied.auto.pairs), omega (arith, line_few _ c.args.c _ p.3, c.call-replied.auto.line), omega (arith, p.4))
 
 pub returns : goal.returns
 returns c =

@@ -12,6 +12,12 @@ unfolding Between
 overflow_add-end c =
     let b = rw c.in-Brought.is at c.word-taken.ensures.1 in omega (arith, b.1, c.requires.1)
 
+pub slice_bounds-take_size-end : goal.slice_bounds-take_size-end
+unfolding Between
+slice_bounds-take_size-end c =
+    let b = rw c.in-Brought.is at c.word-taken.ensures.1 in
+    omega (arith, b.1, c.requires.0, c.requires.1)
+
 pub take_size-requires : goal.take_size-requires
 take_size-requires c =
     c.requires.2

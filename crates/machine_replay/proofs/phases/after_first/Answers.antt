@@ -19,11 +19,11 @@ empty-size-requires c =
 pub returns-in-Brought : goal.returns-in-Brought
 unfolding opened taken_of Between
 returns-in-Brought c =
-    let told = c.enum_told-1.given in let some = (rw told.1 at c.read-taken.ensures.1).0 in c.begin_run.ensures ∙ rw (
+    let some = (rw c.in-Brought.is at c.read-taken.ensures.1).0 in c.begin_run.ensures ∙ rw (
       (let heard_as' : (form : takens.Taken) → c.read-taken.result ≡ form
           → heard_read 1 (answer_of c.args.answer c.args.p.buffered c.args.input.now) ≡ taken_of form c.args.p.buffered c.args.input.now = λ form e. c.read-taken.ensures.0 c.args.p.buffered c.args.input.now (omega (arith, enough_input _ _ _ c.requires.0, c.requires.1))
-          ∙ ap (λ (x : takens.Taken). taken_of x c.args.p.buffered c.args.input.now) e in heard_as') _ told.1,
-      first_byte told.0.0 c.args.p.buffered c.args.input.now some,
+          ∙ ap (λ (x : takens.Taken). taken_of x c.args.p.buffered c.args.input.now) e in heard_as') _ c.in-Brought.is,
+      first_byte _ c.args.p.buffered c.args.input.now some,
     )
 
 pub returns-in-Ended : goal.returns-in-Ended

@@ -14,7 +14,7 @@ refuse-size-requires c =
 pub returns-in-Refused : goal.returns-in-Refused
 unfolding begun
 returns-in-Refused c =
-    let started = c.start-answer in let answer = c.answer-1.given in let printed = c.refuse-size in let refused = start_refuses _ c.args.n (enough_words _ _ _ c.requires) started.result started.ensures.value answer.0.0 answer.1 in rw (c.with_text.ensures, refused) (printed_ending started.new.w c.args.input.now c.args.out.now _ printed.new.out printed.result (rw started.auto.w c.requires)
+    let started = c.start-answer in let printed = c.refuse-size in let refused = start_refuses _ c.args.n (enough_words _ _ _ c.requires) started.result started.ensures.value c.in-Refused.why c.in-Refused.is in rw (c.with_text.ensures, refused) (printed_ending started.new.w c.args.input.now c.args.out.now _ printed.new.out printed.result (rw started.auto.w c.requires)
     printed.ensures.0 printed.ensures.1 printed.auto.out)
 
 pub returns-in-Started : goal.returns-in-Started

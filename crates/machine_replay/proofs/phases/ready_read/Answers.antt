@@ -37,7 +37,7 @@ end-size-requires c =
 pub returns-in-Brought : goal.returns-in-Brought
 unfolding form.Between holding comes_to Lying read_state filled taken_of
 returns-in-Brought c =
-    let room = length ((c.args.out.now)) in let account = c.taken-1.given in let more = account.0.0 in let few = (rw account.1 at c.read-taken.ensures.1).1 in let lies : Lies (holding ((c.args.p)) more) ((c.args.words.now)) ((c.args.input.now)) ((c.args.out.now)) = record {
+    let room = length ((c.args.out.now)) in let more = c.in-Brought.more in let few = (rw c.in-Brought.is at c.read-taken.ensures.1).1 in let lies : Lies (holding ((c.args.p)) more) ((c.args.words.now)) ((c.args.input.now)) ((c.args.out.now)) = record {
       room = c.requires.0.room;
       few = ((let in_lists' : Inside ((c.args.p)) (length ((c.args.input.now))) (length ((c.args.out.now))) = inside_out ((c.args.p)) (length ((c.args.input.now))) (length ((c.args.out.now))) c.requires.0.there in in_lists')).few;
       within = omega (arith, few, c.fill_to.ensures, (let few_buffered' : ((c.args.p)).buffered < 4 = (((let in_lists' : Inside ((c.args.p)) (length ((c.args.input.now))) (length ((c.args.out.now))) = inside_out ((c.args.p)) (length ((c.args.input.now))) (length ((c.args.out.now))) c.requires.0.there in in_lists')).front (λ e. omega (arith, c.requires.1))).0 in few_buffered'), ((let in_lists' : Inside ((c.args.p)) (length ((c.args.input.now))) (length ((c.args.out.now))) = inside_out ((c.args.p)) (length ((c.args.input.now))) (length ((c.args.out.now))) c.requires.0.there in in_lists')).few, enough_input _ _ _ c.requires.0.room);
@@ -46,7 +46,7 @@ returns-in-Brought c =
           ∙ ap (onward room) (more_buffered ((c.args.p)) ((c.args.words.now)) ((c.args.input.now)) ((let at_front' : ((c.args.p)).from ≡ 0 = (((let in_lists' : Inside ((c.args.p)) (length ((c.args.input.now))) (length ((c.args.out.now))) = inside_out ((c.args.p)) (length ((c.args.input.now))) (length ((c.args.out.now))) c.requires.0.there in in_lists')).front (λ e. omega (arith, c.requires.1))).1 in at_front')) ((let in_lists' : Inside ((c.args.p)) (length ((c.args.input.now))) (length ((c.args.out.now))) = inside_out ((c.args.p)) (length ((c.args.input.now))) (length ((c.args.out.now))) c.requires.0.there in in_lists')).bytes more)
           ∙ sym (ap (filled room ((between_in ((c.args.p)) ((c.args.words.now)) ((c.args.input.now))))) ((let heard_as' : (form : takens.Taken) → c.read-taken.result ≡ form
           → heard_read (most_to_read (length ((c.args.input.now))) ((between_in ((c.args.p)) ((c.args.words.now)) ((c.args.input.now))))) (answer_of c.args.answer ((c.args.p)).buffered ((c.args.input.now))) ≡ taken_of form ((c.args.p)).buffered ((c.args.input.now)) = λ form e. let fits : ((c.args.p)).buffered + (c.fill_to.result - ((c.args.p)).buffered) ≤ length ((c.args.input.now)) = omega (arith, c.fill_to.ensures, ((let in_lists' : Inside ((c.args.p)) (length ((c.args.input.now))) (length ((c.args.out.now))) = inside_out ((c.args.p)) (length ((c.args.input.now))) (length ((c.args.out.now))) c.requires.0.there in in_lists')).few, (let few_buffered' : ((c.args.p)).buffered < 4 = (((let in_lists' : Inside ((c.args.p)) (length ((c.args.input.now))) (length ((c.args.out.now))) = inside_out ((c.args.p)) (length ((c.args.input.now))) (length ((c.args.out.now))) c.requires.0.there in in_lists')).front (λ e. omega (arith, c.requires.1))).0 in few_buffered'), enough_input _ _ _ c.requires.0.room) in
-          rw (← ((let most_is' : c.fill_to.result - ((c.args.p)).buffered ≡ most_to_read (length ((c.args.input.now))) ((between_in ((c.args.p)) ((c.args.words.now)) ((c.args.input.now)))) = ap (λ (k : ℕ). k - ((c.args.p)).buffered) c.fill_to.ensures ∙ most_same ((c.args.p)) ((c.args.words.now)) ((c.args.input.now)) ((let at_front' : ((c.args.p)).from ≡ 0 = (((let in_lists' : Inside ((c.args.p)) (length ((c.args.input.now))) (length ((c.args.out.now))) = inside_out ((c.args.p)) (length ((c.args.input.now))) (length ((c.args.out.now))) c.requires.0.there in in_lists')).front (λ e. omega (arith, c.requires.1))).1 in at_front')) ((let in_lists' : Inside ((c.args.p)) (length ((c.args.input.now))) (length ((c.args.out.now))) = inside_out ((c.args.p)) (length ((c.args.input.now))) (length ((c.args.out.now))) c.requires.0.there in in_lists')).bytes in most_is'))) (c.read-taken.ensures.0 ((c.args.p)).buffered ((c.args.input.now)) fits ∙ ap (λ (f : takens.Taken). taken_of f ((c.args.p)).buffered ((c.args.input.now))) e) in heard_as') _ account.1));
+          rw (← ((let most_is' : c.fill_to.result - ((c.args.p)).buffered ≡ most_to_read (length ((c.args.input.now))) ((between_in ((c.args.p)) ((c.args.words.now)) ((c.args.input.now)))) = ap (λ (k : ℕ). k - ((c.args.p)).buffered) c.fill_to.ensures ∙ most_same ((c.args.p)) ((c.args.words.now)) ((c.args.input.now)) ((let at_front' : ((c.args.p)).from ≡ 0 = (((let in_lists' : Inside ((c.args.p)) (length ((c.args.input.now))) (length ((c.args.out.now))) = inside_out ((c.args.p)) (length ((c.args.input.now))) (length ((c.args.out.now))) c.requires.0.there in in_lists')).front (λ e. omega (arith, c.requires.1))).1 in at_front')) ((let in_lists' : Inside ((c.args.p)) (length ((c.args.input.now))) (length ((c.args.out.now))) = inside_out ((c.args.p)) (length ((c.args.input.now))) (length ((c.args.out.now))) c.requires.0.there in in_lists')).bytes in most_is'))) (c.read-taken.ensures.0 ((c.args.p)).buffered ((c.args.input.now)) fits ∙ ap (λ (f : takens.Taken). taken_of f ((c.args.p)).buffered ((c.args.input.now))) e) in heard_as') _ c.in-Brought.is));
       lying = rw c.with_more.ensures lies;
     }
 

@@ -25,7 +25,7 @@ after-q-requires c =
 
 pub request_of-requires : goal.request_of-requires
 request_of-requires c =
-    let same = c.after-q.auto in rw (same.1.0, same.1.1.0, same.1.1.1.0) ((let holds' : Holds ((c.load-p.result)) c.args.words.now c.args.input.now c.args.out.now = record { room = sym c.is_room_enough.ensures ∙ c.if-not-is_room_enough.false; there = sym c.is_inside.ensures ∙ c.if-not-is_inside.false } in holds')).room
+    rw (c.after-q.auto.words, c.after-q.auto.input, c.after-q.auto.out) ((let holds' : Holds ((c.load-p.result)) c.args.words.now c.args.input.now c.args.out.now = record { room = sym c.is_room_enough.ensures ∙ c.if-not-is_room_enough.false; there = sym c.is_inside.ensures ∙ c.if-not-is_inside.false } in holds')).room
 
 pub returns : goal.returns
 returns c =

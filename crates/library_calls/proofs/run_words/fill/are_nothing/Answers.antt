@@ -1,6 +1,6 @@
 -- `library_calls::run_words::fill::are_nothing` meets its contract. Assumes nothing.
-use Rattle.laws.specs.Basics.{◌≡◌, refl, ◌&&◌, ◌-◌, ◌≤◌, drop, rules}
-use Rattle.laws.specs.{Rows.every_step, Rows.every_end, Tests.every}
+use Rattle.laws.specs.Basics.{refl, rules}
+use Rattle.laws.specs.{Rows.every_step, Rows.every_end}
 use Rattle.model.specs.declared.Pin.TheVariants.{Nothing}
 use Rattle.model.specs.Sound.{is_nothing_of, nothing_from}
 use Rattle.library_calls.proofs.run_words.fill.are_nothing.Goals as goal

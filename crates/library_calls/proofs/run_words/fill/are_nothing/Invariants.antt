@@ -1,8 +1,7 @@
 -- `library_calls::run_words::fill::are_nothing` meets its contract. Assumes nothing.
-use Rattle.laws.specs.Basics.{◌≡◌, refl, ◌&&◌, ◌-◌, ◌≤◌, drop, rules}
-use Rattle.laws.specs.{Rows.every_step, Rows.every_end, Tests.every}
-use Rattle.model.specs.declared.Pin.TheVariants.{Nothing}
-use Rattle.model.specs.Sound.{is_nothing_of, nothing_from}
+use Rattle.laws.specs.Basics.{◌≡◌, ◌&&◌, ◌≤◌, drop}
+use Rattle.laws.specs.{Tests.every}
+use Rattle.model.specs.Sound.{is_nothing_of}
 use Rattle.library_calls.proofs.run_words.fill.are_nothing.Given as goal
 
 abbrev pub invariant-loop-f : goal.invariant-loop-f

@@ -1,5 +1,4 @@
 -- `library_calls::run_words::fill::is_message_unused` meets its contract. Assumes nothing.
-use Rattle.laws.specs.Basics.{rules}
 use Rattle.model.specs.Sound.{unused_message}
 use Rattle.library_calls.proofs.run_words.fill.is_message_unused.Goals as goal
 

@@ -1,9 +1,7 @@
 -- `library_calls::run_words::fill::is_zero` meets its contract. Assumes nothing.
-use Rattle.laws.specs.Basics.{◌≡◌, refl, ◌∙◌, ◌-◌, ◌≤◌, arith, eqb, rules}
+use Rattle.laws.specs.Basics.{◌≡◌, ◌≤◌, eqb}
 use Rattle.laws.specs.Search.{all_below}
 use Rattle.model.specs.Words.{entry}
-use Rattle.words_sound.proofs.rows.Ors.{or_step}
-use Rattle.library_calls.proofs.{run_words.Tests.zero_all}
 use Rattle.library_calls.proofs.run_words.fill.is_zero.Given as goal
 
 abbrev pub invariant-loop-f : goal.invariant-loop-f

@@ -1,5 +1,5 @@
 -- `library_calls::run_words::fill::put_message` meets its contract. Assumes nothing.
-use Rattle.laws.specs.Basics.{◌∙◌, arith, length-set, rules}
+use Rattle.laws.specs.Basics.{◌∙◌, arith, length-set}
 use Rattle.words.proofs.Reading.{set_is_put}
 use Rattle.library_calls.proofs.run_words.fill.put_message.Goals as goal
 

@@ -1,7 +1,7 @@
 -- `library_calls::run_words::fill::put_messages` meets its contract. Assumes nothing.
-use Rattle.laws.specs.Basics.{◌≡◌, refl, ◌∙◌, ◌-◌, ◌≤◌, arith, length, get_or, rules}
-use Rattle.laws.specs.{Below.all_and, Loops.iter, Loops.iter_none, Loops.iter_more, Loops.all_zero, Search.all_below}
-use Rattle.library_calls.specs.{run_words.Fits.past_messages, run_words.Fits.one_fits, run_words.Fits.messages_fit_of, run_words.Filled.messages_filled}
+use Rattle.laws.specs.Basics.{◌≡◌, ◌≤◌, length, get_or}
+use Rattle.laws.specs.{Loops.iter, Search.all_below}
+use Rattle.library_calls.specs.{run_words.Fits.past_messages, run_words.Fits.one_fits, run_words.Filled.messages_filled}
 use Rattle.library_calls.proofs.run_words.fill.put_messages.Given as goal
 
 abbrev pub invariant-loop-k : goal.invariant-loop-k

@@ -1,5 +1,5 @@
 -- `library_calls::run_words::fill::put_one` meets its contract. Assumes nothing.
-use Rattle.laws.specs.Basics.{ap, not, rules}
+use Rattle.laws.specs.Basics.{ap, not}
 use Rattle.library_calls.proofs.run_words.Steps.{denied, granted, one_refused, one_put, one_unused}
 use Rattle.library_calls.proofs.{run_words.Tests.message_words}
 use Rattle.library_calls.proofs.run_words.fill.put_one.Goals as goal

@@ -1,8 +1,7 @@
 -- `library_calls::run_words::fill::put_pins` meets its contract. Assumes nothing.
-use Rattle.laws.specs.Basics.{◌≡◌, refl, ◌-◌, ◌≤◌, arith, length, get_or, length-set, rules}
-use Rattle.laws.specs.{Below.all_and, Loops.all_zero, Search.all_below}
+use Rattle.laws.specs.Basics.{◌≡◌, refl, arith, get_or, length-set, rules}
+use Rattle.laws.specs.{Below.all_and, Loops.all_zero}
 use Rattle.model.specs.declared.Pin.TheVariants.{Nothing}
-use Rattle.words.specs.Puts.{put_from}
 use Rattle.words.proofs.Reading.{put_none, put_step}
 use Rattle.library_calls.specs.{run_words.Fits.pin_fits, run_words.Filled.pin_word}
 use Rattle.library_calls.proofs.run_words.fill.put_pins.Goals as goal

@@ -1,9 +1,8 @@
 -- `library_calls::run_words::fill::put_pins` meets its contract. Assumes nothing.
-use Rattle.laws.specs.Basics.{◌≡◌, refl, ◌-◌, ◌≤◌, arith, length, get_or, length-set, rules}
-use Rattle.laws.specs.{Below.all_and, Loops.all_zero, Search.all_below}
+use Rattle.laws.specs.Basics.{◌≡◌, ◌≤◌, length, get_or}
+use Rattle.laws.specs.{Search.all_below}
 use Rattle.model.specs.declared.Pin.TheVariants.{Nothing}
 use Rattle.words.specs.Puts.{put_from}
-use Rattle.words.proofs.Reading.{put_none, put_step}
 use Rattle.library_calls.specs.{run_words.Fits.pin_fits, run_words.Filled.pin_word}
 use Rattle.library_calls.proofs.run_words.fill.put_pins.Given as goal
 

@@ -1,5 +1,5 @@
 -- `library_calls::run_words::fill::put_place` meets its contract. Assumes nothing.
-use Rattle.laws.specs.Basics.{ap, not, rules}
+use Rattle.laws.specs.Basics.{ap, not}
 use Rattle.library_calls.proofs.run_words.Steps.{denied, granted, place_refused, place_put, place_unused}
 use Rattle.library_calls.proofs.run_words.fill.put_place.Goals as goal
 

@@ -1,5 +1,5 @@
 -- `library_calls::run_words::fill::put_process` meets its contract. Assumes nothing.
-use Rattle.laws.specs.Basics.{◌∙◌, arith, length-set, rules}
+use Rattle.laws.specs.Basics.{◌∙◌, arith, length-set}
 use Rattle.library_calls.proofs.{run_words.Steps.process_put}
 use Rattle.library_calls.proofs.run_words.fill.put_process.Goals as goal
 

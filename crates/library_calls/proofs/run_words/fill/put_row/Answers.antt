@@ -1,5 +1,4 @@
 -- `library_calls::run_words::fill::put_row` meets its contract. Assumes nothing.
-use Rattle.laws.specs.Basics.{rules}
 use Rattle.library_calls.proofs.run_words.Steps.{row_refused, row_put, row_unused_lem}
 use Rattle.library_calls.proofs.run_words.fill.put_row.Goals as goal
 

@@ -1,7 +1,7 @@
 -- `library_calls::run_words::fill::put_rows` meets its contract. Assumes nothing.
-use Rattle.laws.specs.Basics.{◌≡◌, refl, ◌∙◌, false, [], ◌-◌, ◌≤◌, arith, length, get_or, rules}
-use Rattle.laws.specs.{Below.all_and, Loops.iter, Loops.iter_none, Loops.iter_more, Loops.all_zero, Search.all_below}
-use Rattle.library_calls.specs.{run_words.Fits.row_fits_of, run_words.Fits.rows_fit_of, run_words.Filled.rows_filled}
+use Rattle.laws.specs.Basics.{◌≡◌, false, [], ◌≤◌, length, get_or}
+use Rattle.laws.specs.{Loops.iter, Search.all_below}
+use Rattle.library_calls.specs.{run_words.Fits.row_fits_of, run_words.Filled.rows_filled}
 use Rattle.library_calls.proofs.run_words.fill.put_rows.Given as goal
 
 abbrev pub invariant-loop-p : goal.invariant-loop-p

@@ -1,5 +1,5 @@
 -- `library_calls::run_words::fill::word_of_index` meets its contract. Assumes nothing.
-use Rattle.laws.specs.Basics.{arith, rules, eq-eqb, ne_eqb}
+use Rattle.laws.specs.Basics.{arith, eq-eqb, ne_eqb}
 use Rattle.library_calls.specs.run_words.Fits.{index_fits}
 use Rattle.library_calls.proofs.run_words.fill.word_of_index.Goals as goal
 

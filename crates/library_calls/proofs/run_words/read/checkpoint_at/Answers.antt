@@ -1,5 +1,4 @@
 -- `library_calls::run_words::read::checkpoint_at` meets its contract. Assumes nothing.
-use Rattle.laws.specs.Basics.{rules}
 use Rattle.words.specs.Layout.{checkpoint_in}
 use Rattle.library_calls.proofs.run_words.read.checkpoint_at.Goals as goal
 

@@ -1,5 +1,4 @@
 -- `library_calls::run_words::read::is_kept` meets its contract. Assumes nothing.
-use Rattle.laws.specs.Basics.{rules}
 use Rattle.words.specs.Layout.{is_kept_in}
 use Rattle.library_calls.proofs.run_words.read.is_kept.Goals as goal
 

@@ -1,6 +1,6 @@
 -- `library_calls::run_words::read::marks_of` meets its contract. Assumes nothing.
-use Rattle.laws.specs.Basics.{◌≡◌, refl, false, ◌-◌, ◌≤◌, arith, rules}
-use Rattle.laws.specs.Loops.{set_below, below_none, step_set}
+use Rattle.laws.specs.Basics.{refl, false, arith, rules}
+use Rattle.laws.specs.Loops.{below_none, step_set}
 use Rattle.words.specs.Layout.{mark_in}
 use Rattle.library_calls.proofs.{run_words.Tables.rows_of}
 use Rattle.library_calls.proofs.run_words.read.marks_of.Goals as goal

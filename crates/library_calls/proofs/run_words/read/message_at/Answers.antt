@@ -1,5 +1,4 @@
 -- `library_calls::run_words::read::message_at` meets its contract. Assumes nothing.
-use Rattle.laws.specs.Basics.{rules}
 use Rattle.words.specs.Layout.{message_in}
 use Rattle.library_calls.proofs.run_words.read.message_at.Goals as goal
 

@@ -1,11 +1,12 @@
 -- `library_calls::run_words::read::messages_of` meets its contract. Assumes nothing.
-use Rattle.laws.specs.Basics.{◌≡◌, refl, ◌∙◌, ap, ◌-◌, ◌≤◌, arith, length, replicate, rules}
-use Rattle.laws.specs.{Loops.either, Lists.select, Lists.table, Lists.placed, Prefixes.placed_none}
+use Rattle.laws.specs.Basics.{◌≡◌, refl, ◌∙◌, ap, arith, replicate, rules}
+use Rattle.laws.specs.{Lists.select, Lists.table, Prefixes.placed_none}
 use Rattle.model.specs.declared.Message.{Message}
 use Rattle.model.specs.Words.{no_message}
 use Rattle.words.specs.Layout.{end_of, messages_in}
-use Rattle.library_calls.proofs.run_words.Tables.{first_messages, first_messages_used, first_messages_unused}
+use Rattle.library_calls.proofs.run_words.Tables.{first_messages_used, first_messages_unused}
 use Rattle.library_calls.proofs.run_words.read.messages_of.Goals as goal
+use Rattle.library_calls.proofs.run_words.read.messages_of.Goals.{then-x-ne0, else-x-ne0}
 
 pub loop-k-init : goal.loop-k-init
 unfolding select table
@@ -14,11 +15,14 @@ loop-k-init c =
 
 pub loop-k-preserved : goal.loop-k-preserved
 loop-k-preserved c =
-    let l = c.loop-k in let a = c.args in either c.if-x-ne0.branch
-    (λ t.
-    let n = first_messages_used a.w.now l.k l.many l.messages _ (search rules) c.message_at-x.ensures l.invariant.2 l.invariant.3 t.0.taken in (search rules, omega (arith, t.2), t.2 ∙ n.0, t.1 ∙ n.1))
-    (λ t.
-    let n = first_messages_unused a.w.now l.k l.many l.messages _ (search rules) c.message_at-x.ensures l.invariant.2 l.invariant.3 t.0.left in (search rules, omega (arith, t.2), t.2 ∙ n.0, t.1 ∙ n.1))
+    let l = c.loop-k in let a = c.args in elim c.if-x-ne0.branch [
+      | then-x-ne0 t ↦
+          let n = first_messages_used a.w.now l.k l.many l.messages _ (search rules) c.message_at-x.ensures l.invariant.2 l.invariant.3 t.if-x-ne0.true in
+          (search rules, omega (arith, t.many-is), t.many-is ∙ n.0, t.messages-is ∙ n.1)
+      | else-x-ne0 t ↦
+          let n = first_messages_unused a.w.now l.k l.many l.messages _ (search rules) c.message_at-x.ensures l.invariant.2 l.invariant.3 t.if-x-ne0.false in
+          (search rules, omega (arith, t.many-is), t.many-is ∙ n.0, t.messages-is ∙ n.1)
+    ]
 
 pub returns : goal.returns
 unfolding messages_in

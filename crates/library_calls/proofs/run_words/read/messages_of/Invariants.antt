@@ -1,10 +1,8 @@
 -- `library_calls::run_words::read::messages_of` meets its contract. Assumes nothing.
-use Rattle.laws.specs.Basics.{◌≡◌, refl, ◌∙◌, ap, ◌-◌, ◌≤◌, arith, length, replicate, rules}
-use Rattle.laws.specs.{Loops.either, Lists.select, Lists.table, Lists.placed, Prefixes.placed_none}
-use Rattle.model.specs.declared.Message.{Message}
+use Rattle.laws.specs.Basics.{◌≡◌, ◌≤◌, length}
+use Rattle.laws.specs.{Lists.placed}
 use Rattle.model.specs.Words.{no_message}
-use Rattle.words.specs.Layout.{end_of, messages_in}
-use Rattle.library_calls.proofs.run_words.Tables.{first_messages, first_messages_used, first_messages_unused}
+use Rattle.library_calls.proofs.run_words.Tables.{first_messages}
 use Rattle.library_calls.proofs.run_words.read.messages_of.Given as goal
 
 abbrev pub invariant-loop-k : goal.invariant-loop-k

@@ -1,5 +1,4 @@
 -- `library_calls::run_words::read::no_message` meets its contract. Assumes nothing.
-use Rattle.laws.specs.Basics.{rules}
 use Rattle.library_calls.proofs.run_words.read.no_message.Goals as goal
 
 pub returns : goal.returns

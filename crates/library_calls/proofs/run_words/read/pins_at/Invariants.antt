@@ -1,7 +1,7 @@
 -- `library_calls::run_words::read::pins_at` meets its contract. Assumes nothing.
-use Rattle.laws.specs.Basics.{◌≡◌, refl, ◌∙◌, ◌+◌, ◌-◌, ◌≤◌, arith, rules}
-use Rattle.laws.specs.Loops.{set_below, below_none, step_set, below_all}
-use Rattle.words.specs.Layout.{word, pin_of_def, pins_in}
+use Rattle.laws.specs.Basics.{◌≡◌, ◌+◌, ◌≤◌}
+use Rattle.laws.specs.Loops.{set_below}
+use Rattle.words.specs.Layout.{word, pin_of_def}
 use Rattle.library_calls.proofs.run_words.read.pins_at.Given as goal
 
 abbrev pub invariant-loop-f : goal.invariant-loop-f

@@ -1,6 +1,6 @@
 -- `library_calls::run_words::read::pins_of` meets its contract. Assumes nothing.
-use Rattle.laws.specs.Basics.{◌≡◌, ◌-◌, ◌≤◌, arith, rules}
-use Rattle.laws.specs.Loops.{set_below, below_none, step_set}
+use Rattle.laws.specs.Basics.{arith, rules}
+use Rattle.laws.specs.Loops.{below_none, step_set}
 use Rattle.words.specs.Layout.{pins_at_of, pins_in}
 use Rattle.model.specs.Words.{no_pins_of}
 use Rattle.library_calls.proofs.{run_words.Tables.rows_of}

@@ -1,12 +1,12 @@
 -- `library_calls::run_words::read::read` meets its contract. Assumes nothing.
-use Rattle.laws.specs.Basics.{◌≡◌, sym, ◌∙◌, ap, List, ◌-◌, ◌*◌, ◌%◌, ◌≤◌, arith, length, rules}
-use Rattle.laws.specs.Loops.{either}
+use Rattle.laws.specs.Basics.{◌≡◌, sym, ◌∙◌, ap, List, ◌*◌, ◌%◌, ◌≤◌, arith, length, rules}
 use Rattle.model.specs.declared.{Interval.Interval, Pin.Pin, Checkpoint.Checkpoint}
 use Rattle.words.specs.Layout.{count_of}
 use Rattle.words.proofs.View.{fits_size, fits_end, end_most}
 use Rattle.library_calls.proofs.{run_words.ReadOut.read_ends}
-use Rattle.library_calls.proofs.run_words.Tables.{so_far, unused_rows, so_far_step, so_far_keep, so_far_all, kept_some}
+use Rattle.library_calls.proofs.run_words.Tables.{unused_rows, so_far_step, so_far_keep, so_far_all, kept_some}
 use Rattle.library_calls.proofs.run_words.read.read.Goals as goal
+use Rattle.library_calls.proofs.run_words.read.read.Goals.{then-used, else-used}
 
 pub bounds-w-0 : goal.bounds-w-0
 bounds-w-0 c =
@@ -66,9 +66,10 @@ checkpoint_at-c-requires c =
 
 pub loop-q-preserved : goal.loop-q-preserved
 loop-q-preserved c =
-    let l = c.loop-q in let w = c.args.w.now in either c.if-used.branch
-    (λ t. (search rules, l.invariant.1, t.2 ∙ so_far_step w l.q (search rules) l.table _ l.invariant.2 t.1.ensures (sym c.is_kept-used.ensures ∙ t.0.taken)))
-    (λ t. (search rules, l.invariant.1, t.1 ∙ l.invariant.2 ∙ so_far_keep w l.q (search rules) (sym c.is_kept-used.ensures ∙ t.0.left)))
+    let l = c.loop-q in let w = c.args.w.now in elim c.if-used.branch [
+      | then-used t ↦ (search rules, l.invariant.1, t.table-is ∙ so_far_step w l.q (search rules) l.table _ l.invariant.2 t.checkpoint_at-c.ensures (sym c.is_kept-used.ensures ∙ t.if-used.true))
+      | else-used t ↦ (search rules, l.invariant.1, t.table-is ∙ l.invariant.2 ∙ so_far_keep w l.q (search rules) (sym c.is_kept-used.ensures ∙ t.if-used.false))
+    ]
 
 pub returns : goal.returns
 returns c =

@@ -1,0 +1,48 @@
+-- `bench_in_place::timing_untested` meets its contract. Assumes nothing.
+use Rattle.laws.specs.Basics.{◌≡◌, ◌∙◌, ap, none, length, rules}
+use Rattle.model.specs.{Words.ones, Steps.start_state}
+use Rattle.in_place.specs.Starting.{start_refusal_in, start_outcome_in}
+use Rattle.in_place.proofs.Leaving.{same_words}
+use Rattle.bench_by_value.specs.Timed.{Timed}
+use Rattle.bench_by_value.proofs.Begun.{begun, not_begun, none_timed, all_timed}
+use Rattle.bench_in_place.proofs.{Begun.started_reachable, Begun.never_both}
+use Rattle.bench_in_place.proofs.timing_untested.Goals as goal
+
+pub returns-then-summary-ne0 : goal.returns-then-summary-ne0
+unfolding start_outcome_in
+returns-then-summary-ne0 c =
+    let a = c.args in
+    let refusal = start_refusal_in (length a.w.now) a.n ones in
+    let start = c.start-answer.ensures in
+    let why = not_begun refusal (start_state a.n ones) _ start.value _ c.of_start-summary.ensures c.if-summary-ne0.true in
+    let none-taken = none_timed refusal a.n a.trace.now _ start.w_after why.0 why.1 in
+    record {
+      value = ap (λ (x : Timed). x.accepted) none-taken;
+      w_after = ap (λ (x : Timed). x.run) none-taken;
+      leaves = rw start.w_after_2 (same_words _);
+      w_after_2 = λ other e. start.w_after_2;
+    }
+
+pub apply_all-requires : goal.apply_all-requires
+unfolding start_outcome_in
+apply_all-requires c =
+    let a = c.args in
+    let start = c.start-answer.ensures in
+    let fine = begun (start_refusal_in (length a.w.now) a.n ones) (start_state a.n ones) _ start.value _ c.of_start-summary.ensures c.if-summary-ne0.false in
+    (started_reachable _ _ _ _ start.w_after fine, search rules, search rules)
+
+pub returns : goal.returns
+unfolding start_outcome_in
+returns c =
+    let a = c.args in
+    let refusal = start_refusal_in (length a.w.now) a.n ones in
+    let start = c.start-answer.ensures in
+    let done = c.apply_all.ensures in
+    let fine : refusal ≡ none = begun refusal (start_state a.n ones) _ start.value _ c.of_start-summary.ensures c.if-summary-ne0.false in
+    let all-taken = all_timed refusal a.n a.trace.now _ start.w_after fine in
+    record {
+      value = done.value ∙ ap (λ (x : Timed). x.accepted) all-taken;
+      w_after = done.w_after ∙ ap (λ (x : Timed). x.run) all-taken;
+      leaves = rw start.w_after_2 at done.leaves;
+      w_after_2 = λ why e. absurd (never_both why fine e);
+    }
