@@ -47,7 +47,7 @@ pub fn earliest(s: Run, named: &[Named], line: &mut [u16]) -> EarliestOutcome
     earliest_of(s, copied, line)
 }
 
-// The same for a caller that has the named checkpoints at the front of an array: the prover covers it for every caller.
+// The same for a caller that has the named checkpoints at the front of an array.
 pub fn earliest_among(
     s: Run,
     named: [Named; PROCESSES],

@@ -1,6 +1,5 @@
 // A reader of a trace: "A reader of a trace carries the lent trace together with the count of records taken. It hands a record on as the part
-// of the trace with its four bytes, not as a copy." The prover covers no function over a struct that holds a reference, so the functions over
-// `Reader` are thin, over covered ones with plain parameters, and each is proved by hand. Every trace and every count will do.
+// of the trace with its four bytes, not as a copy." The functions over `Reader` are thin, over others with plain parameters. Every trace and every count will do.
 ghost use Rattle.laws.specs.Basics.{◌≡◌};
 ghost use Rattle.trace.specs.reader.Reading.{record_after_of, record_left_of, taken_after, new_reader, reader_after};
 
@@ -72,7 +71,7 @@ pub fn advance<'a>(r: Reader<'a>) -> Reader<'a>
     }
 }
 
-// The same record for a caller that has a trace and a count: by way of the reader, and the prover covers it for every caller.
+// The same record for a caller that has a trace and a count: by way of the reader.
 pub fn record_after<'a>(trace: &'a [u8], taken: usize) -> &'a [u8]
     ensures { result.now ≡ record_after_of trace.now taken }
 {

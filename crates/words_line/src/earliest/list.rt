@@ -1,5 +1,5 @@
-// A lent list of named checkpoints, "each a process and an index". The prover covers no function over a slice of structs, so there are two, thin, and each is
-// proved by hand: one copies an element out, one walks the list and hands each element on to a covered function. Every list will do, however long.
+// A lent list of named checkpoints, "each a process and an index": one function copies an element out, one walks the list and adds each element to the copy. Every list
+// will do, however long.
 ghost use Rattle.laws.specs.Basics.{◌≡◌, ◌+◌, ◌^◌, ◌≤◌, ◌<◌, max, ltb, length, get_or, take, set, pick};
 ghost use Rattle.model.specs.Words.{most_processes};
 ghost use Rattle.words_line.specs.earliest.Copying.{no_named, nothing_copied_of, with_element_of, copy_of};
@@ -98,7 +98,7 @@ fn copy_some(named: [Named; PROCESSES], m: usize) -> Copied
     copied
 }
 
-// A list that stands at the front of an array: covered for every caller.
+// A list that stands at the front of an array.
 pub fn copy_front(named: [Named; PROCESSES], length: usize) -> Copied
     ensures { result ≡ copy_of (take length named) }
 {

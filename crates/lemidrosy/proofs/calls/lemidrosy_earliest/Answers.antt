@@ -1,0 +1,17 @@
+-- `lemidrosy::calls::lemidrosy_earliest` meets its contract. Assumes nothing.
+use Rattle.laws.specs.Basics.{◌∙◌, ap, rules}
+use Rattle.listing.specs.answers.Codes.{line_code}
+use Rattle.listing.proofs.answers.Fit.{earliest_fits}
+use Rattle.lemidrosy.proofs.calls.lemidrosy_earliest.Goals as goal
+
+pub of_line-requires : goal.of_line-requires
+of_line-requires c =
+    rw c.earliest-answer.ensures.value (earliest_fits _ _ _)
+
+pub shape_of-line : goal.shape_of-line
+shape_of-line c =
+    c.earliest-answer.auto.line
+
+pub returns : goal.returns
+returns c =
+    let g = (c.earliest-answer.ensures.value, (c.earliest-answer.ensures.line_after, c.earliest-answer.ensures.earliest_promise)) in record { fact = (c.of_line.ensures ∙ ap line_code c.earliest-answer.ensures.value, c.earliest-answer.ensures.line_after); earliest_promise = c.earliest-answer.ensures.earliest_promise }

@@ -1,0 +1,17 @@
+-- `lemidrosy::calls::lemidrosy_line` meets its contract. Assumes nothing.
+use Rattle.laws.specs.Basics.{◌∙◌, ap, rules}
+use Rattle.listing.specs.answers.Codes.{line_code}
+use Rattle.listing.proofs.answers.Fit.{line_fits}
+use Rattle.lemidrosy.proofs.calls.lemidrosy_line.Goals as goal
+
+pub of_line-requires : goal.of_line-requires
+of_line-requires c =
+    rw c.line-answer.ensures.value (line_fits _ _ _)
+
+pub shape_of-line : goal.shape_of-line
+shape_of-line c =
+    c.line-answer.auto.line
+
+pub returns : goal.returns
+returns c =
+    let g = (c.line-answer.ensures.value, (c.line-answer.ensures.line_after, (c.line-answer.ensures.line_promise, c.line-answer.ensures.empty_line_promise))) in record { fact = (c.of_line.ensures ∙ ap line_code c.line-answer.ensures.value, c.line-answer.ensures.line_after, rw c.line-answer.ensures.value at c.line-answer.ensures.empty_line_promise); line_promise = c.line-answer.ensures.line_promise }

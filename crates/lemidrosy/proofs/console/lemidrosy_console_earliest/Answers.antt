@@ -1,0 +1,13 @@
+-- `lemidrosy::console::lemidrosy_console_earliest` meets its contract. Assumes nothing.
+use Rattle.laws.specs.Basics.{◌∙◌, ap, rules}
+use Rattle.listing.specs.answers.Codes.{line_code}
+use Rattle.lemidrosy.proofs.{Consoles.earliest_as_fits}
+use Rattle.lemidrosy.proofs.console.lemidrosy_console_earliest.Goals as goal
+
+pub of_line-requires : goal.of_line-requires
+of_line-requires c =
+    rw c.earliest-answer.ensures.value (earliest_as_fits _ _ _ _ _)
+
+pub returns : goal.returns
+returns c =
+    let g = (c.earliest-answer.ensures.value, c.earliest-answer.ensures.line_after) in (c.of_line.ensures ∙ ap line_code c.earliest-answer.ensures.value, c.earliest-answer.ensures.line_after)

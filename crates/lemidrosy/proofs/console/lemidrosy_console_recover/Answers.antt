@@ -1,0 +1,13 @@
+-- `lemidrosy::console::lemidrosy_console_recover` meets its contract. Assumes nothing.
+use Rattle.laws.specs.Basics.{◌≡◌, ◌∙◌, ap, rules}
+use Rattle.listing.specs.answers.Codes.{recover_code}
+use Rattle.lemidrosy.proofs.{Changing.changed, Consoles.recover_as_fits}
+use Rattle.lemidrosy.proofs.console.lemidrosy_console_recover.Goals as goal
+
+pub of_recover-requires : goal.of_recover-requires
+of_recover-requires c =
+    rw c.recover-answer.ensures.value (recover_as_fits _ _ _ _ _ _)
+
+pub returns : goal.returns
+returns c =
+    let g = (c.recover-answer.ensures.w_after, (c.recover-answer.ensures.value, (c.recover-answer.ensures.deleted_after, (c.recover-answer.ensures.line_after, (c.recover-answer.ensures.w_unchanged, c.recover-answer.ensures.leaves))))) in let h = g.1.1.1.1 in (c.of_recover.ensures ∙ ap recover_code g.1.0, g.1.1.0, g.1.1.1.0, changed _ _ _ _ _ g.1.0 g.0 h.0 h.1)

@@ -1,0 +1,31 @@
+-- `lemidrosy::programs::write_figures` meets its contract, by the cases of the answer. Assumes nothing.
+use Rattle.laws.specs.Basics.{◌≡◌, refl, arith, length-set, rules}
+use Rattle.listing.specs.answers.Codes.{coded, value_code_of}
+use Rattle.lemidrosy.specs.Programs.{figures_after}
+use Rattle.lemidrosy.proofs.programs.write_figures.Goals as goal
+
+pub bounds-figures-1 : goal.bounds-figures-1
+bounds-figures-1 c =
+    simp length-set (omega arith)
+
+pub bounds-figures-2 : goal.bounds-figures-2
+bounds-figures-2 c =
+    simp length-set (omega arith)
+
+pub bounds-figures-3 : goal.bounds-figures-3
+bounds-figures-3 c =
+    simp length-set (omega arith)
+
+pub bounds-figures-4 : goal.bounds-figures-4
+bounds-figures-4 c =
+    simp length-set (omega arith)
+
+pub returns-in-Refused : goal.returns-in-Refused
+unfolding figures_after coded value_code_of
+returns-in-Refused c =
+    rw c.in-Refused.is (record { value = omega (arith, c.number_of.ensures); figures_after = refl })
+
+pub returns-in-Tried : goal.returns-in-Tried
+unfolding figures_after coded value_code_of
+returns-in-Tried c =
+    rw c.in-Tried.is (record { value = refl; figures_after = refl })

@@ -1,0 +1,20 @@
+-- `lemidrosy::recorded::lemidrosy_record_checkpoint` meets its contract: without a place it is refused, else the recorder does it.
+-- Assumes nothing.
+use Rattle.laws.specs.Basics.{◌∙◌, ap, set, rules}
+use Rattle.listing.specs.answers.Codes.{checkpoint_code}
+use Rattle.words.specs.Layout.{run_of}
+use Rattle.lemidrosy.proofs.Changing.{changed, unchanged}
+use Rattle.lemidrosy.proofs.Recording.{checkpoint_by, checkpoint_three, checkpoint_recorded_fits}
+use Rattle.lemidrosy.proofs.recorded.lemidrosy_record_checkpoint.Goals as goal
+
+pub returns-then-place-eq0 : goal.returns-then-place-eq0
+returns-then-place-eq0 c =
+    let a = c.args in let l = (checkpoint_by (run_of a.words.now) a.process a.deleted.now a.buffer.now a.place.now).without c.if-place-eq0.true in (checkpoint_three ∙ ap checkpoint_code l.answer, l.deleted, l.buffer, l.places, unchanged _ _ _ l.run)
+
+pub of_checkpoint-requires : goal.of_checkpoint-requires
+of_checkpoint-requires c =
+    rw c.checkpoint-recorded.ensures.answer_value (checkpoint_recorded_fits _ _ _ _ _)
+
+pub returns : goal.returns
+returns c =
+    let a = c.args in let g = c.checkpoint-recorded.ensures in let l = (checkpoint_by (run_of a.words.now) a.process a.deleted.now a.buffer.now a.place.now).placed c.if-place-eq0.false in let answer = g.answer_value ∙ l.answer in (c.of_checkpoint.ensures ∙ ap checkpoint_code answer, g.deleted_after ∙ l.deleted, g.buffer_after ∙ l.buffer, ap (set a.place.now 0) g.place_value ∙ l.places, changed _ _ _ _ _ answer (g.w_after ∙ l.run) g.w_unchanged g.leaves)
