@@ -1,6 +1,7 @@
 -- The verdict on a send: what an accepted one has, and that it is the first of the rules that holds.
 -- Assumes nothing.
-use Rattle.laws.specs.Basics.{◌≡◌, refl, Bool, true, false, ◌||◌, [], ◌∷◌, ℕ, ◌<◌, arith, eqb, leb, leb-false, pick, by_bool}
+use Rattle.std.specs.Prelude.{◌≡◌, ◌||◌, ◌∷◌, ◌<◌}
+use Rattle.laws.specs.Basics.{refl, Bool, true, false, [], ℕ, arith, eqb, leb, leb-false, pick, by_bool}
 use Rattle.model.specs.declared.Refusal.{Refusal}
 use Rattle.model.specs.declared.Refusal.TheVariants.{NoSuchProcess, SenderIsReceiver, TooManyUnderWay, MessageNumbersUsed}
 use Rattle.model.specs.{Words.most_under_way, Words.most_messages, Refusals.first_of}

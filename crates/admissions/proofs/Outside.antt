@@ -1,6 +1,7 @@
 -- A failed set's bits at n and above: what is left once the lowest n are gone, and that an accepted set has none.
 -- Assumes nothing.
-use Rattle.laws.specs.Basics.{◌≡◌, sym, ◌∙◌, false≢true, ℕ, ◌/◌, ◌^◌, ◌≤◌, ◌<◌, arith, leb, le-leb, lt-leb, leb-true, leb-false, by_bool}
+use Rattle.std.specs.Prelude.{◌≡◌, ◌/◌, ◌^◌, ◌≤◌, ◌<◌}
+use Rattle.laws.specs.Basics.{sym, ◌∙◌, false≢true, ℕ, arith, leb, le-leb, lt-leb, leb-true, leb-false, by_bool}
 use native.Mathlib.Nat.{div-eq_of_lt, le-div_iff_mul-le, pow-le-pow_right, one-mul}
 use Rattle.admissions.specs.declared.Admission.TheVariants.{Accepted, Refused}
 use Rattle.admissions.specs.Admissions.{recovery_admission_of}

@@ -1,6 +1,7 @@
 -- The room that a deletion list needs.
 -- Assumes nothing.
-use Rattle.laws.specs.Basics.{ℕ, ◌*◌, ◌≤◌, arith}
+use Rattle.std.specs.Prelude.{◌*◌, ◌≤◌}
+use Rattle.laws.specs.Basics.{ℕ, arith}
 use native.Mathlib.Nat.{mul-le-mul_right}
 
 -- It is a number that fits, for at most 16 processes.

@@ -1,7 +1,8 @@
 -- Whether a call is refused, and why, as the functions of this crate decide it. Each follows the tests of specs/Refusals of the model in their order, but for a state
 -- that is not sound and for lent lists that are too short.
 -- Assumes nothing.
-use Rattle.laws.specs.Basics.{Bool, Option, none, some, ℕ, ◌+◌, ◌^◌, eqb, ltb, leb, pick}
+use Rattle.std.specs.Prelude.{◌+◌, ◌^◌}
+use Rattle.laws.specs.Basics.{Bool, Option, none, some, ℕ, eqb, ltb, leb, pick}
 use Rattle.model.specs.declared.Refusal.{Refusal}
 use Rattle.model.specs.declared.Refusal.TheVariants.{NoSuchProcess, SenderIsReceiver, NoSuchFailedProcess, TooManyUnderWay, MessageNumbersUsed}
 use Rattle.model.specs.Words.{most_blocks, most_under_way, most_messages}

@@ -3,7 +3,8 @@
 
 #![tactic(auto)]
 
-ghost use Rattle.laws.specs.Basics.{◌≡◌, ◌||◌, ◌*◌, ◌/◌, ◌^◌, ◌≤◌, ltb, leb};
+ghost use Rattle.std.specs.Prelude.{◌≡◌, ◌||◌, ◌*◌, ◌/◌, ◌^◌, ◌≤◌};
+ghost use Rattle.laws.specs.Basics.{ltb, leb};
 ghost use Rattle.model.specs.Words.{most_interval, most_processes};
 ghost use Rattle.admissions.specs.Admissions.{past_most, send_admission_of, recovery_admission_of};
 

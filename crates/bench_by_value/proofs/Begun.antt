@@ -1,6 +1,7 @@
 -- Whether a start is refused, by the number of its answer's summary; and what a trace then comes to.
 -- Assumes nothing.
-use Rattle.laws.specs.Basics.{◌≡◌, ◌∙◌, ap, List, [], Option, none, some, ℕ}
+use Rattle.std.specs.Prelude.{◌≡◌}
+use Rattle.laws.specs.Basics.{◌∙◌, ap, List, [], Option, none, some, ℕ}
 use Rattle.model.specs.declared.{Refusal.Refusal, Run.Run, StartAnswer.StartAnswer, StartAnswer.TheVariants.Refused, StartAnswer.TheVariants.Started}
 use Rattle.model.specs.{Refusals.number, Words.blank, Words.ones, Steps.start_state}
 use Rattle.whole_runs.specs.Outcomes.{Outcome, judged, start_report}

@@ -1,6 +1,7 @@
 -- A record as a call by value, whose lent lists hold zeros: the state after it, and whether it is accepted.
 -- Assumes nothing.
-use Rattle.laws.specs.Basics.{◌≡◌, refl, sym, ◌∙◌, ap, Bool, false, List, some, ℕ, ◌^◌, ◌≤◌, ◌<◌, arith, eqb, replicate, ne_eqb}
+use Rattle.std.specs.Prelude.{◌≡◌, ◌^◌, ◌≤◌, ◌<◌}
+use Rattle.laws.specs.Basics.{refl, sym, ◌∙◌, ap, Bool, false, List, some, ℕ, arith, eqb, replicate, ne_eqb}
 use native.Mathlib.Nat.{pow-le-pow_right}
 use Rattle.model.specs.declared.{Event.Event, Run.Run, CheckpointAnswer.CheckpointAnswer, SendAnswer.SendAnswer, DeliverAnswer.DeliverAnswer}
 use Rattle.model.specs.declared.Event.TheVariants.{Checkpoint, Send, Deliver, Lose, Recover}

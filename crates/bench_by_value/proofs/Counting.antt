@@ -1,6 +1,7 @@
 -- The iterations of a loop over the records of a trace: nothing taken yet, one record more, and where it stops.
 -- Assumes nothing.
-use Rattle.laws.specs.Basics.{◌≡◌, refl, sym, ◌∙◌, ap, Bool, true, false, ◌&&◌, List, [], ◌∷◌, ◌++◌, append-nil, Option, ℕ, zero, suc, ◌+◌, ◌*◌, ◌≤◌, ◌<◌, arith, eqb, ltb, length, take, drop, length-append, length-drop, length-take-le, eq-eqb, ltb-true, ltb-false, le-leb, leb-true, leb-false, pick, by_bool}
+use Rattle.std.specs.Prelude.{◌≡◌, ◌&&◌, ◌∷◌, ◌++◌, ◌+◌, ◌*◌, ◌≤◌, ◌<◌}
+use Rattle.laws.specs.Basics.{refl, sym, ◌∙◌, ap, Bool, true, false, List, [], append-nil, Option, ℕ, zero, suc, arith, eqb, ltb, length, take, drop, length-append, length-drop, length-take-le, eq-eqb, ltb-true, ltb-false, le-leb, leb-true, leb-false, pick, by_bool}
 use lib.ListN.{take-append-drop}
 use lib.Seq.{drop-drop, take-add, take_all}
 use Rattle.laws.specs.{Lists.select, Select.select_append, Truth.and_left, Truth.and_right}

@@ -1,6 +1,7 @@
 -- What the records of a trace come to when each is made as a call after a start of n processes: how many are accepted, and the state after them.
 -- Assumes nothing.
-use Rattle.laws.specs.Basics.{List, Option, ℕ, ◌*◌, eqb, length, take, drop}
+use Rattle.std.specs.Prelude.{◌*◌}
+use Rattle.laws.specs.Basics.{List, Option, ℕ, eqb, length, take, drop}
 use Rattle.laws.specs.Lists.{select}
 use Rattle.model.specs.declared.{Refusal.Refusal, Run.Run}
 use Rattle.model.specs.{Words.blank, Words.ones, Steps.start_state}

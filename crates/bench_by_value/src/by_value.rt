@@ -1,5 +1,6 @@
 // A record on a state by value: the call that it stands for.
-ghost use Rattle.laws.specs.Basics.{◌≡◌, some, eqb, replicate};
+ghost use Rattle.std.specs.Prelude.{◌≡◌};
+ghost use Rattle.laws.specs.Basics.{some, eqb, replicate};
 ghost use Rattle.whole_runs.specs.Listing.{perform};
 ghost use Rattle.trace.specs.Answers.{event_read};
 ghost use Rattle.model.specs.declared.Event.TheVariants as event;

@@ -3,7 +3,8 @@
 
 #![tactic(auto)]
 
-ghost use Rattle.laws.specs.Basics.{◌≡◌, ◌&&◌, ltb, pick};
+ghost use Rattle.std.specs.Prelude.{◌≡◌, ◌&&◌};
+ghost use Rattle.laws.specs.Basics.{ltb, pick};
 ghost use Rattle.model.specs.{Words.ones, Refusals.start_refusal};
 ghost use Rattle.whole_runs.specs.Listing.{most_records};
 ghost use Rattle.trace.specs.reader.Reading.{record_left_of};

@@ -2,7 +2,7 @@
 
 #![tactic(auto)]
 
-ghost use Rattle.laws.specs.Basics.{◌≡◌};
+ghost use Rattle.std.specs.Prelude.{◌≡◌};
 ghost use Rattle.model.specs.{Words.ones, Refusals.start_refusal};
 ghost use Rattle.bench_by_value.specs.Timed.{timed_trace};
 

@@ -1,6 +1,7 @@
 -- A start that is accepted leads to a state that calls from a start lead to.
 -- Assumes nothing.
-use Rattle.laws.specs.Basics.{◌≡◌, sym, ◌∙◌, ap, false≢true, List, Option, none, some, ℕ, arith}
+use Rattle.std.specs.Prelude.{◌≡◌}
+use Rattle.laws.specs.Basics.{sym, ◌∙◌, ap, false≢true, List, Option, none, some, ℕ, arith}
 use Rattle.model.specs.declared.{Refusal.Refusal, Run.Run, StartAnswer.StartAnswer, StartAnswer.TheVariants.Refused, StartAnswer.TheVariants.Started}
 use Rattle.model.specs.{Refusals.start_refusal, laws.Refusals.by_refusal}
 use Rattle.whole_runs.specs.{Outcomes.Outcome, Outcomes.start_outcome, WholeRuns.Reachable}

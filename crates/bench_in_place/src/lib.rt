@@ -3,7 +3,8 @@
 
 #![tactic(auto)]
 
-ghost use Rattle.laws.specs.Basics.{◌≡◌, some, length};
+ghost use Rattle.std.specs.Prelude.{◌≡◌};
+ghost use Rattle.laws.specs.Basics.{some, length};
 ghost use Rattle.model.specs.declared.Refusal.{Refusal};
 ghost use Rattle.model.specs.Words.{ones, most_processes, most_deletions};
 ghost use Rattle.whole_runs.specs.WholeRuns.{Reachable};

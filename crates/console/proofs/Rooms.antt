@@ -1,6 +1,7 @@
 -- The program's buffers are large enough.
 -- Assumes nothing.
-use Rattle.laws.specs.Basics.{◌≡◌, refl, true, ℕ, ◌≤◌, eq-eqb, le-leb}
+use Rattle.std.specs.Prelude.{◌≡◌, ◌≤◌}
+use Rattle.laws.specs.Basics.{refl, true, ℕ, eq-eqb, le-leb}
 use Rattle.machine_console.specs.{Replied.longest_line, Lent.has_room_of}
 
 pub has_room : (memory words input out : ℕ) → 4 ≤ memory → words ≡ 6464 → 8 ≤ input → longest_line ≤ out → has_room_of memory words input out ≡ true

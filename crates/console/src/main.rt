@@ -3,7 +3,8 @@
 
 #![tactic(auto)]
 
-ghost use Rattle.laws.specs.Basics.{◌≡◌, true, length};
+ghost use Rattle.std.specs.Prelude.{◌≡◌};
+ghost use Rattle.laws.specs.Basics.{true, length};
 ghost use Rattle.machines.specs.Machines.{Ended};
 ghost use Rattle.machine_console.specs.{Consoling.consoling, Lent.has_room_of, Lent.state_of};
 

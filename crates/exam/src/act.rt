@@ -1,6 +1,7 @@
 // Each call of the library on the state after the call before it, with lists of a given length that hold zeros. What comes back is the state and
 // the number of the answer: 0 if the call is accepted, else the refusal number. A deletion list of 512 entries and a line list of 16 are enough for every run.
-ghost use Rattle.laws.specs.Basics.{◌≡◌, ◌≤◌, take, replicate};
+ghost use Rattle.std.specs.Prelude.{◌≡◌, ◌≤◌};
+ghost use Rattle.laws.specs.Basics.{take, replicate};
 ghost use Rattle.model.specs.Words.{ones, most_deletions, most_processes};
 ghost use Rattle.whole_runs.specs.Outcomes.{start_outcome, checkpoint_outcome, send_outcome, deliver_outcome, recover_outcome, start_report, checkpoint_report, send_report, deliver_report, recover_report};
 

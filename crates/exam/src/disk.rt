@@ -1,6 +1,6 @@
 // The cases of document 02, Note 5: a run with block counts of its own, step by step; and the limits of counts, of the sums and of the blocks written. Each line of
 // the limits says 0 where the call is accepted, else the refusal number.
-ghost use Rattle.laws.specs.Basics.{◌≤◌, ◌<◌};
+ghost use Rattle.std.specs.Prelude.{◌≤◌, ◌<◌};
 ghost use Rattle.model.specs.Words.{most_processes};
 
 use crate::act::After;

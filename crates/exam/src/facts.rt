@@ -1,6 +1,6 @@
 // What is printed of a state: vector, pins and kept checkpoints of each process with their causes and block counts, the blocks written and deleted, and the line for
 // every failed set that the run has; of a delivery; and of a recovery. Nothing is assumed of a state but that its rows have 16 places.
-ghost use Rattle.laws.specs.Basics.{◌≤◌, ◌<◌};
+ghost use Rattle.std.specs.Prelude.{◌≤◌, ◌<◌};
 ghost use Rattle.model.specs.Words.{most_processes, kept_places};
 
 use crate::act::After;

@@ -1,5 +1,5 @@
 // Case 10: the limits of counts, lists, messages under way and intervals. Each line says 0 where the call is accepted, else the refusal number.
-ghost use Rattle.laws.specs.Basics.{◌≤◌};
+ghost use Rattle.std.specs.Prelude.{◌≤◌};
 ghost use Rattle.model.specs.Words.{most_deletions, most_processes};
 
 use crate::act::After;

@@ -1,5 +1,5 @@
 // Note 8: the earliest line through named checkpoints, for some lists on one state of three processes, and with line lists of n entries and one less.
-ghost use Rattle.laws.specs.Basics.{◌≤◌};
+ghost use Rattle.std.specs.Prelude.{◌≤◌};
 
 use crate::act::After;
 use crate::say::Sheet;

@@ -1,6 +1,7 @@
 -- Events are told apart by their kinds, and sends and receipts by the numbers of their messages.
 -- Assumes nothing.
-use Rattle.laws.specs.Basics.{◌≡◌, ℕ, arith}
+use Rattle.std.specs.Prelude.{◌≡◌}
+use Rattle.laws.specs.Basics.{ℕ, arith}
 use Rattle.histories.specs.History.{stored, sent, received}
 
 pub same_sent : (m k : ℕ) → sent m ≡ sent k → m ≡ k

@@ -1,6 +1,7 @@
 -- The part of a list before a send: what stands in it, and that steps leave it alone.
 -- Assumes nothing.
-use Rattle.laws.specs.Basics.{◌≡◌, refl, sym, ap, false, List, [], ◌∷◌, ◌++◌, ◌⊎◌, inl, inr, ℕ, zero, suc, ◌≤◌, arith, eqb, eq-eqb, eqb-true, by_bool}
+use Rattle.std.specs.Prelude.{◌≡◌, ◌∷◌, ◌++◌, ◌⊎◌, ◌≤◌}
+use Rattle.laws.specs.Basics.{refl, sym, ap, false, List, [], inl, inr, ℕ, zero, suc, arith, eqb, eq-eqb, eqb-true, by_bool}
 use mathlib.Core.List.Memᴰ
 use mathlib.Core.List.{Memᴰ}
 use Rattle.laws.specs.Truth.{never_both}

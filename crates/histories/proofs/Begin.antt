@@ -1,5 +1,6 @@
 -- The start has what the invariant says.
-use Rattle.laws.specs.Basics.{◌≡◌, refl, sym, ◌∙◌, ap, true, false, false≢true, [], none, some, ℕ, suc, ◌≤◌, ◌<◌, arith, eqb, eq-eqb, ne_eqb, by_eq}
+use Rattle.std.specs.Prelude.{◌≡◌, ◌≤◌, ◌<◌}
+use Rattle.laws.specs.Basics.{refl, sym, ◌∙◌, ap, true, false, false≢true, [], none, some, ℕ, suc, arith, eqb, eq-eqb, ne_eqb, by_eq}
 use Rattle.laws.specs.{Choice.pick_same, Options.some_same, Options.none≢some}
 use Rattle.histories.specs.History.{HistoryEvent, stored, sent, received, checkpoints}
 use Rattle.histories.proofs.{Places.Stands, Places.stands_nil, Places.sent_before_stored, Places.received_before_stored, Run.begin}

@@ -1,5 +1,6 @@
 -- A checkpoint keeps the invariant: the live state of i becomes a stored one, and the new live state differs at the own entry alone.
-use Rattle.laws.specs.Basics.{◌≡◌, sym, ◌∙◌, ap, true, some, inl, inr, ℕ, suc, ◌≤◌, ◌<◌, arith, by_eq}
+use Rattle.std.specs.Prelude.{◌≡◌, ◌≤◌, ◌<◌}
+use Rattle.laws.specs.Basics.{sym, ◌∙◌, ap, true, some, inl, inr, ℕ, suc, arith, by_eq}
 use Rattle.laws.specs.Options.{some_same}
 use Rattle.histories.specs.History.{HistoryEvent, stored, sent, received, checkpoints}
 use Rattle.histories.proofs.{Places.Stands, Places.checkpoints_stored, Times.times, Times.single_end, Run.Ideal, Run.checkpointed}

@@ -1,5 +1,6 @@
 -- Blocks over a step: those of the kept checkpoints and of those that the step stores are those of the checkpoints kept after it and of those that go.
-use Rattle.laws.specs.Basics.{◌≡◌, refl, sym, ◌∙◌, ap, true, false, not, ◌&&◌, inl, inr, ℕ, suc, ◌+◌, ◌-◌, ◌*◌, ◌≤◌, ◌<◌, arith, pick, by_bool}
+use Rattle.std.specs.Prelude.{◌≡◌, ◌&&◌, ◌+◌, ◌-◌, ◌*◌, ◌≤◌, ◌<◌}
+use Rattle.laws.specs.Basics.{refl, sym, ◌∙◌, ap, true, false, not, inl, inr, ℕ, suc, arith, pick, by_bool}
 use native.Mathlib.Nat.{add-mul}
 use Rattle.laws.specs.{Counting.count_none, Counting.count_split, Counting.count_wider, Sums.sum_below, Sums.sum_none, Sums.sum_only, Sums.sum_both}
 use Rattle.laws.specs.Tests.{count_below}

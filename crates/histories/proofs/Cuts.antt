@@ -1,6 +1,7 @@
 -- The parts of a list up to a state and after it, by intervals: an event stands up to state k where at most k checkpoints stand before it,
 -- and after state k where more do.
-use Rattle.laws.specs.Basics.{◌≡◌, refl, ap, List, [], ◌∷◌, inl, inr, ℕ, zero, suc, ◌+◌, ◌≤◌, ◌<◌, arith}
+use Rattle.std.specs.Prelude.{◌≡◌, ◌∷◌, ◌+◌, ◌≤◌, ◌<◌}
+use Rattle.laws.specs.Basics.{refl, ap, List, [], inl, inr, ℕ, zero, suc, arith}
 use mathlib.Core.List.Memᴰ
 use mathlib.Core.List.{Memᴰ}
 use native.Mathlib.Nat.{not-suc-le-zero}

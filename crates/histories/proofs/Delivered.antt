@@ -1,5 +1,6 @@
 -- A delivery keeps the invariant: the forced checkpoint, where there is one, and then the message is taken in.
-use Rattle.laws.specs.Basics.{◌≡◌, ◌∙◌, true, false, ℕ, ◌≤◌, ◌<◌, lt-ltb, ltb-true, ltb-false, by_bool}
+use Rattle.std.specs.Prelude.{◌≡◌, ◌≤◌, ◌<◌}
+use Rattle.laws.specs.Basics.{◌∙◌, true, false, ℕ, lt-ltb, ltb-true, ltb-false, by_bool}
 use Rattle.laws.specs.{Search.any_out, Search.any_in, Search.any_none, Truth.never_both, Truth.and_left, Truth.and_right, Truth.and_both}
 use Rattle.histories.proofs.{Run.Ideal, Run.newer, Run.forces, Run.checkpointed, Run.taken_in, Run.delivered, Invariant.Inv, TakenIn.taken_in_inv}
 use Rattle.histories.proofs.{CheckpointedViews.checkpointed_mark, CheckpointedViews.checkpointed_transit, Checkpointed.checkpointed_inv}

@@ -1,5 +1,6 @@
 -- How a delivery changes the run: one lemma for each view. Where no checkpoint is forced the delivery is `taken_in`, whose views are in TakenInViews.
-use Rattle.laws.specs.Basics.{◌≡◌, sym, ◌∙◌, ap, true, false, [], ℕ, suc, ◌≤◌, ◌<◌, max, arith, by_bool, by_eq}
+use Rattle.std.specs.Prelude.{◌≡◌, ◌≤◌, ◌<◌}
+use Rattle.laws.specs.Basics.{sym, ◌∙◌, ap, true, false, [], ℕ, suc, max, arith, by_bool, by_eq}
 use Rattle.histories.proofs.Run.{Ideal, forces, checkpointed, taken_in, delivered, keeps}
 use Rattle.histories.proofs.CheckpointedViews.{checkpointed_n, checkpointed_own, checkpointed_own_other, checkpointed_live, checkpointed_vector_other, checkpointed_transit, checkpointed_receiver, checkpointed_last, checkpointed_keeps_old}
 use Rattle.histories.proofs.TakenInViews.{taken_in_n, taken_in_own, taken_in_live, taken_in_vector, taken_in_mark, taken_in_transit, taken_in_transit_other, taken_in_receiver, taken_in_last, taken_in_keeps_old}

@@ -1,5 +1,6 @@
 -- Note 8 of a run as functions: the earliest line through some states none of which comes before another. At each process it has their greatest entry.
-use Rattle.laws.specs.Basics.{◌≡◌, ℕ, ◌≤◌, ◌<◌, arith}
+use Rattle.std.specs.Prelude.{◌≡◌, ◌≤◌, ◌<◌}
+use Rattle.laws.specs.Basics.{ℕ, arith}
 use Rattle.histories.specs.History.{sent, received, Line, Consistent}
 use Rattle.histories.proofs.{Places.Stands, Cuts.member_stands, Cuts.up_to_out, Cuts.after_state_out, Run.Ideal, Invariant.Inv, Maximal.consistent_knows}
 use Rattle.histories.proofs.Line.{rising, interval}

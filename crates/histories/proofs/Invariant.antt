@@ -1,5 +1,6 @@
 -- What holds after every list of accepted calls. The proofs of the line's facts use these clauses alone.
-use Rattle.laws.specs.Basics.{◌≡◌, true, some, ℕ, suc, ◌≤◌, ◌<◌}
+use Rattle.std.specs.Prelude.{◌≡◌, ◌≤◌, ◌<◌}
+use Rattle.laws.specs.Basics.{true, some, ℕ, suc}
 use Rattle.histories.specs.History.{HistoryEvent, stored, sent, received, checkpoints}
 use Rattle.histories.proofs.{Places.Stands, Times.times, Run.Ideal}
 

@@ -1,5 +1,6 @@
 -- What each step does to the kept checkpoints: nothing that was not kept comes back, and a newly stored checkpoint is kept.
-use Rattle.laws.specs.Basics.{◌≡◌, sym, ◌∙◌, true, ◌⊎◌, inl, inr, ℕ, suc, ◌≤◌, ◌<◌, arith, by_bool, by_eq}
+use Rattle.std.specs.Prelude.{◌≡◌, ◌⊎◌, ◌≤◌, ◌<◌}
+use Rattle.laws.specs.Basics.{sym, ◌∙◌, true, inl, inr, ℕ, suc, arith, by_bool, by_eq}
 use Rattle.histories.proofs.Run.{Ideal, Failed, keeps, forces, checkpointed, sending, delivered, lost, recovered}
 use Rattle.histories.proofs.{Invariant.Inv, Line.last_kept, Messages.underway_proper, Lost.lost_n, Lost.lost_own, Lost.lost_keeps}
 use Rattle.histories.proofs.{Sending.sending_n, Sending.sending_own, Sending.sending_keeps, RecoveredViews.recovered_n, RecoveredStates.recovered_own_le}

@@ -1,7 +1,8 @@
 -- The vectors say what messages alone say: entry f of a live state, of a checkpoint or of a message, is above a exactly if checkpoint a of f comes before it.
 -- So a delivery forces a checkpoint exactly if the lists say so.
 -- Assumes nothing.
-use Rattle.laws.specs.Basics.{◌≡◌, true, List, ℕ, zero, suc, ◌-◌, ◌≤◌, ◌<◌, arith, ltb, ltb-true, ltb-false, by_bool, by_eq}
+use Rattle.std.specs.Prelude.{◌≡◌, ◌-◌, ◌≤◌, ◌<◌}
+use Rattle.laws.specs.Basics.{true, List, ℕ, zero, suc, arith, ltb, ltb-true, ltb-false, by_bool, by_eq}
 use mathlib.Core.List.{Memᴰ}
 use Rattle.histories.specs.History.{HistoryEvent, sent, received, checkpoints, after_state, before_checkpoint, before, ComesBefore, within, message}
 use Rattle.histories.proofs.{Places.Stands, Places.stands_le, Cuts.stands_member, Cuts.member_stands, Cuts.after_state_out, Cuts.after_state_in}

@@ -1,5 +1,6 @@
 -- The ledger of a run changes nothing else: the invariant and what is kept are the same whatever it says.
-use Rattle.laws.specs.Basics.{◌≡◌, refl, ℕ}
+use Rattle.std.specs.Prelude.{◌≡◌}
+use Rattle.laws.specs.Basics.{refl, ℕ}
 use Rattle.histories.proofs.{Run.Ideal, Run.Ledger, Run.with_ledger, Run.keeps, Invariant.Inv}
 
 module _ (r : Ideal) (l : Ledger) where

@@ -1,6 +1,7 @@
 -- The line of the rule: it has a state at each process, which is the latest of all states that pass the rule, deleted or not;
 -- it is consistent by messages.
-use Rattle.laws.specs.Basics.{◌≡◌, refl, sym, ◌∙◌, ap, true, false, ◌||◌, some, ℕ, zero, suc, ◌≤◌, ◌<◌, arith, eqb, ltb, leb, eq-eqb, ne_eqb, lt-ltb, le-ltb, leb-true, leb-false, by_bool, by_eq}
+use Rattle.std.specs.Prelude.{◌≡◌, ◌||◌, ◌≤◌, ◌<◌}
+use Rattle.laws.specs.Basics.{refl, sym, ◌∙◌, ap, true, false, some, ℕ, zero, suc, arith, eqb, ltb, leb, eq-eqb, ne_eqb, lt-ltb, le-ltb, leb-true, leb-false, by_bool, by_eq}
 use Rattle.laws.specs.{Search.latest_is, Search.latest_out, Search.latest_of, Truth.and_both, Truth.and_no_right}
 use Rattle.histories.specs.History.{HistoryEvent, sent, received, checkpoints, Consistent}
 use Rattle.histories.proofs.{Places.Stands, Places.stands_le, Cuts.member_stands, Cuts.up_to_out, Cuts.after_state_out, Invariant.Inv}

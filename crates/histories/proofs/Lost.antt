@@ -1,5 +1,6 @@
 -- A loss keeps the invariant: fewer messages are under way, and nothing else changes.
-use Rattle.laws.specs.Basics.{◌≡◌, refl, sym, ◌∙◌, true, false, ℕ, by_eq}
+use Rattle.std.specs.Prelude.{◌≡◌}
+use Rattle.laws.specs.Basics.{refl, sym, ◌∙◌, true, false, ℕ, by_eq}
 use Rattle.laws.specs.{Truth.never_both, Update.upds}
 use Rattle.histories.proofs.{Run.Ideal, Run.lost, Run.keeps, Invariant.Inv}
 

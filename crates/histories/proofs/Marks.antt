@@ -1,6 +1,7 @@
 -- The other half of what a sent mark says: where it is set, a send stands in the live interval, after the last checkpoint. Each step keeps this.
 -- Assumes nothing.
-use Rattle.laws.specs.Basics.{◌≡◌, refl, sym, ◌∙◌, true, ℕ, suc, by_bool, by_eq}
+use Rattle.std.specs.Prelude.{◌≡◌}
+use Rattle.laws.specs.Basics.{refl, sym, ◌∙◌, true, ℕ, suc, by_bool, by_eq}
 use Rattle.laws.specs.Truth.{never_both}
 use Rattle.histories.specs.History.{sent}
 use Rattle.histories.proofs.{Places.Stands, Places.stands_end, Invariant.Inv, Delivered.delivered_forced, Delivered.delivered_plain}

@@ -1,6 +1,7 @@
 -- No consistent line that gives up the live state of each failed process is later than the line of the rule, at any process. So the line follows from
 -- the history.
-use Rattle.laws.specs.Basics.{◌≡◌, sym, ap, true, ℕ, zero, suc, ◌≤◌, ◌<◌, arith, leb, leb-true, leb-false, by_bool, by_eq}
+use Rattle.std.specs.Prelude.{◌≡◌, ◌≤◌, ◌<◌}
+use Rattle.laws.specs.Basics.{sym, ap, true, ℕ, zero, suc, arith, leb, leb-true, leb-false, by_bool, by_eq}
 use native.Mathlib.Nat.{not-suc-le-zero}
 use Rattle.histories.specs.History.{Lists, sent, received, checkpoints, Line, Consistent}
 use Rattle.histories.proofs.{Places.Stands, Cuts.stands_member, Cuts.up_to_in, Cuts.after_state_in, Run.Ideal, Run.Failed, Run.line, Run.rolled}

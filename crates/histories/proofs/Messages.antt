@@ -1,5 +1,6 @@
 -- What the invariant says of messages: each is sent and received at one place, and one under way carries what its sender knew.
-use Rattle.laws.specs.Basics.{◌≡◌, sym, ◌∙◌, true, ℕ, suc, ◌≤◌, ◌<◌, arith}
+use Rattle.std.specs.Prelude.{◌≡◌, ◌≤◌, ◌<◌}
+use Rattle.laws.specs.Basics.{sym, ◌∙◌, true, ℕ, suc, arith}
 use Rattle.histories.specs.History.{sent}
 use Rattle.histories.proofs.{Apart.sent_stored, Places.Stands, Times.times, Times.one_place, Run.Ideal, Invariant.Inv, Invariant.Proper, Line.interval}
 

@@ -1,6 +1,7 @@
 -- Which messages outlive a recovery, by the lists: those that were under way and whose send still stands in the list of its sender.
 -- Assumes nothing.
-use Rattle.laws.specs.Basics.{◌≡◌, refl, sym, true, ◌&&◌, false≢true, List, [], ◌∷◌, inl, inr, ℕ, ◌≤◌, arith, eqb, leb, eq-eqb, eqb-true, leb-true, leb-false, by_bool}
+use Rattle.std.specs.Prelude.{◌≡◌, ◌&&◌, ◌∷◌, ◌≤◌}
+use Rattle.laws.specs.Basics.{refl, sym, true, false≢true, List, [], inl, inr, ℕ, arith, eqb, leb, eq-eqb, eqb-true, leb-true, leb-false, by_bool}
 use Rattle.laws.specs.{Search.any_in, Search.any_out, Truth.or_left, Truth.or_in_right}
 use Rattle.histories.specs.History.{HistoryEvent, stored, sent, received, is_sent, still_sent}
 use Rattle.histories.proofs.{Places.Stands, Places.first, Places.stands_cons, Places.stands_nil, Cuts.past_stored, Cuts.past_sent, Cuts.past_received}

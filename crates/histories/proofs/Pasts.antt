@@ -1,6 +1,7 @@
 -- The part of a list before a checkpoint, by intervals: what stands in it stands in the list with at most that many checkpoints before it.
 -- Assumes nothing.
-use Rattle.laws.specs.Basics.{◌≡◌, refl, ap, List, [], ◌∷◌, inl, inr, ℕ, zero, suc, ◌≤◌, ◌<◌, arith}
+use Rattle.std.specs.Prelude.{◌≡◌, ◌∷◌, ◌≤◌, ◌<◌}
+use Rattle.laws.specs.Basics.{refl, ap, List, [], inl, inr, ℕ, zero, suc, arith}
 use mathlib.Core.List.Memᴰ
 use mathlib.Core.List.{Memᴰ}
 use native.Mathlib.Nat.{not-suc-le-zero}

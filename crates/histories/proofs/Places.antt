@@ -1,6 +1,7 @@
 -- Places in one list of the surviving history. The interval of an event is the number of checkpoints that stand before it in its list;
 -- with it "before" and "after" a state are comparisons of numbers.
-use Rattle.laws.specs.Basics.{◌≡◌, refl, sym, ◌∙◌, List, [], ◌∷◌, ◌++◌, ◌⊎◌, inl, inr, ℕ, suc, ◌+◌, ◌≤◌, arith}
+use Rattle.std.specs.Prelude.{◌≡◌, ◌∷◌, ◌++◌, ◌⊎◌, ◌+◌, ◌≤◌}
+use Rattle.laws.specs.Basics.{refl, sym, ◌∙◌, List, [], inl, inr, ℕ, suc, arith}
 use Rattle.histories.specs.History.{HistoryEvent, stored, sent, received, checkpoints}
 use Rattle.histories.proofs.Apart.{same_sent, same_received, sent_stored, received_stored, sent_received}
 

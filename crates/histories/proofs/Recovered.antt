@@ -1,5 +1,6 @@
 -- A recovery keeps the invariant: here the pins, and then all clauses together.
-use Rattle.laws.specs.Basics.{◌≡◌, sym, ◌∙◌, ap, Bool, true, false, some, ℕ, suc, ◌≤◌, ◌<◌, arith, ltb, leb, lt-ltb, le-ltb, leb-true, leb-false, by_bool, by_eq}
+use Rattle.std.specs.Prelude.{◌≡◌, ◌≤◌, ◌<◌}
+use Rattle.laws.specs.Basics.{sym, ◌∙◌, ap, Bool, true, false, some, ℕ, suc, arith, ltb, leb, lt-ltb, le-ltb, leb-true, leb-false, by_bool, by_eq}
 use Rattle.laws.specs.{Options.some_same, Options.none≢some, Search.latest_is, Truth.and_both, Truth.and_no_right}
 use Rattle.histories.proofs.{Run.Ideal, Run.Failed, Run.keeps, Run.line, Run.rolled, Run.recovered, Rule.keeps_in, Rule.keeps_out}
 use Rattle.histories.proofs.{Invariant.Inv, Invariant.Pinned, Line.rising, Line.line_back}

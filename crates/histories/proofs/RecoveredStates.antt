@@ -1,6 +1,7 @@
 -- The states and the messages after a recovery: what a surviving state knows of another process is at most that one's member,
 -- so all that it cites survives.
-use Rattle.laws.specs.Basics.{◌≡◌, sym, ◌∙◌, ap, Bool, true, false, ◌⊎◌, inl, inr, ℕ, suc, ◌≤◌, ◌<◌, arith, by_bool, by_eq}
+use Rattle.std.specs.Prelude.{◌≡◌, ◌⊎◌, ◌≤◌, ◌<◌}
+use Rattle.laws.specs.Basics.{sym, ◌∙◌, ap, Bool, true, false, inl, inr, ℕ, suc, arith, by_bool, by_eq}
 use Rattle.histories.specs.History.{HistoryEvent, stored, sent, received, checkpoints}
 use Rattle.histories.proofs.{Places.Stands, Times.times, Times.times_up_to, Cuts.up_to_out, Cuts.up_to_in, Cuts.checkpoints_up_to}
 use Rattle.histories.proofs.{Run.Ideal, Run.Failed, Run.line, Run.rolled, Run.recovered, Messages.sent_in, Messages.sent_in_stands, Messages.underway_sent}

@@ -1,5 +1,6 @@
 -- How a recovery changes the run: one lemma for each view.
-use Rattle.laws.specs.Basics.{◌≡◌, refl, true, false, ◌&&◌, none, ℕ, suc, ◌≤◌, arith, ltb, eq-eqb, ne_eqb, leb-true, by_bool}
+use Rattle.std.specs.Prelude.{◌≡◌, ◌&&◌, ◌≤◌}
+use Rattle.laws.specs.Basics.{refl, true, false, none, ℕ, suc, arith, ltb, eq-eqb, ne_eqb, leb-true, by_bool}
 use Rattle.laws.specs.{Search.latest, Truth.and_left, Truth.and_right, Update.upds}
 use Rattle.histories.specs.History.{up_to}
 use Rattle.histories.proofs.Run.{Ideal, Failed, keeps, line, rolled, own_after, vector_after, pin_after, outlives, recovered}

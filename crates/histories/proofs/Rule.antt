@@ -1,5 +1,6 @@
 -- What the tests of the run say: a state passes the rule of the line, a process rolls back, a checkpoint is kept.
-use Rattle.laws.specs.Basics.{◌≡◌, refl, ap, true, false, Option, none, some, ℕ, ◌≤◌, ◌<◌, eq-eqb, eqb-true, lt-ltb, ltb-true, ltb-false, not-true, not-false, by_bool}
+use Rattle.std.specs.Prelude.{◌≡◌, ◌≤◌, ◌<◌}
+use Rattle.laws.specs.Basics.{refl, ap, true, false, Option, none, some, ℕ, eq-eqb, eqb-true, lt-ltb, ltb-true, ltb-false, not-true, not-false, by_bool}
 use Rattle.laws.specs.{Search.any_out, Search.any_in, Search.all_out, Search.all_in, Search.all_fails, Truth.never_both}
 use Rattle.histories.proofs.Run.{Ideal, Failed, safe, names, keeps, rolled}
 

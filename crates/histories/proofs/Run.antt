@@ -1,7 +1,8 @@
 -- The run as functions of process, state, message and so on: what the proofs about the whole run speak of. Beside what the state of the run holds it keeps
 -- the vectors of all checkpoints of the surviving history, deleted or not, what each message carried, and the surviving history itself.
 -- Each step is a total function; a proof uses it for accepted calls alone.
-use Rattle.laws.specs.Basics.{Bool, true, false, not, ◌&&◌, ◌||◌, List, [], ◌∷◌, ◌++◌, Option, none, some, ℕ, suc, ◌+◌, max, eqb, ltb, leb, get_or, pick}
+use Rattle.std.specs.Prelude.{◌&&◌, ◌||◌, ◌∷◌, ◌++◌, ◌+◌}
+use Rattle.laws.specs.Basics.{Bool, true, false, not, List, [], Option, none, some, ℕ, suc, max, eqb, ltb, leb, get_or, pick}
 use Rattle.laws.specs.{Search.any_below, Search.all_below, Search.latest, Sums.sum_below, Update.upd}
 use Rattle.histories.specs.History.{HistoryEvent, stored, sent, received, up_to}
 

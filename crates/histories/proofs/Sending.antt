@@ -1,5 +1,6 @@
 -- A send keeps the invariant: the new message carries the vector of the live state, and the sent mark is set.
-use Rattle.laws.specs.Basics.{◌≡◌, refl, sym, ◌∙◌, ap, true, [], ◌∷◌, ◌++◌, some, ◌⊎◌, inl, inr, ℕ, suc, ◌≤◌, ◌<◌, arith, by_eq}
+use Rattle.std.specs.Prelude.{◌≡◌, ◌∷◌, ◌++◌, ◌⊎◌, ◌≤◌, ◌<◌}
+use Rattle.laws.specs.Basics.{refl, sym, ◌∙◌, ap, true, [], some, inl, inr, ℕ, suc, arith, by_eq}
 use Rattle.laws.specs.Update.{upds}
 use Rattle.histories.specs.History.{HistoryEvent, stored, sent, received, checkpoints}
 use Rattle.histories.proofs.Places.{Stands, stands_still, stands_end, sent_or_before, received_before_sent, checkpoints_sent}

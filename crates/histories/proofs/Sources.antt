@@ -1,6 +1,7 @@
 -- Where the knowledge that a message carries came from, by place: a message received before that send, which carried as much. Each step keeps this.
 -- Assumes nothing.
-use Rattle.laws.specs.Basics.{◌≡◌, List, [], ◌∷◌, ◌++◌, inl, inr, ℕ, suc, ◌≤◌, ◌<◌, arith, by_bool, by_eq}
+use Rattle.std.specs.Prelude.{◌≡◌, ◌∷◌, ◌++◌, ◌≤◌, ◌<◌}
+use Rattle.laws.specs.Basics.{List, [], inl, inr, ℕ, suc, arith, by_bool, by_eq}
 use mathlib.Core.List.{Memᴰ}
 use Rattle.histories.specs.History.{HistoryEvent, stored, sent, received, up_to, before}
 use Rattle.histories.proofs.Run.{Ideal, Failed, begin, checkpointed, sending, forces, taken_in, delivered, lost, line, rolled, recovered}

@@ -1,7 +1,8 @@
 -- Which pins name a checkpoint: those of whoever knew the current interval when the run last started or recovered, and those of entries that have risen
 -- since. Each step keeps this.
 -- Assumes nothing.
-use Rattle.laws.specs.Basics.{◌≡◌, refl, sym, ◌∙◌, Option, none, some, ◌⊎◌, inl, inr, ℕ, ◌≤◌, ◌<◌, arith, ltb, ltb-true, ltb-false, by_bool, by_eq}
+use Rattle.std.specs.Prelude.{◌≡◌, ◌⊎◌, ◌≤◌, ◌<◌}
+use Rattle.laws.specs.Basics.{refl, sym, ◌∙◌, Option, none, some, inl, inr, ℕ, arith, ltb, ltb-true, ltb-false, by_bool, by_eq}
 use Rattle.histories.proofs.Run.{Ideal, Failed, begin, checkpointed, sending, forces, taken_in, delivered, lost, recovered}
 use Rattle.histories.proofs.{Invariant.Inv, Line.own_pin, Begin.begin_inv, Begin.begin_own, Begin.begin_self, Begin.begin_pin_other}
 use Rattle.histories.proofs.CheckpointedViews.{checkpointed_n, checkpointed_row_own, checkpointed_row_other, checkpointed_row, checkpointed_pin, checkpointed_pin_row, checkpointed_pin_column, checkpointed_receiver}

@@ -1,6 +1,7 @@
 -- The messages of a run and of a sub-run of it: the sub-run has sent those alone that carry at most g of process f. What is under way in it are these messages,
 -- under numbers of its own.
-use Rattle.laws.specs.Basics.{◌≡◌, refl, sym, ◌∙◌, ap, Bool, true, false, ◌&&◌, ℕ, suc, ◌≤◌, ◌<◌, arith, leb, le-leb, lt-leb, by_bool, by_eq}
+use Rattle.std.specs.Prelude.{◌≡◌, ◌&&◌, ◌≤◌, ◌<◌}
+use Rattle.laws.specs.Basics.{refl, sym, ◌∙◌, ap, Bool, true, false, ℕ, suc, arith, leb, le-leb, lt-leb, by_bool, by_eq}
 use Rattle.laws.specs.{Counting.count_same, Counting.count_off, Tests.count_below, Truth.never_both, Truth.and_both}
 use Rattle.laws.specs.Update.{upd, upd_same, upd_other, upd_same₁, upd_other₁}
 use Rattle.histories.proofs.{Run.Ideal, Run.checkpointed, Run.sending, Run.forces, Run.taken_in, Run.taken_by, Run.delivered, Run.lost, Invariant.Inv}

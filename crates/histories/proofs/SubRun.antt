@@ -1,6 +1,7 @@
 -- A sub-run: a run without checkpoint g of process f and all that comes causally after it. A call at process b is in it exactly if b knows at most interval g of f after the
 -- call, and then it does there what it does in the run: a process is whole in the sub-run as long as it knows at most g of f; f itself ends in interval g.
-use Rattle.laws.specs.Basics.{◌≡◌, refl, sym, ◌∙◌, ap, subst, true, List, ℕ, suc, ◌≤◌, ◌<◌, arith, leb, leb-true, leb-false, by_bool, by_eq}
+use Rattle.std.specs.Prelude.{◌≡◌, ◌≤◌, ◌<◌}
+use Rattle.laws.specs.Basics.{refl, sym, ◌∙◌, ap, subst, true, List, ℕ, suc, arith, leb, leb-true, leb-false, by_bool, by_eq}
 use Rattle.histories.proofs.Run.{Ideal, because, begin, begun, newer, checkpointed, sending, forces, delivered}
 use Rattle.histories.proofs.{Invariant.Inv, Messages.underway_own, Delivered.delivered_inv, Sending.sending_n, Sending.sending_own}
 use Rattle.histories.proofs.Local.{Local, local_of, got_at, forces_at, local_took_other, local_sent_other, local_got, local_got_other, forces_local}

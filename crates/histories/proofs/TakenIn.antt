@@ -1,5 +1,6 @@
 -- Taking in a message keeps the invariant, where the receiver's sent mark is clear or nothing that is carried is newer.
-use Rattle.laws.specs.Basics.{◌≡◌, refl, sym, ◌∙◌, ap, true, ◌⊎◌, inl, inr, ℕ, suc, ◌≤◌, ◌<◌, max, arith, leb, leb-true, leb-false, by_bool, by_eq}
+use Rattle.std.specs.Prelude.{◌≡◌, ◌⊎◌, ◌≤◌, ◌<◌}
+use Rattle.laws.specs.Basics.{refl, sym, ◌∙◌, ap, true, inl, inr, ℕ, suc, max, arith, leb, leb-true, leb-false, by_bool, by_eq}
 use Rattle.laws.specs.Truth.{never_both}
 use Rattle.histories.specs.History.{HistoryEvent, stored, sent, received, checkpoints}
 use Rattle.histories.proofs.{Places.Stands, Times.times, Times.single_end, Run.Ideal, Run.taken_by, Run.taken_in, TakenInPins.pinned', TakenInPins.pins'}

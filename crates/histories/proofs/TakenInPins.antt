@@ -1,5 +1,6 @@
 -- The pins after a message is taken in: what each of them names is still the checkpoint right before its process learnt all that it knows.
-use Rattle.laws.specs.Basics.{◌≡◌, sym, ◌∙◌, ap, true, some, inl, inr, ℕ, suc, ◌≤◌, ◌<◌, arith, leb, leb-true, leb-false, by_bool, by_eq}
+use Rattle.std.specs.Prelude.{◌≡◌, ◌≤◌, ◌<◌}
+use Rattle.laws.specs.Basics.{sym, ◌∙◌, ap, true, some, inl, inr, ℕ, suc, arith, leb, leb-true, leb-false, by_bool, by_eq}
 use Rattle.histories.proofs.{Run.Ideal, Run.taken_by, Run.taken_in, Invariant.Inv, Invariant.Pinned, Line.rising, Line.own_pin, Messages.underway_proper}
 use Rattle.histories.proofs.TakenInViews.{taken_in_live, taken_in_vector, taken_in_pin_risen, taken_in_pin_same, taken_in_pin_other, taken_in_state}
 

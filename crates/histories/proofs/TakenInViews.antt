@@ -1,5 +1,6 @@
 -- How taking in a message changes the run: one lemma for each view, and what it does to kept checkpoints and to the lists.
-use Rattle.laws.specs.Basics.{◌≡◌, refl, sym, ◌∙◌, true, false, [], ◌∷◌, ◌++◌, some, ◌⊎◌, inl, inr, ℕ, ◌≤◌, ◌<◌, max, arith, leb, lt-ltb, le-ltb, leb-true, leb-false, by_bool, by_eq}
+use Rattle.std.specs.Prelude.{◌≡◌, ◌∷◌, ◌++◌, ◌⊎◌, ◌≤◌, ◌<◌}
+use Rattle.laws.specs.Basics.{refl, sym, ◌∙◌, true, false, [], some, inl, inr, ℕ, max, arith, leb, lt-ltb, le-ltb, leb-true, leb-false, by_bool, by_eq}
 use Rattle.laws.specs.Update.{upds}
 use Rattle.histories.specs.History.{HistoryEvent, sent, received, checkpoints}
 use Rattle.histories.proofs.Places.{Stands, stands_still, stands_end, sent_before_received, received_or_before, checkpoints_received}

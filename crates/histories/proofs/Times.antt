@@ -1,5 +1,6 @@
 -- How often an event stands in a list, and that it stands there once.
-use Rattle.laws.specs.Basics.{◌≡◌, refl, sym, ◌∙◌, ap, Bool, true, false, List, [], ◌∷◌, ◌++◌, inl, inr, ℕ, zero, suc, ◌+◌, ◌≤◌, arith, eqb, eq-eqb, eqb-true, pick, by_bool}
+use Rattle.std.specs.Prelude.{◌≡◌, ◌∷◌, ◌++◌, ◌+◌, ◌≤◌}
+use Rattle.laws.specs.Basics.{refl, sym, ◌∙◌, ap, Bool, true, false, List, [], inl, inr, ℕ, zero, suc, arith, eqb, eq-eqb, eqb-true, pick, by_bool}
 use Rattle.laws.specs.Truth.{never_both}
 use Rattle.histories.specs.History.{HistoryEvent, stored, sent, received, up_to}
 use Rattle.histories.proofs.Places.{Stands, first, later, weight, stands_cons, stands_nil}

@@ -1,6 +1,7 @@
 -- Document 01, "The surviving history": the lists, and the places in them. How calls and answers build the lists is in Survival.
 -- Assumes nothing.
-use Rattle.laws.specs.Basics.{◌≡◌, Bool, false, ◌||◌, List, [], ◌∷◌, ℕ, zero, suc, ◌<◌, eqb, pick}
+use Rattle.std.specs.Prelude.{◌≡◌, ◌||◌, ◌∷◌, ◌<◌}
+use Rattle.laws.specs.Basics.{Bool, false, List, [], ℕ, zero, suc, eqb, pick}
 use mathlib.Core.List.{Memᴰ}
 use Rattle.laws.specs.Search.{any_below}
 

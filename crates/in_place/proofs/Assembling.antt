@@ -1,6 +1,7 @@
 -- A state of which every clause of document 01's "A sound state" holds is sound.
 -- Assumes nothing.
-use Rattle.laws.specs.Basics.{◌≡◌, true, ◌&&◌, ℕ, ◌<◌, eq-eqb, le-leb}
+use Rattle.std.specs.Prelude.{◌≡◌, ◌&&◌, ◌<◌}
+use Rattle.laws.specs.Basics.{true, ℕ, eq-eqb, le-leb}
 use Rattle.laws.specs.{Search.all_in, Truth.and_both}
 use Rattle.model.specs.declared.Run.{Run}
 use Rattle.model.specs.Sound.{count_sound, own_sound, vectors_sound, kept_sound, pins_sound, messages_sound, row_unused, unused_sound, disk_sound, sound}

@@ -1,6 +1,7 @@
 -- What lists of calls in place leave: the words stand for the state after the calls, and unused places stay zero from a start on.
 -- Assumes nothing.
-use Rattle.laws.specs.Basics.{◌≡◌, ◌∙◌, ap, List, [], ◌∷◌, ℕ}
+use Rattle.std.specs.Prelude.{◌≡◌, ◌∷◌}
+use Rattle.laws.specs.Basics.{◌∙◌, ap, List, [], ℕ}
 use Rattle.model.specs.declared.Run.{Run}
 use Rattle.whole_runs.specs.Calls.{Call, state_after}
 use Rattle.words.specs.{Clean.Clean, Layout.run_of}

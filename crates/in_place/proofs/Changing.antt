@@ -1,6 +1,7 @@
 -- A sound state stays sound where other messages are under way, and where the part of one process and the blocks written and deleted are others, by what holds of these.
 -- Assumes nothing.
-use Rattle.laws.specs.Basics.{◌≡◌, refl, sym, ◌∙◌, ap, subst, Bool, true, false, List, [], map, ℕ, ◌+◌, ◌≤◌, ◌<◌, arith, eqb, leb, length, get_or, drop, get_or-set_same, get_or-set_other, eq-eqb, ne_eqb, le-leb, leb-true, pick, by_eq}
+use Rattle.std.specs.Prelude.{◌≡◌, ◌+◌, ◌≤◌, ◌<◌}
+use Rattle.laws.specs.Basics.{refl, sym, ◌∙◌, ap, subst, Bool, true, false, List, [], map, ℕ, arith, eqb, leb, length, get_or, drop, get_or-set_same, get_or-set_other, eq-eqb, ne_eqb, le-leb, leb-true, pick, by_eq}
 use lib.Seq.{drop-set-lt}
 use Rattle.laws.specs.{Elements.every_from, Lists.select, Lists.placed, Prefixes.placed_length, Prefixes.every_select, Search.all_in, Search.all_out}
 use Rattle.laws.specs.{Select.select_length, Sums.sum_below, Sums.sum_both, Sums.sum_only, Tables.take_placed, Tests.every}

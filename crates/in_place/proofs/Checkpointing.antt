@@ -1,6 +1,7 @@
 -- Which checkpoint is refused, test by test, and what an accepted one leaves.
 -- Assumes nothing.
-use Rattle.laws.specs.Basics.{◌≡◌, refl, sym, ◌∙◌, ap, Bool, true, false, List, none, some, ℕ, ◌+◌, ◌*◌, ◌≤◌, ◌<◌, arith, ltb, leb, length, sets, le-leb, lt-leb, leb-false, pick, by_bool}
+use Rattle.std.specs.Prelude.{◌≡◌, ◌+◌, ◌*◌, ◌≤◌, ◌<◌}
+use Rattle.laws.specs.Basics.{refl, sym, ◌∙◌, ap, Bool, true, false, List, none, some, ℕ, arith, ltb, leb, length, sets, le-leb, lt-leb, leb-false, pick, by_bool}
 use Rattle.model.specs.declared.{CheckpointIndex.CheckpointIndex, CheckpointAnswer.CheckpointAnswer, Refusal.Refusal, Run.Run, Interval.Interval}
 use Rattle.model.specs.declared.CheckpointAnswer.TheVariants.{Stored, Refused}
 use Rattle.model.specs.declared.Refusal.TheVariants.{ListTooShort, NoSuchProcess, IntervalsUsed, BlocksUsed}

@@ -1,6 +1,7 @@
 -- A message that reaches its receiver: the receipt changes the receiver's part and the blocks, then the message is taken out of its place.
 -- Assumes nothing.
-use Rattle.laws.specs.Basics.{◌≡◌, sym, ◌∙◌, ap, Bool, true, false, not, List, none, some, ℕ, suc, ◌*◌, ◌≤◌, ◌<◌, arith, eqb, ltb, length, pick, by_bool}
+use Rattle.std.specs.Prelude.{◌≡◌, ◌*◌, ◌≤◌, ◌<◌}
+use Rattle.laws.specs.Basics.{sym, ◌∙◌, ap, Bool, true, false, not, List, none, some, ℕ, suc, arith, eqb, ltb, length, pick, by_bool}
 use Rattle.laws.specs.{Lists.select}
 use Rattle.model.specs.{declared.Disk.Disk, declared.Message.Message, declared.Run.Run, Sound.sound}
 use Rattle.model.specs.Words.{forced, Process, block_count, blocks_of, process, with_process, with_messages, with_disk}

@@ -1,6 +1,7 @@
 -- Which start is refused, test by test.
 -- Assumes nothing.
-use Rattle.laws.specs.Basics.{◌≡◌, refl, ◌∙◌, ap, Bool, true, false, not, List, [], none, some, ℕ, zero, suc, ◌≤◌, ◌<◌, arith, length, get_or, eq-eqb, ne_eqb, lt-ltb, le-ltb, le-leb, lt-leb, by_bool}
+use Rattle.std.specs.Prelude.{◌≡◌, ◌≤◌, ◌<◌}
+use Rattle.laws.specs.Basics.{refl, ◌∙◌, ap, Bool, true, false, not, List, [], none, some, ℕ, zero, suc, arith, length, get_or, eq-eqb, ne_eqb, lt-ltb, le-ltb, le-leb, lt-leb, by_bool}
 use Rattle.laws.specs.Search.{any_below, all_below}
 use Rattle.model.specs.declared.{Refusal.Refusal, StartAnswer.TheVariants.Refused, StartAnswer.TheVariants.Started, Run.Run, StartAnswer.StartAnswer}
 use Rattle.model.specs.declared.Refusal.TheVariants.{CountOutsideRange, UnsoundState, ListTooShort, BlockCountOutsideRange}

@@ -1,6 +1,7 @@
 -- One process's part of a sound state: it stays sound where a checkpoint is stored, where a carried vector is taken in, and where what no pin names is deleted.
 -- Assumes nothing.
-use Rattle.laws.specs.Basics.{◌≡◌, refl, sym, ◌∙◌, ap, Bool, true, false, not, ◌&&◌, ◌||◌, List, [], ◌∷◌, ◌++◌, map, Option, some, ℕ, zero, suc, ◌+◌, ◌-◌, ◌≤◌, ◌<◌, arith, eqb, leb, length, get_or, take, drop, set, length-set, length-append, get_or-set_same, get_or-set_other, length-take-le, eq-eqb, ne_eqb, eqb-true, le-ltb, le-leb, leb-true, not-true, by_bool, by_eq}
+use Rattle.std.specs.Prelude.{◌≡◌, ◌&&◌, ◌||◌, ◌∷◌, ◌++◌, ◌+◌, ◌-◌, ◌≤◌, ◌<◌}
+use Rattle.laws.specs.Basics.{refl, sym, ◌∙◌, ap, Bool, true, false, not, List, [], map, Option, some, ℕ, zero, suc, arith, eqb, leb, length, get_or, take, drop, set, length-set, length-append, get_or-set_same, get_or-set_other, length-take-le, eq-eqb, ne_eqb, eqb-true, le-ltb, le-leb, leb-true, not-true, by_bool, by_eq}
 use lib.ListN.{get_or-eq_default}
 use Rattle.laws.specs.{Lists.select, Lists.or_else, Lists.last_of, Elements.every_append, Elements.every_single, Elements.every_from, Elements.every_table}
 use Rattle.laws.specs.{Prefixes.select_same, Prefixes.every_select, Rows.every_at, Rows.every_by, Rows.every_beyond, Rows.some_at, Rows.by_lt}

@@ -1,6 +1,7 @@
 -- The line call: what its outcome is, by the list's length, the failed set, and whether each process has a member.
 -- Assumes nothing.
-use Rattle.laws.specs.Basics.{◌≡◌, refl, sym, ◌∙◌, ap, Bool, true, false, not, false≢true, List, [], none, some, ℕ, ◌^◌, ◌≤◌, arith, ltb, leb, length, get_or, sets, pick, by_bool}
+use Rattle.std.specs.Prelude.{◌≡◌, ◌^◌, ◌≤◌}
+use Rattle.laws.specs.Basics.{refl, sym, ◌∙◌, ap, Bool, true, false, not, false≢true, List, [], none, some, ℕ, arith, ltb, leb, length, get_or, sets, pick, by_bool}
 use Rattle.laws.specs.{Below.not_out, Lists.table}
 use Rattle.words_line.specs.Line.{limits_in, has_members, pasts_in, indexes_in, OwnSome, KeptCountMost, AllUsed, AllFound}
 use Rattle.words_line.proofs.LineRule.{pasts_length, all_found, past_at, found_one, line_is}

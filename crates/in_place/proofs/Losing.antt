@@ -1,6 +1,7 @@
 -- A message looked up in the words is the one that the run has under way; taken out of them it is lost.
 -- Assumes nothing.
-use Rattle.laws.specs.Basics.{◌≡◌, refl, sym, ◌∙◌, ap, true, false, not, ◌&&◌, List, [], none, some, ℕ, zero, suc, ◌≤◌, ◌<◌, arith, eqb, length, eq-eqb, ne_eqb, by_bool, by_eq}
+use Rattle.std.specs.Prelude.{◌≡◌, ◌&&◌, ◌≤◌, ◌<◌}
+use Rattle.laws.specs.Basics.{refl, sym, ◌∙◌, ap, true, false, not, List, [], none, some, ℕ, zero, suc, arith, eqb, length, eq-eqb, ne_eqb, by_bool, by_eq}
 use Rattle.laws.specs.{Lists.select, Lists.last_of, Lists.table, Prefixes.select_none, Rows.by_lt, Select.select_select}
 use Rattle.model.specs.{declared.Message.Message, declared.Refusal.TheVariants.NotUnderWay, declared.Run.Run, laws.Refusals.refusal_in}
 use Rattle.model.specs.{Words.with_messages, Steps.found, Steps.others, Steps.lose_state, Sound.sound, Refusals.lose_refusal}

@@ -1,6 +1,7 @@
 -- Words in which one process and the blocks have changed: the run that they stand for, and that unused places stay zero.
 -- Assumes nothing.
-use Rattle.laws.specs.Basics.{◌≡◌, ◌∙◌, ap, true, List, ℕ, ◌≤◌, ◌<◌}
+use Rattle.std.specs.Prelude.{◌≡◌, ◌≤◌, ◌<◌}
+use Rattle.laws.specs.Basics.{◌∙◌, ap, true, List, ℕ}
 use Rattle.model.specs.declared.Disk.{Disk}
 use Rattle.model.specs.Words.{Process, with_process, with_disk}
 use Rattle.words.specs.Layout.{count_of, fits, run_of}

@@ -1,6 +1,7 @@
 -- The earliest call: what its outcome is, by its tests in their order.
 -- Assumes nothing.
-use Rattle.laws.specs.Basics.{◌≡◌, refl, sym, ◌∙◌, ap, true, false, not, ◌||◌, List, [], Option, none, some, ℕ, ◌*◌, ◌≤◌, arith, eqb, ltb, leb, length, sets, le-ltb, ltb-false}
+use Rattle.std.specs.Prelude.{◌≡◌, ◌||◌, ◌*◌, ◌≤◌}
+use Rattle.laws.specs.Basics.{refl, sym, ◌∙◌, ap, true, false, not, List, [], Option, none, some, ℕ, arith, eqb, ltb, leb, length, sets, le-ltb, ltb-false}
 use Rattle.laws.specs.{Lists.table, Search.any_below, Tests.some_of, Truth.or_none}
 use Rattle.model.specs.declared.{Refusal.Refusal, Named.Named, Run.Run, LineAnswer.LineAnswer, LineAnswer.TheVariants.Refused, LineAnswer.TheVariants.Written}
 use Rattle.model.specs.declared.Refusal.TheVariants.{ListTooShort, NoSuchProcess, UnfitNamedList, NotKept, CausallyOrdered}

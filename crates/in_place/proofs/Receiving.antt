@@ -1,6 +1,7 @@
 -- A delivery on the words: which one is refused, what one leaves that brings nothing new, and what one leaves that does.
 -- Assumes nothing.
-use Rattle.laws.specs.Basics.{◌≡◌, refl, sym, ◌∙◌, ap, subst, Bool, true, false, not, ◌&&◌, List, [], none, some, ℕ, suc, ◌+◌, ◌*◌, ◌≤◌, ◌<◌, arith, ltb, length, sets, eqb-true, le-ltb, pick}
+use Rattle.std.specs.Prelude.{◌≡◌, ◌&&◌, ◌+◌, ◌*◌, ◌≤◌, ◌<◌}
+use Rattle.laws.specs.Basics.{refl, sym, ◌∙◌, ap, subst, Bool, true, false, not, List, [], none, some, ℕ, suc, arith, ltb, length, sets, eqb-true, le-ltb, pick}
 use Rattle.laws.specs.{Rows.and_true, Truth.and_no_right}
 use Rattle.model.specs.declared.{CheckpointIndex.CheckpointIndex, Disk.Disk, Interval.Interval, Message.Message, Refusal.Refusal, Run.Run}
 use Rattle.model.specs.declared.{Refusal.TheVariants.ListTooShort, Refusal.TheVariants.NotUnderWay, DeliverAnswer.DeliverAnswer}

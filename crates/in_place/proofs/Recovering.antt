@@ -1,7 +1,8 @@
 -- A recovery that deletes nothing leaves a sound state sound, whether calls led to it or not: a process that goes back keeps its last stored checkpoint, so no own entry
 -- falls, and every vector stays within the own entries.
 -- Assumes nothing.
-use Rattle.laws.specs.Basics.{◌≡◌, refl, sym, ◌∙◌, ap, Bool, true, false, not, ◌&&◌, List, [], ◌∷◌, ℕ, zero, suc, ◌+◌, ◌≤◌, ◌<◌, arith, eqb, leb, length, get_or, drop, eq-eqb, eqb-true, lt-ltb, le-ltb, ltb-true, le-leb, leb-true, by_bool, by_eq}
+use Rattle.std.specs.Prelude.{◌≡◌, ◌&&◌, ◌∷◌, ◌+◌, ◌≤◌, ◌<◌}
+use Rattle.laws.specs.Basics.{refl, sym, ◌∙◌, ap, Bool, true, false, not, List, [], ℕ, zero, suc, arith, eqb, leb, length, get_or, drop, eq-eqb, eqb-true, lt-ltb, le-ltb, ltb-true, le-leb, leb-true, by_bool, by_eq}
 use lib.Dec.{leb-suc-zero}
 use lib.ListN.{length-map}
 use lib.Seq.{set-get_or, get_or-take, drop-set-lt}

@@ -1,6 +1,7 @@
 -- What a send leaves of the words stands for the state that document 01 has.
 -- Assumes nothing.
-use Rattle.laws.specs.Basics.{◌≡◌, refl, sym, ◌∙◌, ap, true, List, [], ◌∷◌, ◌++◌, none, some, ℕ, ◌+◌, ◌-◌, ◌*◌, ◌≤◌, ◌<◌, arith, eqb, length, length-append, ne_eqb, eqb-true, eqb-false, by_bool}
+use Rattle.std.specs.Prelude.{◌≡◌, ◌∷◌, ◌++◌, ◌+◌, ◌-◌, ◌*◌, ◌≤◌, ◌<◌}
+use Rattle.laws.specs.Basics.{refl, sym, ◌∙◌, ap, true, List, [], none, some, ℕ, arith, eqb, length, length-append, ne_eqb, eqb-true, eqb-false, by_bool}
 use Rattle.model.specs.declared.{Message.Message, Refusal.Refusal}
 use Rattle.model.specs.{Words.process, Words.with_process, Words.under_way, Words.with_messages, Steps.sent_message, Steps.marked, Steps.send_state}
 use Rattle.model.specs.{Sound.sound, Refusals.unsound, Refusals.send_refusal, laws.Refusals.skipped}

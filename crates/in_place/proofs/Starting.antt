@@ -1,6 +1,7 @@
 -- What a start leaves of the words stands for the first state of a run, and holds zero in every unused place.
 -- Assumes nothing.
-use Rattle.laws.specs.Basics.{◌≡◌, refl, sym, ◌∙◌, ap, true, false, not, ◌&&◌, List, [], ◌∷◌, none, ℕ, zero, suc, ◌+◌, ◌-◌, ◌*◌, ◌≤◌, ◌<◌, arith, eqb, leb, length, get_or, take, set, replicate, length-set, length-replicate, get_or-replicate, get_or-set_same, get_or-set_other, eq-eqb, eqb-true, le-ltb, ltb-false, leb-true, not-false, by_bool, by_eq}
+use Rattle.std.specs.Prelude.{◌≡◌, ◌&&◌, ◌∷◌, ◌+◌, ◌-◌, ◌*◌, ◌≤◌, ◌<◌}
+use Rattle.laws.specs.Basics.{refl, sym, ◌∙◌, ap, true, false, not, List, [], none, ℕ, zero, suc, arith, eqb, leb, length, get_or, take, set, replicate, length-set, length-replicate, get_or-replicate, get_or-set_same, get_or-set_other, eq-eqb, eqb-true, le-ltb, ltb-false, leb-true, not-false, by_bool, by_eq}
 use native.Mathlib.Numerals.{add-one}
 use Rattle.laws.specs.{Lists.table, Search.all_below, Search.any_none, Search.all_in, Sums.sum_below, Tables.table_is, Truth.and_right}
 use Rattle.model.specs.declared.{Interval.Interval, Pin.TheVariants.Nothing, Pin.TheVariants.At, Checkpoint.Checkpoint}

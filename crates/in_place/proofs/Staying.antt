@@ -1,7 +1,8 @@
 -- A checkpoint, a send, a delivery, a loss and a recovery that deletes nothing leave a sound state sound, whether calls led to it or not. So a state needs no test after
 -- them.
 -- Assumes nothing.
-use Rattle.laws.specs.Basics.{◌≡◌, refl, ◌∙◌, ap, Bool, true, not, List, [], ◌∷◌, ◌++◌, map, ℕ, suc, ◌+◌, ◌≤◌, ◌<◌, arith, eqb, ltb, leb, length, length-append, ne_eqb, lt-ltb, le-ltb, ltb-true, le-leb, pick, by_bool}
+use Rattle.std.specs.Prelude.{◌≡◌, ◌∷◌, ◌++◌, ◌+◌, ◌≤◌, ◌<◌}
+use Rattle.laws.specs.Basics.{refl, ◌∙◌, ap, Bool, true, not, List, [], map, ℕ, suc, arith, eqb, ltb, leb, length, length-append, ne_eqb, lt-ltb, le-ltb, ltb-true, le-leb, pick, by_bool}
 use Rattle.laws.specs.{Elements.every_append, Elements.every_single, Lists.select, Prefixes.every_select, Rows.every_map, Select.map_append, Tables.get_d_table}
 use Rattle.laws.specs.{Tests.every, Truth.and_out, Truth.and_both}
 use Rattle.model.specs.declared.{Interval.Interval, Checkpoint.Checkpoint, Message.Message, Disk.Disk, Run.Run}

@@ -1,6 +1,7 @@
 -- Lists of calls in place: "Each gets the state the one before it returned", here the words that the one before it left. proofs/Called has the theorem.
 -- Assumes nothing.
-use Rattle.laws.specs.Basics.{◌≡◌, List, [], ◌∷◌, ℕ, length}
+use Rattle.std.specs.Prelude.{◌≡◌, ◌∷◌}
+use Rattle.laws.specs.Basics.{List, [], ℕ, length}
 use Rattle.whole_runs.specs.Calls.{Call, call, state_after}
 use Rattle.words.specs.{Clean.Clean, Layout.state_size, Layout.run_of}
 use Rattle.in_place.specs.{Left.Leaves, Starting.start_outcome_in, Starting.start_words}

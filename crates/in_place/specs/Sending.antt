@@ -1,6 +1,7 @@
 -- An accepted send on the words: there is a place for the message, it is put there, its number is the last one used, and the sender's mark is set.
 -- Assumes nothing.
-use Rattle.laws.specs.Basics.{List, [], ◌∷◌, ◌++◌, ℕ, ◌+◌}
+use Rattle.std.specs.Prelude.{◌∷◌, ◌++◌, ◌+◌}
+use Rattle.laws.specs.Basics.{List, [], ℕ}
 use Rattle.model.specs.declared.Message.{Message}
 use Rattle.words.specs.{Layout.wide2, Layout.mark_at, Layout.part_at, Layout.vector_in, Puts.puts, Puts.one, Puts.puts2}
 use Rattle.words.specs.messages.Places.{with_room, put_last_of}

@@ -1,6 +1,7 @@
 -- A start on the words: all of them zero, then n and the block counts, then checkpoint 0 of each process, then the blocks that these take.
 -- Assumes nothing.
-use Rattle.laws.specs.Basics.{◌≡◌, not, ◌&&◌, List, [], ◌∷◌, Option, ℕ, zero, suc, ◌+◌, ◌≤◌, eqb, ltb, leb, length, get_or, replicate, pick}
+use Rattle.std.specs.Prelude.{◌≡◌, ◌&&◌, ◌∷◌, ◌+◌, ◌≤◌}
+use Rattle.laws.specs.Basics.{not, List, [], Option, ℕ, zero, suc, eqb, ltb, leb, length, get_or, replicate, pick}
 use Rattle.laws.specs.{Search.any_below, Sums.sum_below}
 use Rattle.model.specs.declared.{Refusal.Refusal, StartAnswer.StartAnswer, StartAnswer.TheVariants.Refused, StartAnswer.TheVariants.Started}
 use Rattle.model.specs.declared.Refusal.TheVariants.{CountOutsideRange, UnsoundState, ListTooShort, BlockCountOutsideRange}

@@ -1,7 +1,8 @@
 -- A sound state stays sound after every call that is no recovery, and after a recovery that deletes nothing; refused or accepted. Here it is stated of the run that words
 -- stand for: its arrays have their sizes.
 -- Assumes nothing.
-use Rattle.laws.specs.Basics.{◌≡◌, true, List, ℕ}
+use Rattle.std.specs.Prelude.{◌≡◌}
+use Rattle.laws.specs.Basics.{true, List, ℕ}
 use Rattle.model.specs.Sound.{sound}
 use Rattle.whole_runs.specs.Outcomes.{checkpoint_outcome, send_outcome, deliver_outcome, lose_outcome, recover_outcome, recover_report}
 use Rattle.words.specs.Layout.{run_of}

@@ -1,5 +1,6 @@
 // Checkpoint at i: the vector is stored under index own entry, the own pin names it, 1 is added to the own entry, the sent mark is cleared.
-ghost use Rattle.laws.specs.Basics.{◌≡◌, true, ◌<◌};
+ghost use Rattle.std.specs.Prelude.{◌≡◌, ◌<◌};
+ghost use Rattle.laws.specs.Basics.{true};
 ghost use Rattle.model.specs.{Sound.sound, declared.Refusal.Refusal, declared.CheckpointAnswer.TheVariants.Refused};
 ghost use Rattle.whole_runs.specs.{Outcomes.checkpoint_outcome, WholeRuns.StatePromise};
 ghost use Rattle.words.specs.Layout.{count_of, run_of};

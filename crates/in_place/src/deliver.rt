@@ -1,5 +1,6 @@
 // Deliver message m to its receiver, which takes in the vector that it carries, and stores a checkpoint first where that is forced.
-ghost use Rattle.laws.specs.Basics.{◌≡◌, true, suc, ◌*◌, ◌≤◌, ◌<◌, length, pick};
+ghost use Rattle.std.specs.Prelude.{◌≡◌, ◌*◌, ◌≤◌, ◌<◌};
+ghost use Rattle.laws.specs.Basics.{true, suc, length, pick};
 ghost use Rattle.model.specs.declared.Refusal.{Refusal};
 ghost use Rattle.model.specs.{Words.live_index_of, Words.process, Words.most_processes, Steps.forces, Sound.sound};
 ghost use Rattle.admissions.specs.declared.Admission.TheVariants.{Accepted};

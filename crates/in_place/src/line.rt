@@ -1,5 +1,6 @@
 // The line for a failed set: the index of every process's member goes into the lent list. Nothing else changes.
-ghost use Rattle.laws.specs.Basics.{◌≡◌, true, false, not, ◌≤◌, length, get_or, sets, pick};
+ghost use Rattle.std.specs.Prelude.{◌≡◌, ◌≤◌};
+ghost use Rattle.laws.specs.Basics.{true, false, not, length, get_or, sets, pick};
 ghost use Rattle.laws.specs.Lists.{table};
 ghost use Rattle.model.specs.{Refusals.no_member_of, Sound.sound, Steps.line_of, Words.most_processes};
 ghost use Rattle.model.specs.declared.{LineAnswer.TheVariants.Refused, LineAnswer.TheVariants.Written, Refusal.TheVariants.UnsoundState};

@@ -1,5 +1,6 @@
 // Lose: the message is no longer under way; nothing else changes.
-ghost use Rattle.laws.specs.Basics.{◌≡◌, true};
+ghost use Rattle.std.specs.Prelude.{◌≡◌};
+ghost use Rattle.laws.specs.Basics.{true};
 ghost use Rattle.model.specs.{Sound.sound, declared.Refusal.Refusal, declared.LoseAnswer.TheVariants.Refused};
 ghost use Rattle.whole_runs.specs.{Outcomes.lose_outcome, WholeRuns.StatePromise};
 ghost use Rattle.words.specs.Layout.{run_of};

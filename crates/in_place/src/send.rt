@@ -1,5 +1,6 @@
 // Send from i to j: the message carries i's vector, and i's sent mark is set.
-ghost use Rattle.laws.specs.Basics.{◌≡◌, true, ◌+◌, ◌<◌};
+ghost use Rattle.std.specs.Prelude.{◌≡◌, ◌+◌, ◌<◌};
+ghost use Rattle.laws.specs.Basics.{true};
 ghost use Rattle.model.specs.{Sound.sound, Words.most_under_way, Words.most_messages};
 ghost use Rattle.model.specs.declared.{Refusal.Refusal, SendAnswer.TheVariants.Refused};
 ghost use Rattle.whole_runs.specs.{Outcomes.send_outcome, WholeRuns.StatePromise};

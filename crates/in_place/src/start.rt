@@ -1,5 +1,6 @@
 // Start: each process stores checkpoint 0 with a vector of zeros, its own entry is then 1, and its own pin names checkpoint 0.
-ghost use Rattle.laws.specs.Basics.{◌≡◌, true, [], ◌∷◌, ◌≤◌, length, get_or};
+ghost use Rattle.std.specs.Prelude.{◌≡◌, ◌∷◌, ◌≤◌};
+ghost use Rattle.laws.specs.Basics.{true, [], length, get_or};
 ghost use Rattle.laws.specs.{Search.all_below, Sums.sum_below};
 ghost use Rattle.model.specs.{Sound.is_block_count_of, Words.most_processes};
 ghost use Rattle.model.specs.declared.StartAnswer.TheVariants.{Started};

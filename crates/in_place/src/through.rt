@@ -1,6 +1,7 @@
 // The earliest consistent line through named checkpoints (document 02, Note 8), which are pairs of numbers in a lent slice: process, index, process, index, and so on. Each
 // number is judged whole. Numbers of which one is left over are no pairs, and name nothing. The line goes into the lent list; nothing else changes.
-ghost use Rattle.laws.specs.Basics.{◌≡◌, true, false, ◌≤◌, length};
+ghost use Rattle.std.specs.Prelude.{◌≡◌, ◌≤◌};
+ghost use Rattle.laws.specs.Basics.{true, false, length};
 ghost use Rattle.model.specs.Sound.{sound};
 ghost use Rattle.whole_runs.specs.{Earliest.some_absent, Earliest.unfit, Earliest.earliest_outcome, WholeRuns.EarliestPromise};
 ghost use Rattle.words.specs.Layout.{count_of, run_of};

@@ -1,6 +1,7 @@
 -- The search for the checkpoint that a pin moves to, and what a row of known pins holds.
 -- Assumes nothing.
-use Rattle.laws.specs.Basics.{◌≡◌, refl, sym, ◌∙◌, ap, Bool, true, false, List, [], ◌∷◌, append-nil, ℕ, zero, suc, ◌+◌, ◌≤◌, ◌<◌, arith, eqb, length, get_or, get_or-replicate, get_or-set_same, pick, by_bool, by_eq}
+use Rattle.std.specs.Prelude.{◌≡◌, ◌∷◌, ◌+◌, ◌≤◌, ◌<◌}
+use Rattle.laws.specs.Basics.{refl, sym, ◌∙◌, ap, Bool, true, false, List, [], append-nil, ℕ, zero, suc, arith, eqb, length, get_or, get_or-replicate, get_or-set_same, pick, by_bool, by_eq}
 use Rattle.laws.specs.{Lists.select, Lists.last_of, Lists.table, Select.select_append, Tables.length_table, Tables.get_d_table, Truth.never_both}
 use Rattle.model.specs.declared.{Interval.Interval, Checkpoint.Checkpoint, Pin.Pin, Pin.TheVariants.Nothing, Pin.TheVariants.At}
 use Rattle.model.specs.{Words.entry, Words.below, Sound.is_nothing_of, Steps.advanced, Steps.latest_pin}

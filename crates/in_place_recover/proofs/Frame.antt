@@ -1,6 +1,7 @@
 -- Words that agree on what is one process's restore it alike; and what changes of other processes and of the blocks leave of it.
 -- Assumes nothing.
-use Rattle.laws.specs.Basics.{◌≡◌, refl, ◌∙◌, ap, true, not, ◌&&◌, List, ℕ, zero, suc, ◌+◌, ◌-◌, ◌*◌, ◌≤◌, ◌<◌, arith, leb, leb-true, pick, by_bool}
+use Rattle.std.specs.Prelude.{◌≡◌, ◌&&◌, ◌+◌, ◌-◌, ◌*◌, ◌≤◌, ◌<◌}
+use Rattle.laws.specs.Basics.{refl, ◌∙◌, ap, true, not, List, ℕ, zero, suc, arith, leb, leb-true, pick, by_bool}
 use Rattle.laws.specs.{Lists.select, Lists.table, Tables.table_same}
 use Rattle.model.specs.declared.{Interval.Interval, Disk.Disk, Pin.Pin}
 use Rattle.model.specs.{Words.is_pinned, Words.Process, Steps.advanced}

@@ -1,6 +1,7 @@
 -- A process goes back to its member or stays live, and then has the pins of a recovery: what that leaves is what specs/Restored says.
 -- Assumes nothing.
-use Rattle.laws.specs.Basics.{◌≡◌, refl, sym, ◌∙◌, ap, true, false, not, List, [], ◌∷◌, ℕ, zero, suc, ◌+◌, ◌-◌, ◌*◌, ◌≤◌, ◌<◌, arith, eqb, length, get_or, length-set, sets, eqb-true, le-leb, lt-leb, pick, by_bool}
+use Rattle.std.specs.Prelude.{◌≡◌, ◌∷◌, ◌+◌, ◌-◌, ◌*◌, ◌≤◌, ◌<◌}
+use Rattle.laws.specs.Basics.{refl, sym, ◌∙◌, ap, true, false, not, List, [], ℕ, zero, suc, arith, eqb, length, get_or, length-set, sets, eqb-true, le-leb, lt-leb, pick, by_bool}
 use lib.Seq.{ext_get_or}
 use Rattle.laws.specs.{Elements.every_table, Lists.select, Lists.table, Rows.and_true, Search.all_below, Search.all_out, Select.all_chosen, Select.none_chosen}
 use Rattle.laws.specs.{Tables.get_d_table, Tables.table_same, Tests.every, Truth.and_no_right}

@@ -1,6 +1,7 @@
 -- A process whose pins are put, and which is then collected: what that leaves of the words.
 -- Assumes nothing.
-use Rattle.laws.specs.Basics.{◌≡◌, refl, ◌∙◌, ap, not, List, [], ◌∷◌, ℕ, ◌+◌, ◌*◌, ◌≤◌, ◌<◌, arith, length, set}
+use Rattle.std.specs.Prelude.{◌≡◌, ◌∷◌, ◌+◌, ◌*◌, ◌≤◌, ◌<◌}
+use Rattle.laws.specs.Basics.{refl, ◌∙◌, ap, not, List, [], ℕ, arith, length, set}
 use Rattle.laws.specs.Lists.{select, table}
 use Rattle.model.specs.{Words.is_pinned, Steps.billed}
 use Rattle.words.specs.{Frames.OnlyDisk, Layout.word, Layout.wide4, Layout.kept_count_at_of, Layout.mark_in, Layout.checkpoint_in, Puts.puts, Puts.one}

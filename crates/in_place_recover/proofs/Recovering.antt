@@ -1,6 +1,7 @@
 -- The recover call: what its outcome is, by the lengths of the lists, the failed set, and whether each process has a member; and what an accepted one leaves.
 -- Assumes nothing.
-use Rattle.laws.specs.Basics.{◌≡◌, refl, sym, ◌∙◌, ap, true, false, not, ◌||◌, false≢true, List, none, some, ℕ, zero, suc, ◌+◌, ◌*◌, ◌^◌, ◌≤◌, ◌<◌, arith, ltb, leb, length, get_or, sets, by_bool}
+use Rattle.std.specs.Prelude.{◌≡◌, ◌||◌, ◌+◌, ◌*◌, ◌^◌, ◌≤◌, ◌<◌}
+use Rattle.laws.specs.Basics.{refl, sym, ◌∙◌, ap, true, false, not, false≢true, List, none, some, ℕ, zero, suc, arith, ltb, leb, length, get_or, sets, by_bool}
 use Rattle.laws.specs.{Counting.count_same, Lists.select, Lists.gather, Lists.table, Sums.sum_below, Sums.sum_same, Tables.gather_same, Tests.count_below}
 use Rattle.model.specs.declared.{CheckpointIndex.CheckpointIndex, Disk.Disk, Interval.Interval, Message.Message, Refusal.Refusal, RecoverAnswer.RecoverAnswer}
 use Rattle.model.specs.declared.{Refusal.TheVariants.UnsoundState, Refusal.TheVariants.ListTooShort, Refusal.TheVariants.NoSuchFailedProcess, Run.Run}

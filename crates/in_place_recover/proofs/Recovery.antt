@@ -1,6 +1,7 @@
 -- The recovery of one process on the words says what Steps says of the run that sound words stand for.
 -- Assumes nothing.
-use Rattle.laws.specs.Basics.{◌≡◌, sym, ◌∙◌, ap, Bool, true, false, not, ◌&&◌, List, [], ℕ, ◌+◌, ◌-◌, ◌*◌, ◌≤◌, ◌<◌, arith, eqb, leb, length, get_or, get_or-replicate, get_or-set_other, eq-eqb, ne_eqb, eqb-true, lt-ltb, le-ltb, le-leb, lt-leb, leb-true, pick, by_bool, by_eq}
+use Rattle.std.specs.Prelude.{◌≡◌, ◌&&◌, ◌+◌, ◌-◌, ◌*◌, ◌≤◌, ◌<◌}
+use Rattle.laws.specs.Basics.{sym, ◌∙◌, ap, Bool, true, false, not, List, [], ℕ, arith, eqb, leb, length, get_or, get_or-replicate, get_or-set_other, eq-eqb, ne_eqb, eqb-true, lt-ltb, le-ltb, le-leb, lt-leb, leb-true, pick, by_bool, by_eq}
 use Rattle.laws.specs.{Choice.pick_same, Elements.every_table, Lists.select, Lists.last_of, Lists.table, Prefixes.select_none, Rows.by_lt, Rows.every_beyond}
 use Rattle.laws.specs.{Search.any_below, Search.any_in, Search.any_out, Select.all_chosen, Tables.get_d_table, Tables.table_same, Tests.some_of, Truth.never_both}
 use Rattle.model.specs.declared.{Interval.Interval, Checkpoint.Checkpoint, Pin.Pin, Pin.TheVariants.Nothing, Run.Run}

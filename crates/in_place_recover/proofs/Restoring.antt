@@ -1,7 +1,8 @@
 -- Process after process as it is after a recovery: the run that the words stand for when the first k are done, what they still hold of the others, and the list of what
 -- is deleted.
 -- Assumes nothing.
-use Rattle.laws.specs.Basics.{◌≡◌, refl, sym, ◌∙◌, ap, Bool, true, not, List, [], ◌∷◌, ◌++◌, ℕ, zero, suc, ◌+◌, ◌*◌, ◌≤◌, ◌<◌, arith, length, get_or, length-append, sets, by_bool, by_eq}
+use Rattle.std.specs.Prelude.{◌≡◌, ◌∷◌, ◌++◌, ◌+◌, ◌*◌, ◌≤◌, ◌<◌}
+use Rattle.laws.specs.Basics.{refl, sym, ◌∙◌, ap, Bool, true, not, List, [], ℕ, zero, suc, arith, length, get_or, length-append, sets, by_bool, by_eq}
 use native.Mathlib.Nat.{suc-mul, mul-le-mul_right, mul_assoc}
 use native.Mathlib.Numerals.{add-one}
 use Rattle.laws.specs.{Lists.select, Lists.gather, Lists.table, Select.select_length, Sums.sum_below, Sums.sum_le, Sums.length_gather, Tables.length_table}

@@ -1,6 +1,7 @@
 -- A recovery on the words, process after process: `pasts` has one above the place of each process's member in the line, `owns` the own entries after the recovery.
 -- Assumes nothing.
-use Rattle.laws.specs.Basics.{◌≡◌, true, List, ℕ, ◌≤◌, ◌<◌, length, get_or}
+use Rattle.std.specs.Prelude.{◌≡◌, ◌≤◌, ◌<◌}
+use Rattle.laws.specs.Basics.{true, List, ℕ, length, get_or}
 use Rattle.laws.specs.{Lists.gather, Sums.sum_below}
 use Rattle.model.specs.declared.{Interval.Interval, Checkpoint.Checkpoint, Disk.Disk}
 use Rattle.model.specs.{Words.Process, Words.blocks_of, Words.with_disk, Words.most_processes, Steps.Deletion, Steps.listed, Steps.billed, Steps.with_processes}

@@ -1,7 +1,8 @@
 -- What a recovery leaves of one process, on the words. Its states are the checkpoints that it keeps, in their places, and after them the live one; `past` is one above
 -- the place of its member in the line. proofs/Recovery has that they say what Steps says of the run.
 -- Assumes nothing.
-use Rattle.laws.specs.Basics.{◌≡◌, Bool, not, ◌&&◌, List, ℕ, ◌+◌, ◌-◌, ◌≤◌, ◌<◌, ltb, leb, length, get_or, pick}
+use Rattle.std.specs.Prelude.{◌≡◌, ◌&&◌, ◌+◌, ◌-◌, ◌≤◌, ◌<◌}
+use Rattle.laws.specs.Basics.{Bool, not, List, ℕ, ltb, leb, length, get_or, pick}
 use Rattle.laws.specs.Lists.{select, table}
 use Rattle.model.specs.declared.{Interval.Interval, Pin.Pin, Checkpoint.Checkpoint}
 use Rattle.model.specs.{Words.most_processes, Words.is_pinned, Words.Process, Words.most_interval, Steps.advanced}

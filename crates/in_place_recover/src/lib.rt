@@ -3,7 +3,8 @@
 
 #![tactic(auto)]
 
-ghost use Rattle.laws.specs.Basics.{◌≡◌, true, ◌*◌, ◌≤◌, ◌<◌, length, get_or, sets, pick};
+ghost use Rattle.std.specs.Prelude.{◌≡◌, ◌*◌, ◌≤◌, ◌<◌};
+ghost use Rattle.laws.specs.Basics.{true, length, get_or, sets, pick};
 ghost use Rattle.laws.specs.Tests.{count_below};
 ghost use Rattle.model.specs.{Sound.sound, Words.most_processes};
 ghost use Rattle.model.specs.declared.{Refusal.Refusal, RecoverAnswer.TheVariants.Refused};

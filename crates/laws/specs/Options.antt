@@ -1,6 +1,7 @@
 -- Options: what two equal ones hold, and that none is not some.
 -- Assumes nothing.
-use Rattle.laws.specs.Basics.{◌≡◌, Option, none, some, ℕ, arith}
+use Rattle.std.specs.Prelude.{◌≡◌}
+use Rattle.laws.specs.Basics.{Option, none, some, ℕ, arith}
 
 pub some_same : {A : Type 0} {x y : A} → some x ≡ some y → x ≡ y
 some_same e = cc

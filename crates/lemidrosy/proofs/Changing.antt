@@ -1,6 +1,7 @@
 -- What a call that may change the state leaves in the words, from what the call below it does.
 -- Assumes nothing.
-use Rattle.laws.specs.Basics.{◌≡◌, refl, ◌∙◌, List, ℕ}
+use Rattle.std.specs.Prelude.{◌≡◌}
+use Rattle.laws.specs.Basics.{refl, ◌∙◌, List, ℕ}
 use Rattle.model.specs.declared.Refusal.{Refusal}
 use Rattle.whole_runs.specs.Outcomes.{Outcome}
 use Rattle.words.specs.Layout.{run_of}

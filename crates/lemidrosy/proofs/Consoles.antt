@@ -1,6 +1,7 @@
 -- The report of every console call fits the fields of its number, whoever asks, and whatever the state and the arguments.
 -- Assumes nothing.
-use Rattle.laws.specs.Basics.{◌≡◌, Bool, true, List, [], none, some, ℕ, ◌≤◌, ◌<◌, arith, length, get_or, take, sets, pick, by_bool}
+use Rattle.std.specs.Prelude.{◌≡◌, ◌≤◌, ◌<◌}
+use Rattle.laws.specs.Basics.{Bool, true, List, [], none, some, ℕ, arith, length, get_or, take, sets, pick, by_bool}
 use lib.ListN.{length-map, length-take}
 use Rattle.model.specs.declared.{Run.Run, Named.Named, Refusal.TheVariants.Denied, Refusal.TheVariants.UnsoundState, LineAnswer.LineAnswer}
 use Rattle.model.specs.{Refusals.first_of, Sound.sound, Steps.Deletion, Steps.listed, Words.process, laws.Refusals.by_refusal, laws.Sound.sound_state}

@@ -1,6 +1,7 @@
 -- The report of a merge fits the fields of its number, whatever the halves: at most 8,192 records are written, four bytes each.
 -- Assumes nothing.
-use Rattle.laws.specs.Basics.{◌≡◌, refl, sym, ◌∙◌, ap, List, [], ◌∷◌, map, none, some, inl, inr, ℕ, ◌+◌, ◌*◌, ◌≤◌, ◌<◌, arith, length}
+use Rattle.std.specs.Prelude.{◌≡◌, ◌∷◌, ◌+◌, ◌*◌, ◌≤◌, ◌<◌}
+use Rattle.laws.specs.Basics.{refl, sym, ◌∙◌, ap, List, [], map, none, some, inl, inr, ℕ, arith, length}
 use lib.ListN.{length-map}
 use Rattle.model.specs.declared.{Fields.Fields, MergeAnswer.MergeAnswer, MergeAnswer.TheVariants.Refused, MergeAnswer.TheVariants.Merged}
 use Rattle.model.specs.laws.Refusals.{by_refusal}

@@ -1,6 +1,7 @@
 -- A call through the recorder for C: what it leaves, field by field, and that its report fits the fields of its number.
 -- Assumes nothing.
-use Rattle.laws.specs.Basics.{◌≡◌, refl, sym, ap, List, [], ◌∷◌, Option, ℕ, ◌-◌, ◌≤◌, arith, ltb, length, get_or, set, by_bool}
+use Rattle.std.specs.Prelude.{◌≡◌, ◌∷◌, ◌-◌, ◌≤◌}
+use Rattle.laws.specs.Basics.{refl, sym, ap, List, [], Option, ℕ, arith, ltb, length, get_or, set, by_bool}
 use Rattle.model.specs.declared.{Named.Named, Run.Run, Refusal.Refusal, Refusal.TheVariants.ListTooShort, Refusal.TheVariants.BufferTooShort}
 use Rattle.model.specs.Refusals.{number, checkpoint_refusal, send_refusal, deliver_refusal, lose_refusal, recover_refusal}
 use Rattle.model.specs.laws.Refusals.{by_refusal}

@@ -1,6 +1,7 @@
 -- What every reader answers to a state that is not sound.
 -- Assumes nothing.
-use Rattle.laws.specs.Basics.{◌≡◌, refl, false, List, [], ◌∷◌, Option, some, ℕ}
+use Rattle.std.specs.Prelude.{◌≡◌, ◌∷◌}
+use Rattle.laws.specs.Basics.{refl, false, List, [], Option, some, ℕ}
 use Rattle.model.specs.declared.{Run.Run, Refusal.TheVariants.UnsoundState}
 use Rattle.model.specs.{Sound.sound, Refusals.number, Refusals.Rule, Refusals.unsound, laws.Refusals.refusal_in}
 use Rattle.listing.specs.answers.Codes.{coded, value_code_of}

@@ -1,6 +1,7 @@
 -- The pair that a verdict names fits the fields of its number, whatever the trace.
 -- Assumes nothing.
-use Rattle.laws.specs.Basics.{◌≡◌, ◌∙◌, List, [], ◌∷◌, ℕ, ◌≤◌, ◌<◌, arith}
+use Rattle.std.specs.Prelude.{◌≡◌, ◌∷◌, ◌≤◌, ◌<◌}
+use Rattle.laws.specs.Basics.{◌∙◌, List, [], ℕ, arith}
 use Rattle.model.specs.{Words.ones, Refusals.start_refusal, laws.Refusals.by_refusal}
 use Rattle.model.proofs.simulation.Accepted.{start_out}
 use Rattle.theory_patterns.specs.declared.{Verdict.Verdict, Verdict.TheVariants.Refused, Verdict.TheVariants.Trackable, Verdict.TheVariants.Breaks}

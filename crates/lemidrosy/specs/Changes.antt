@@ -1,6 +1,7 @@
 -- For C: what a call that may change the state leaves in the words.
 -- Assumes nothing.
-use Rattle.laws.specs.Basics.{◌≡◌, List, ℕ}
+use Rattle.std.specs.Prelude.{◌≡◌}
+use Rattle.laws.specs.Basics.{List, ℕ}
 use Rattle.model.specs.declared.Refusal.{Refusal}
 use Rattle.whole_runs.specs.Outcomes.{Outcome}
 use Rattle.words.specs.Layout.{run_of}

@@ -1,6 +1,7 @@
 -- For C: the verdict on a trace of another run-time as one number; the answer to a merge; the figures of a simulation in a lent list.
 -- Assumes nothing.
-use Rattle.laws.specs.Basics.{List, [], ◌∷◌, Option, none, some, ℕ, ◌+◌, ◌*◌, ◌<◌, ltb, length, pick}
+use Rattle.std.specs.Prelude.{◌∷◌, ◌+◌, ◌*◌, ◌<◌}
+use Rattle.laws.specs.Basics.{List, [], Option, none, some, ℕ, ltb, length, pick}
 use Rattle.model.specs.declared.{MergeAnswer.MergeAnswer, Refusal.TheVariants.ListTooShort}
 use Rattle.whole_runs.specs.Outcomes.{written, refusing, accepting}
 use Rattle.listing.specs.answers.Codes.{coded}

@@ -1,6 +1,7 @@
 -- For C: a call through the recorder is lent the place of the next byte in a list, of which it uses the first entry.
 -- Assumes nothing.
-use Rattle.laws.specs.Basics.{List, [], ◌∷◌, ℕ, length}
+use Rattle.std.specs.Prelude.{◌∷◌}
+use Rattle.laws.specs.Basics.{List, [], ℕ, length}
 use Rattle.model.specs.declared.{Run.Run, Named.Named, Refusal.TheVariants.ListTooShort, StartAnswer.StartAnswer, CheckpointAnswer.CheckpointAnswer}
 use Rattle.model.specs.declared.{SendAnswer.SendAnswer, DeliverAnswer.DeliverAnswer, LoseAnswer.LoseAnswer, LineAnswer.LineAnswer, RecoverAnswer.RecoverAnswer}
 use Rattle.whole_runs.specs.Outcomes.{Outcome}

@@ -1,6 +1,7 @@
 // The calls in place: each works on the 6,464 words that the caller lends, which hold a state (`words`, specs/Layout). Words that stand for no sound state are refused
 // with number 2. A refused call leaves every word and every entry of its lists as it was; a refused start makes the words zero.
-ghost use Rattle.laws.specs.Basics.{◌≡◌, length};
+ghost use Rattle.std.specs.Prelude.{◌≡◌};
+ghost use Rattle.laws.specs.Basics.{length};
 ghost use Rattle.model.specs.{declared.StartAnswer.TheVariants.Started, Sound.sound};
 ghost use Rattle.whole_runs.specs.Outcomes.{checkpoint_outcome, send_outcome, deliver_outcome, lose_outcome, line_outcome, recover_outcome};
 ghost use Rattle.whole_runs.specs.{WholeRuns.LinePromise, WholeRuns.StartPromise, WholeRuns.StatePromise, WholeRuns.EarliestPromise, Earliest.earliest_outcome};

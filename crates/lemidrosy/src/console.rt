@@ -2,7 +2,8 @@
 // viewer) and the set of an owner's processes, bit p of which stands for process p; then the call's own arguments. What the caller may not do is refused with 25, before
 // every other number, and so is a number that is no role's. A refused call leaves every word and every entry of its lists as it was; only a start that is refused with a
 // number other than 25 makes the words zero.
-ghost use Rattle.laws.specs.Basics.{◌≡◌, length};
+ghost use Rattle.std.specs.Prelude.{◌≡◌};
+ghost use Rattle.laws.specs.Basics.{length};
 ghost use Rattle.listing.specs.answers.Codes.{Fits, start_code, checkpoint_code, send_code, deliver_code, lose_code, line_code, recover_code};
 ghost use Rattle.words.specs.{Clean.Clean, Layout.run_of, Layout.state_size};
 ghost use Rattle.words_line.specs.Through.{named_in};

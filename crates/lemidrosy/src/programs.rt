@@ -1,5 +1,6 @@
 // What works on no state: the judge of another run-time's trace (document 02, Note 7), the merge of two halves of one run (Note 12) and a simulation (Note 10).
-ghost use Rattle.laws.specs.Basics.{◌≡◌, none, ◌≤◌, length};
+ghost use Rattle.std.specs.Prelude.{◌≡◌, ◌≤◌};
+ghost use Rattle.laws.specs.Basics.{none, length};
 ghost use Rattle.listing.specs.answers.Codes.{coded, Fits};
 ghost use Rattle.theory_merges.specs.{Halves.OrdersAgree, Merge.merge_outcome, Merge.merge_report, Merge.MergePromise};
 ghost use Rattle.theory_patterns.specs.Verdicts.{verdict};

@@ -1,7 +1,7 @@
 // What is read of the words, each by one reader: what it reads goes to the front of the list that it is lent, and the rest of the list is unchanged. Refused are words
 // that stand for no sound state (2), a list that is too short (3), a process not below n (4), a failed set with a process not below n (7) and a message not under
 // way (8): then the list keeps every entry.
-ghost use Rattle.laws.specs.Basics.{◌≡◌};
+ghost use Rattle.std.specs.Prelude.{◌≡◌};
 ghost use Rattle.listing.specs.answers.Codes.{coded};
 ghost use Rattle.words.specs.Layout.{run_of};
 ghost use Rattle.library_readers.specs.Readings.{numbers_reading, vector_reading, pins_reading, kept_reading, messages_reading, carried_reading, lost_reading};

@@ -2,7 +2,8 @@
 // next byte goes to. The buffer is a trace: its first byte is n, after it stand the records of the accepted calls. Refused with 21, after every other number, is a call whose
 // record has no room after the place, and with 3, before any other number, one that is lent no place. A refused call leaves every word, entry and byte and the place as they
 // were; a start with a place that is refused makes the words zero. What a replay of the buffer gives is the theorem of `library_recorder`, specs/Recorded.
-ghost use Rattle.laws.specs.Basics.{◌≡◌, ◌≤◌, length};
+ghost use Rattle.std.specs.Prelude.{◌≡◌, ◌≤◌};
+ghost use Rattle.laws.specs.Basics.{length};
 ghost use Rattle.listing.specs.answers.Codes.{start_code, checkpoint_code, send_code, deliver_code, lose_code, line_code, recover_code};
 ghost use Rattle.words.specs.{Clean.Clean, Layout.run_of, Layout.state_size};
 ghost use Rattle.words_line.specs.Through.{named_in};

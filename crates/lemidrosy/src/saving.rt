@@ -1,5 +1,5 @@
 // A state saved to bytes, which a caller may store, and loaded from them again: the bytes are the same on every machine (crate `saved`, specs/Format).
-ghost use Rattle.laws.specs.Basics.{◌≡◌};
+ghost use Rattle.std.specs.Prelude.{◌≡◌};
 ghost use Rattle.listing.specs.answers.Codes.{coded};
 ghost use Rattle.library_readers.specs.saved.Saving.{saving, loading, SavedIsLoaded, LoadedWasSaved};
 

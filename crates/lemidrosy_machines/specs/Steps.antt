@@ -1,7 +1,8 @@
 -- For C: what each call of a machine leaves in the lent lists; with a prime, a list is what it is afterwards. What is lent stands for a state, and what is asked for is what the
 -- machine asks for there. A step tests no list but the last one; what no machine left behind has stopped.
 -- Assumes nothing.
-use Rattle.laws.specs.Basics.{◌≡◌, false, not, List, [], ℕ, length}
+use Rattle.std.specs.Prelude.{◌≡◌}
+use Rattle.laws.specs.Basics.{false, not, List, [], ℕ, length}
 use Rattle.machines.specs.{Machines.stepped, Forms.answer_of, Packed.unpacked, Called.Called}
 use Rattle.machine_judge.specs.Judging.{Reading, judging}
 use Rattle.machine_simulate.specs.Simulating.{Counting, simulating}

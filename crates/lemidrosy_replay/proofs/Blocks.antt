@@ -1,6 +1,7 @@
 -- A block of records for C: a progress that is too short, and one that is not.
 -- Assumes nothing.
-use Rattle.laws.specs.Basics.{◌≡◌, refl, ◌∙◌, Bool, List, [], ◌∷◌, ℕ, ◌≤◌, ◌<◌, length, sets, lt-ltb, le-ltb, pick}
+use Rattle.std.specs.Prelude.{◌≡◌, ◌∷◌, ◌≤◌, ◌<◌}
+use Rattle.laws.specs.Basics.{refl, ◌∙◌, Bool, List, [], ℕ, length, sets, lt-ltb, le-ltb, pick}
 use Rattle.model.specs.declared.Run.{Run}
 use Rattle.model.specs.Refusals.{number}
 use Rattle.listing.specs.answers.Codes.{coded, value_code_of}

@@ -1,6 +1,7 @@
 -- Whether a list that the replay is lent is too short.
 -- Assumes nothing.
-use Rattle.laws.specs.Basics.{◌≡◌, sym, ◌∙◌, ap, Bool, true, false, not, ℕ, ◌≤◌, ◌<◌, lt-ltb, le-ltb}
+use Rattle.std.specs.Prelude.{◌≡◌, ◌≤◌, ◌<◌}
+use Rattle.laws.specs.Basics.{sym, ◌∙◌, ap, Bool, true, false, not, ℕ, lt-ltb, le-ltb}
 use Rattle.lemidrosy_replay.specs.Steps.{lacks_room_of}
 
 module _ (memory : ℕ) (room : Bool) where

@@ -1,6 +1,7 @@
 -- For C: a block of records applied to the words.
 -- Assumes nothing.
-use Rattle.laws.specs.Basics.{Bool, List, [], ◌∷◌, none, ℕ, ltb, length, pick}
+use Rattle.std.specs.Prelude.{◌∷◌}
+use Rattle.laws.specs.Basics.{Bool, List, [], none, ℕ, ltb, length, pick}
 use Rattle.model.specs.declared.{Refusal.TheVariants.ListTooShort, Run.Run}
 use Rattle.whole_runs.specs.Outcomes.{Report, written, refusing, accepting}
 use Rattle.library_replay.specs.Taken.{BlockOutcome, block_outcome}

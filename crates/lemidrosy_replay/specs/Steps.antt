@@ -1,6 +1,7 @@
 -- The replay program as a machine, for C: what a call leaves in the lent lists.
 -- Assumes nothing.
-use Rattle.laws.specs.Basics.{◌≡◌, Bool, false, not, ◌||◌, List, ℕ, ltb, length}
+use Rattle.std.specs.Prelude.{◌≡◌, ◌||◌}
+use Rattle.laws.specs.Basics.{Bool, false, not, List, ℕ, ltb, length}
 use Rattle.machines.specs.{Machines.stepped, Forms.answer_of, Forms.Asks, Packed.unpacked, Called.Called}
 use Rattle.machine_replay.specs.Replaying.{State, starting, asks, replaying}
 use Rattle.machine_replay.specs.Standing.{numbers, enough_room, state_of, place_of}

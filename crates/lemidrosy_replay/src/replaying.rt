@@ -1,6 +1,7 @@
 // A block of records applied to the words, for a run-time that hands its events over in batches: the words are tested once, and once more after each recovery that deletes a
 // checkpoint.
-ghost use Rattle.laws.specs.Basics.{◌≡◌, [], ◌∷◌, ◌≤◌, ◌<◌, length, sets, pick};
+ghost use Rattle.std.specs.Prelude.{◌≡◌, ◌∷◌, ◌≤◌, ◌<◌};
+ghost use Rattle.laws.specs.Basics.{[], length, sets, pick};
 ghost use Rattle.whole_runs.specs.WholeRuns.{Reachable};
 ghost use Rattle.listing.specs.answers.Codes.{coded};
 ghost use Rattle.words.specs.Layout.{run_of};

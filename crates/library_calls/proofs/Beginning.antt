@@ -1,6 +1,7 @@
 -- What a start leaves of 6,464 words, with 16 counts lent, is readable, and stands for the state that document 01's start returns.
 -- Assumes nothing.
-use Rattle.laws.specs.Basics.{◌≡◌, refl, List, [], none, ℕ, zero, suc, ◌≤◌, arith, leb, length, replicate, length-replicate, get_or-replicate, eq-eqb, le-leb, lt-leb, leb-true, not-false}
+use Rattle.std.specs.Prelude.{◌≡◌, ◌≤◌}
+use Rattle.laws.specs.Basics.{refl, List, [], none, ℕ, zero, suc, arith, leb, length, replicate, length-replicate, get_or-replicate, eq-eqb, le-leb, lt-leb, leb-true, not-false}
 use Rattle.laws.specs.{Rows.by_lt, Truth.and_left}
 use Rattle.model.specs.{Refusals.first_of, Refusals.start_refusal, Words.most_processes, Words.no_checkpoint, Words.blank}
 use Rattle.model.specs.{Steps.checkpoint_zero, Steps.started, Steps.start_state, laws.Refusals.no_rule, laws.Refusals.by_refusal}

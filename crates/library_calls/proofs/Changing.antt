@@ -1,6 +1,7 @@
 -- What a call leaves is a state of 1 to 16 processes whose causes have 8 bits, if it was made on one; what it says of words that were filled from a state.
 -- Assumes nothing.
-use Rattle.laws.specs.Basics.{◌≡◌, refl, sym, ◌∙◌, ap, Bool, true, false, not, ◌&&◌, false≢true, List, Option, none, some, ℕ, ◌≤◌, arith, leb, le-leb, leb-true, by_bool}
+use Rattle.std.specs.Prelude.{◌≡◌, ◌&&◌, ◌≤◌}
+use Rattle.laws.specs.Basics.{refl, sym, ◌∙◌, ap, Bool, true, false, not, false≢true, List, Option, none, some, ℕ, arith, leb, le-leb, leb-true, by_bool}
 use Rattle.laws.specs.Truth.{and_out}
 use Rattle.model.specs.{declared.Refusal.Refusal, declared.Run.Run, Words.most_processes, Words.most_under_way, Refusals.send_refusal, Refusals.lose_refusal}
 use Rattle.model.specs.{Words.process, Words.with_process, Steps.marked, Steps.send_state, Steps.others, Steps.lose_state, Sound.sound, laws.Sound.sound_state}

@@ -1,6 +1,7 @@
 -- Lists of checkpoints whose causes have 8 bits: what a process of a sound state keeps, and what is left of it or added to it.
 -- Assumes nothing.
-use Rattle.laws.specs.Basics.{◌≡◌, Bool, true, List, [], ◌∷◌, ◌++◌, ℕ, zero, suc, ◌<◌, arith, length, get_or, by_bool}
+use Rattle.std.specs.Prelude.{◌≡◌, ◌∷◌, ◌++◌, ◌<◌}
+use Rattle.laws.specs.Basics.{Bool, true, List, [], ℕ, zero, suc, arith, length, get_or, by_bool}
 use Rattle.laws.specs.Lists.{select}
 use Rattle.model.specs.declared.{Checkpoint.Checkpoint, Run.Run}
 use Rattle.model.specs.{Words.no_checkpoint, Words.Process, Words.process, Steps.with_processes, Sound.sound, laws.Sound.sound_state}

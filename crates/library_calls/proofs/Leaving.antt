@@ -1,6 +1,7 @@
 -- What a send and a loss leave of the state as it is: all but the sent marks and the messages.
 -- Assumes nothing.
-use Rattle.laws.specs.Basics.{◌≡◌, refl, sym, ◌∙◌, ap, true, [], ◌∷◌, ◌++◌, Option, none, some, ℕ, ◌+◌, ◌<◌, arith, length, get_or}
+use Rattle.std.specs.Prelude.{◌≡◌, ◌∷◌, ◌++◌, ◌+◌, ◌<◌}
+use Rattle.laws.specs.Basics.{refl, sym, ◌∙◌, ap, true, [], Option, none, some, ℕ, arith, length, get_or}
 use Rattle.model.specs.declared.{Checkpoint.Checkpoint, Message.Message, Refusal.Refusal, Run.Run}
 use Rattle.model.specs.{Words.no_checkpoint, Words.past_end, Words.no_message, Words.process, Words.with_process, Words.under_way, Words.with_messages, Sound.sound}
 use Rattle.model.specs.{Steps.marked, Steps.sent_message, Steps.send_state, Steps.lose_state, Refusals.send_refusal, Refusals.lose_refusal}

@@ -1,6 +1,7 @@
 -- What a recovery leaves is a state of 1 to 16 processes whose causes have 8 bits: it keeps nothing that was not kept before.
 -- Assumes nothing.
-use Rattle.laws.specs.Basics.{◌≡◌, true, List, ℕ}
+use Rattle.std.specs.Prelude.{◌≡◌}
+use Rattle.laws.specs.Basics.{true, List, ℕ}
 use Rattle.model.specs.declared.Run.{Run}
 use Rattle.model.specs.{Steps.not_lost, Steps.recovered, Steps.recover_state, Sound.sound, Refusals.recover_refusal}
 use Rattle.whole_runs.specs.Outcomes.{recover_outcome}

@@ -1,6 +1,7 @@
 -- What a checkpoint and a delivery leave is a state of 1 to 16 processes whose causes have 8 bits: what is stored has cause 1 or 2.
 -- Assumes nothing.
-use Rattle.laws.specs.Basics.{◌≡◌, true, List, ℕ, ◌<◌, arith, by_bool}
+use Rattle.std.specs.Prelude.{◌≡◌, ◌<◌}
+use Rattle.laws.specs.Basics.{true, List, ℕ, arith, by_bool}
 use Rattle.model.specs.declared.{Interval.Interval, Message.Message, Run.Run}
 use Rattle.model.specs.{Words.basic, Words.forced, Words.Process, Words.process, Sound.sound, Refusals.checkpoint_refusal, Refusals.deliver_refusal}
 use Rattle.model.specs.Steps.{settled, storing, checkpointed, checkpoint_state, forces, taken_in, delivered, deliver_state}

@@ -1,5 +1,5 @@
 // Whether a state is sound.
-ghost use Rattle.laws.specs.Basics.{◌≡◌};
+ghost use Rattle.std.specs.Prelude.{◌≡◌};
 ghost use Rattle.model.specs.Sound.{sound};
 
 use crate::run_words::fill;

@@ -1,5 +1,5 @@
 // The line, by value.
-ghost use Rattle.laws.specs.Basics.{◌≡◌};
+ghost use Rattle.std.specs.Prelude.{◌≡◌};
 ghost use Rattle.whole_runs.specs.{Outcomes.line_outcome, WholeRuns.LinePromise, Sweep.EmptyLinePromise};
 
 use crate::run_words::fill;

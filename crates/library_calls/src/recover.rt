@@ -1,5 +1,5 @@
 // The recovery of a failed set, and the sweep, by value.
-ghost use Rattle.laws.specs.Basics.{◌≡◌};
+ghost use Rattle.std.specs.Prelude.{◌≡◌};
 ghost use Rattle.whole_runs.specs.{Outcomes.recover_outcome, Clean.CleanPromise, Sweep.SweepPromise, WholeRuns.LinePromise, WholeRuns.StatePromise};
 ghost use Rattle.whole_runs.specs.Calls as made;
 

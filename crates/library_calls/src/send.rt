@@ -1,5 +1,5 @@
 // Send, by value.
-ghost use Rattle.laws.specs.Basics.{◌≡◌};
+ghost use Rattle.std.specs.Prelude.{◌≡◌};
 ghost use Rattle.whole_runs.specs.{Outcomes.send_outcome, WholeRuns.StatePromise};
 ghost use Rattle.whole_runs.specs.Calls as made;
 

@@ -1,5 +1,5 @@
 // Start, by value.
-ghost use Rattle.laws.specs.Basics.{◌≡◌};
+ghost use Rattle.std.specs.Prelude.{◌≡◌};
 ghost use Rattle.whole_runs.specs.{Outcomes.start_outcome, WholeRuns.StartPromise};
 
 use model::{PROCESSES, Run, StartAnswer};

@@ -1,5 +1,6 @@
 // The earliest consistent line through named checkpoints, by value (document 02, Note 8).
-ghost use Rattle.laws.specs.Basics.{◌≡◌, List, take};
+ghost use Rattle.std.specs.Prelude.{◌≡◌};
+ghost use Rattle.laws.specs.Basics.{List, take};
 ghost use Rattle.model.specs.declared.Named.{Named};
 ghost use Rattle.whole_runs.specs.{Earliest.earliest_outcome, WholeRuns.EarliestPromise};
 ghost use Rattle.words_line.specs.earliest.Copying.{copy_of, IsCopy};

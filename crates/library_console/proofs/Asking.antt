@@ -1,6 +1,7 @@
 -- A call that is denied, and one that is not, for who claims a role by its number. `b` is what the test of it answered.
 -- Assumes nothing.
-use Rattle.laws.specs.Basics.{◌≡◌, refl, sym, Bool, false≢true, List, [], ℕ, length, pick, by_bool}
+use Rattle.std.specs.Prelude.{◌≡◌}
+use Rattle.laws.specs.Basics.{refl, sym, Bool, false≢true, List, [], ℕ, length, pick, by_bool}
 use Rattle.model.specs.declared.{Run.Run, Named.Named, Refusal.TheVariants.Denied}
 use Rattle.whole_runs.specs.Outcomes.{Outcome, checkpoint_outcome, send_outcome, deliver_outcome, lose_outcome, recover_outcome}
 use Rattle.whole_runs.specs.Earliest.{earliest_outcome}

@@ -1,6 +1,7 @@
 -- The checkpoints that are listed to a caller: of one process, and of the processes passed so far.
 -- Assumes nothing.
-use Rattle.laws.specs.Basics.{◌≡◌, refl, sym, ◌∙◌, ap, Bool, true, false, not, List, [], ◌∷◌, ◌++◌, Option, none, some, ℕ, suc, ◌+◌, ◌*◌, ◌≤◌, ◌<◌, arith, ltb, length, length-append, sets, pick, by_bool}
+use Rattle.std.specs.Prelude.{◌≡◌, ◌∷◌, ◌++◌, ◌+◌, ◌*◌, ◌≤◌, ◌<◌}
+use Rattle.laws.specs.Basics.{refl, sym, ◌∙◌, ap, Bool, true, false, not, List, [], Option, none, some, ℕ, suc, arith, ltb, length, length-append, sets, pick, by_bool}
 use native.Mathlib.Nat.{suc-mul, mul-le-mul_right, mul_assoc}
 use native.Mathlib.Numerals.{add-one}
 use Rattle.laws.specs.{Lists.table, Lists.gather, Tables.length_table, Tables.gather_same, Written.sets_after}

@@ -1,6 +1,7 @@
 -- The caller's members of a line: the call on a list of 16 entries answers as that on the lent one, and what is then written of it.
 -- Assumes nothing.
-use Rattle.laws.specs.Basics.{◌≡◌, refl, sym, ◌∙◌, ap, Bool, true, List, [], Option, none, some, ℕ, ◌≤◌, ◌<◌, arith, ltb, length, get_or, replicate, sets, lt-ltb, le-ltb, ltb-true, ltb-false, pick, by_bool}
+use Rattle.std.specs.Prelude.{◌≡◌, ◌≤◌, ◌<◌}
+use Rattle.laws.specs.Basics.{refl, sym, ◌∙◌, ap, Bool, true, List, [], Option, none, some, ℕ, arith, ltb, length, get_or, replicate, sets, lt-ltb, le-ltb, ltb-true, ltb-false, pick, by_bool}
 use Rattle.laws.specs.{Below.below_written, Choice.pick_same, Lists.table, Loops.set_below, Loops.below_at, Loops.below_above, Loops.below_length}
 use Rattle.laws.specs.Tables.{table_is}
 use Rattle.model.specs.declared.{Run.Run, Refusal.Refusal, LineAnswer.LineAnswer}

@@ -1,6 +1,7 @@
 -- The message that the run of any words has under way under a number is the one that the places of the words are searched for.
 -- Assumes nothing.
-use Rattle.laws.specs.Basics.{◌≡◌, refl, sym, ◌∙◌, ap, Bool, true, false, ◌&&◌, List, [], ◌∷◌, ◌++◌, append-nil, Option, none, some, ℕ, zero, suc, ◌+◌, ◌-◌, ◌≤◌, ◌<◌, arith, eqb, ltb, length, take, replicate, length-append, eq-eqb, ne_eqb, lt-ltb, le-ltb, ltb-true, ltb-false, pick, by_bool, by_eq}
+use Rattle.std.specs.Prelude.{◌≡◌, ◌&&◌, ◌∷◌, ◌++◌, ◌+◌, ◌-◌, ◌≤◌, ◌<◌}
+use Rattle.laws.specs.Basics.{refl, sym, ◌∙◌, ap, Bool, true, false, List, [], append-nil, Option, none, some, ℕ, zero, suc, arith, eqb, ltb, length, take, replicate, length-append, eq-eqb, ne_eqb, lt-ltb, le-ltb, ltb-true, ltb-false, pick, by_bool, by_eq}
 use native.Mathlib.Numerals.{add-one}
 use lib.Seq.{take_all, take-nil, take-append-le, take-append-add}
 use Rattle.laws.specs.{Lists.select, Lists.last_of, Lists.table, Lists.placed, Select.select_append, Select.select_length, Select.last_of_snoc}

@@ -1,6 +1,7 @@
 -- What is shown of words: a line, by the cases of who asks, and the counts, which are refused with 2 or 3 or written.
 -- Assumes nothing.
-use Rattle.laws.specs.Basics.{◌≡◌, refl, sym, ◌∙◌, ap, Bool, true, false, not, List, [], ℕ, ◌+◌, ◌<◌, arith, ltb, length, sets, pick, by_bool}
+use Rattle.std.specs.Prelude.{◌≡◌, ◌+◌, ◌<◌}
+use Rattle.laws.specs.Basics.{refl, sym, ◌∙◌, ap, Bool, true, false, not, List, [], ℕ, arith, ltb, length, sets, pick, by_bool}
 use Rattle.laws.specs.{Tables.table_same}
 use Rattle.model.specs.declared.{Run.Run, Refusal.TheVariants.Denied, Refusal.TheVariants.UnsoundState, Refusal.TheVariants.ListTooShort}
 use Rattle.model.specs.declared.{LineAnswer.LineAnswer, LineAnswer.TheVariants.Refused, LineAnswer.TheVariants.Written}

@@ -1,6 +1,7 @@
 -- Document 02, Note 13, for callers who give the number of a role and lend words: who asks, and what each call's outcome then is, by the definitions of `theory_roles`.
 -- Assumes nothing.
-use Rattle.laws.specs.Basics.{◌≡◌, Bool, true, false, List, [], ℕ, ◌≤◌, eqb, length, pick}
+use Rattle.std.specs.Prelude.{◌≡◌, ◌≤◌}
+use Rattle.laws.specs.Basics.{Bool, true, false, List, [], ℕ, eqb, length, pick}
 use Rattle.model.specs.declared.{Run.Run, Named.Named, Refusal.TheVariants.Denied, StartAnswer.StartAnswer, CheckpointAnswer.CheckpointAnswer}
 use Rattle.model.specs.declared.{SendAnswer.SendAnswer, DeliverAnswer.DeliverAnswer, LoseAnswer.LoseAnswer, LineAnswer.LineAnswer, RecoverAnswer.RecoverAnswer}
 use Rattle.whole_runs.specs.Outcomes.{Outcome}

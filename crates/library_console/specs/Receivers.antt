@@ -1,7 +1,8 @@
 -- The message with a number that the run of any words has under way: those in the used places, in order, as many as are said to be under way. Where more are said to be
 -- than there are, the run's table holds zeros there, which have the number 0.
 -- Assumes nothing.
-use Rattle.laws.specs.Basics.{◌≡◌, Bool, true, false, ◌&&◌, List, Option, none, some, ℕ, zero, suc, eqb, ltb, length, pick}
+use Rattle.std.specs.Prelude.{◌≡◌, ◌&&◌}
+use Rattle.laws.specs.Basics.{Bool, true, false, List, Option, none, some, ℕ, zero, suc, eqb, ltb, length, pick}
 use Rattle.laws.specs.Lists.{select, table}
 use Rattle.model.specs.declared.Message.{Message}
 use Rattle.model.specs.Words.{no_message, most_under_way}

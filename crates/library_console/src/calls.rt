@@ -1,5 +1,6 @@
 // The library's calls on lent words, each with its caller.
-ghost use Rattle.laws.specs.Basics.{◌≡◌, length};
+ghost use Rattle.std.specs.Prelude.{◌≡◌};
+ghost use Rattle.laws.specs.Basics.{length};
 ghost use Rattle.model.specs.declared.Refusal.{Refusal};
 ghost use Rattle.words.specs.{Clean.Clean, Layout.run_of, Layout.state_size};
 ghost use Rattle.words_line.specs.Through.{named_in};

@@ -1,6 +1,7 @@
 // What a caller is denied on lent words: an operation by the table; an owner also a process that is not its own, and a message that is not under way to one of its own.
 // Words that are not sound deny by the run that they stand for, since 25 comes before 2.
-ghost use Rattle.laws.specs.Basics.{◌≡◌, ℕ};
+ghost use Rattle.std.specs.Prelude.{◌≡◌};
+ghost use Rattle.laws.specs.Basics.{ℕ};
 ghost use Rattle.model.specs.{Words.in_set, Steps.found};
 ghost use Rattle.words.specs.Layout.{fits, run_of};
 ghost use Rattle.theory_roles.specs.Console.{owns, entitled_by, entitled_message_by, denied, denied_process, denied_message};

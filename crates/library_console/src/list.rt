@@ -1,5 +1,6 @@
 // The checkpoints that the caller's processes keep, written to a lent list as deletions are. No word changes.
-ghost use Rattle.laws.specs.Basics.{◌≡◌, true, [], ◌∷◌, ℕ, ◌+◌, ◌*◌, ◌≤◌, ◌<◌, length, sets};
+ghost use Rattle.std.specs.Prelude.{◌≡◌, ◌∷◌, ◌+◌, ◌*◌, ◌≤◌, ◌<◌};
+ghost use Rattle.laws.specs.Basics.{true, [], ℕ, length, sets};
 ghost use Rattle.laws.specs.Lists.{table};
 ghost use Rattle.model.specs.{Sound.sound, Steps.listed, Words.most_processes, Words.kept_places};
 ghost use Rattle.whole_runs.specs.Outcomes.{pairs};

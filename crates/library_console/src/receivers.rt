@@ -1,5 +1,6 @@
 // The receiver of a message under way, on any words: a message that is not under way to an owner's process is denied with 25, which comes before 2.
-ghost use Rattle.laws.specs.Basics.{◌≡◌, true, ◌+◌, ◌≤◌, ◌<◌, length};
+ghost use Rattle.std.specs.Prelude.{◌≡◌, ◌+◌, ◌≤◌, ◌<◌};
+ghost use Rattle.laws.specs.Basics.{true, length};
 ghost use Rattle.model.specs.{Steps.found, Words.most_under_way};
 ghost use Rattle.words.specs.Layout.{word, fits, run_of, state_size};
 ghost use Rattle.library_console.specs.Receivers.{SearchedTo, found_in_of, receiver_is};

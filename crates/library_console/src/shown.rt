@@ -1,5 +1,6 @@
 // What is shown to a caller of the words: its members of a line, and how many checkpoints each process keeps. No word changes.
-ghost use Rattle.laws.specs.Basics.{◌≡◌, ◌≤◌, length, get_or, pick};
+ghost use Rattle.std.specs.Prelude.{◌≡◌, ◌≤◌};
+ghost use Rattle.laws.specs.Basics.{length, get_or, pick};
 ghost use Rattle.laws.specs.Loops.{set_below};
 ghost use Rattle.model.specs.Words.{most_processes};
 ghost use Rattle.whole_runs.specs.Outcomes.{line_outcome};

@@ -1,6 +1,7 @@
 -- The bytes of a log.
 -- Assumes nothing.
-use Rattle.laws.specs.Basics.{◌≡◌, refl, ◌∙◌, List, [], ◌∷◌, ℕ, zero, suc, ◌+◌, ◌*◌, arith, length, get_or, length-append, sets}
+use Rattle.std.specs.Prelude.{◌≡◌, ◌∷◌, ◌+◌, ◌*◌}
+use Rattle.laws.specs.Basics.{refl, ◌∙◌, List, [], ℕ, zero, suc, arith, length, get_or, length-append, sets}
 use native.Mathlib.Numerals.{add-one}
 use Rattle.laws.specs.Written.{sets_after}
 use Rattle.model.specs.Trace.{bytes_of_def}

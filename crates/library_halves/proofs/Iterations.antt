@@ -1,6 +1,7 @@
 -- The loop of a merge: what is known of the records taken.
 -- Assumes nothing.
-use Rattle.laws.specs.Basics.{◌≡◌, refl, sym, ◌∙◌, ap, List, [], ◌∷◌, ℕ, zero, suc, ◌+◌, ◌*◌, ◌≤◌, ◌<◌, arith, length, get_or, set, get_or-set_same, get_or-set_other}
+use Rattle.std.specs.Prelude.{◌≡◌, ◌∷◌, ◌+◌, ◌*◌, ◌≤◌, ◌<◌}
+use Rattle.laws.specs.Basics.{refl, sym, ◌∙◌, ap, List, [], ℕ, zero, suc, arith, length, get_or, set, get_or-set_same, get_or-set_other}
 use Rattle.model.specs.declared.Refusal.{Refusal}
 use Rattle.theory_merges.specs.{Halves.HalfEvent, Merge.stopped, Merge.take_from}
 use Rattle.library_halves.specs.{Log.Logged, Taking.left, Taking.Steps, Taking.Takes}

@@ -1,6 +1,7 @@
 -- The records of a half that are left, and which of them is next.
 -- Assumes nothing.
-use Rattle.laws.specs.Basics.{◌≡◌, refl, ◌∙◌, ap, true, false, List, [], ◌∷◌, none, some, ℕ, suc, ◌+◌, ◌*◌, ◌/◌, ◌%◌, ◌≤◌, ◌<◌, arith, eqb, leb, length, take, drop, length-drop, length-take-le, eq-eqb, ne_eqb, eqb-true, le-leb, leb-true, leb-false, by_bool, by_eq}
+use Rattle.std.specs.Prelude.{◌≡◌, ◌∷◌, ◌+◌, ◌*◌, ◌/◌, ◌%◌, ◌≤◌, ◌<◌}
+use Rattle.laws.specs.Basics.{refl, ◌∙◌, ap, true, false, List, [], none, some, ℕ, suc, arith, eqb, leb, length, take, drop, length-drop, length-take-le, eq-eqb, ne_eqb, eqb-true, le-leb, leb-true, leb-false, by_bool, by_eq}
 use lib.Seq.{drop-drop}
 use Rattle.laws.specs.Truth.{and_left, and_right}
 use Rattle.model.specs.{declared.Fields.Fields, declared.Refusal.TheVariants.NeitherReady, Trace.fields, Trace.if_zero_of}

@@ -1,6 +1,7 @@
 -- What a record of a half is found to be.
 -- Assumes nothing.
-use Rattle.laws.specs.Basics.{◌≡◌, refl, Bool, true, false, List, Option, some, ◌⊎◌, ℕ, zero, suc, ◌+◌, ◌*◌, ◌/◌, ◌%◌, ◌≤◌, ◌<◌, arith, eqb, eq-eqb, ne_eqb, lt-ltb, le-leb, lt-leb, by_bool}
+use Rattle.std.specs.Prelude.{◌≡◌, ◌⊎◌, ◌+◌, ◌*◌, ◌/◌, ◌%◌, ◌≤◌, ◌<◌}
+use Rattle.laws.specs.Basics.{refl, Bool, true, false, List, Option, some, ℕ, zero, suc, arith, eqb, eq-eqb, ne_eqb, lt-ltb, le-leb, lt-leb, by_bool}
 use Rattle.laws.specs.Loops.{either}
 use Rattle.model.specs.declared.Refusal.TheVariants.{NoSuchProcess, SenderIsReceiver, HalvesMismatch, MalformedRecord}
 use Rattle.model.specs.{Refusals.first_of, Trace.if_zero_of, Trace.fields_of, Trace.fits, Trace.word_of_def}

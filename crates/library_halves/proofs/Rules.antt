@@ -1,6 +1,7 @@
 -- What is judged of both halves before any record: the tests of the code and those of the model.
 -- Assumes nothing.
-use Rattle.laws.specs.Basics.{◌≡◌, refl, Bool, true, false, not, ◌||◌, List, [], ◌∷◌, ℕ, ◌+◌, ◌-◌, ◌^◌, ◌≤◌, ◌<◌, arith, eqb, ltb, leb, length, get_or, eq-eqb, lt-ltb, le-ltb, ltb-true, ltb-false, le-leb, lt-leb, leb-true, leb-false, by_bool}
+use Rattle.std.specs.Prelude.{◌≡◌, ◌||◌, ◌∷◌, ◌+◌, ◌-◌, ◌^◌, ◌≤◌, ◌<◌}
+use Rattle.laws.specs.Basics.{refl, Bool, true, false, not, List, [], ℕ, arith, eqb, ltb, leb, length, get_or, eq-eqb, lt-ltb, le-ltb, ltb-true, ltb-false, le-leb, lt-leb, leb-true, leb-false, by_bool}
 use Rattle.model.specs.Refusals.{first_of}
 use Rattle.theory_merges.specs.Merge.{bad_count, count_of, after_first_byte, left_over_of, too_many, merge_refusal}
 use Rattle.library_halves.specs.Both.{rules_of}

@@ -1,6 +1,7 @@
 -- What is counted in the log of a merge is what the model says of the records taken.
 -- Assumes nothing.
-use Rattle.laws.specs.Basics.{◌≡◌, refl, ◌∙◌, ap, true, List, [], ◌∷◌, ℕ, zero, suc, ◌+◌, ◌*◌, ◌/◌, ◌%◌, ◌≤◌, ◌<◌, arith, eqb, ltb, length, get_or, eq-eqb, ne_eqb, ltb-true, pick, by_bool, by_eq}
+use Rattle.std.specs.Prelude.{◌≡◌, ◌∷◌, ◌+◌, ◌*◌, ◌/◌, ◌%◌, ◌≤◌, ◌<◌}
+use Rattle.laws.specs.Basics.{refl, ◌∙◌, ap, true, List, [], ℕ, zero, suc, arith, eqb, ltb, length, get_or, eq-eqb, ne_eqb, ltb-true, pick, by_bool, by_eq}
 use native.Mathlib.Numerals.{add-one}
 use Rattle.laws.specs.{Loops.iter, Loops.iter_more, Truth.and_left, Truth.and_right}
 use Rattle.model.specs.declared.Event.{Event}

@@ -1,6 +1,7 @@
 -- The whole merge: what its parts come to.
 -- Assumes nothing.
-use Rattle.laws.specs.Basics.{◌≡◌, refl, sym, ◌∙◌, ap, List, [], ◌∷◌, Option, none, some, ℕ, ◌+◌, ◌-◌, ◌*◌, ◌/◌, length, set, sets}
+use Rattle.std.specs.Prelude.{◌≡◌, ◌∷◌, ◌+◌, ◌-◌, ◌*◌, ◌/◌}
+use Rattle.laws.specs.Basics.{refl, sym, ◌∙◌, ap, List, [], Option, none, some, ℕ, length, set, sets}
 use Rattle.model.specs.declared.Refusal.{Refusal}
 use Rattle.theory_merges.specs.Merge.{take_from, count_of, after_first_byte, fields_in, merge_refusal, plain_bytes, MergeOutcome, finished, merge_outcome}
 use Rattle.theory_merges.proofs.Replaying.{how_many_lem}

@@ -1,6 +1,7 @@
 -- What is judged before any record, as tests and the refusals that they give.
 -- Assumes nothing.
-use Rattle.laws.specs.Basics.{Bool, List, [], ◌∷◌}
+use Rattle.std.specs.Prelude.{◌∷◌}
+use Rattle.laws.specs.Basics.{Bool, List, []}
 use Rattle.model.specs.declared.Refusal.TheVariants.{CountOutsideRange, ListTooShort, NoSuchFailedProcess, NoFirstByte, LeftOverBytes, TooManyRecords, HalvesMismatch}
 use Rattle.model.specs.Refusals.{Rule}
 

@@ -1,6 +1,7 @@
 -- The log of a merge: a word of the merged trace for each record taken, oldest first. What is read off it, and what is written of it.
 -- Assumes nothing.
-use Rattle.laws.specs.Basics.{◌≡◌, true, List, [], ◌∷◌, ◌++◌, ℕ, zero, suc, ◌+◌, ◌/◌, ◌%◌, ◌≤◌, eqb, length, get_or, pick}
+use Rattle.std.specs.Prelude.{◌≡◌, ◌∷◌, ◌++◌, ◌+◌, ◌/◌, ◌%◌, ◌≤◌}
+use Rattle.laws.specs.Basics.{true, List, [], ℕ, zero, suc, eqb, length, get_or, pick}
 use Rattle.laws.specs.Loops.{iter}
 use Rattle.model.specs.Trace.{fields_of, fits, word_of_def, bytes_of_def}
 use Rattle.theory_merges.specs.Halves.{HalfEvent, plain_event}

@@ -1,6 +1,7 @@
 -- What the functions that take records answer, in the words of the model.
 -- Assumes nothing.
-use Rattle.laws.specs.Basics.{◌≡◌, Bool, true, false, ◌&&◌, List, [], ◌∷◌, Option, ℕ, suc, ◌+◌, ◌*◌, ◌/◌, ◌%◌, ◌≤◌, eqb, length, drop, pick}
+use Rattle.std.specs.Prelude.{◌≡◌, ◌&&◌, ◌∷◌, ◌+◌, ◌*◌, ◌/◌, ◌%◌, ◌≤◌}
+use Rattle.laws.specs.Basics.{Bool, true, false, List, [], Option, ℕ, suc, eqb, length, drop, pick}
 use Rattle.model.specs.declared.Fields.{Fields}
 use Rattle.model.specs.Trace.{fields, fits}
 use Rattle.theory_merges.specs.Halves.{HalfEvent, deliver_of, lose_of, plain_event}

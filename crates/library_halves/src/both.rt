@@ -1,5 +1,6 @@
 // What is judged of both halves, the set and the result buffer before any record: 1, 3, 12, 23, 7, 13, 17, in this order.
-ghost use Rattle.laws.specs.Basics.{◌≡◌, List, [], ◌∷◌, ℕ, ◌+◌, ltb, length};
+ghost use Rattle.std.specs.Prelude.{◌≡◌, ◌∷◌, ◌+◌};
+ghost use Rattle.laws.specs.Basics.{List, [], ℕ, ltb, length};
 ghost use Rattle.model.specs.Refusals.{first_of};
 ghost use Rattle.theory_merges.specs.Merge.{count_of, bad_count, left_over_of, too_many, merge_refusal};
 ghost use Rattle.admissions.specs.Admissions.{refusal_of};

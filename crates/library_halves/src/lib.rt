@@ -15,7 +15,7 @@ mod taking;
 // both.rt: what is judged before any record
 mod both;
 
-ghost use Rattle.laws.specs.Basics.{◌≡◌};
+ghost use Rattle.std.specs.Prelude.{◌≡◌};
 ghost use Rattle.theory_merges.specs.{Halves.OrdersAgree, Merge.merge_outcome, Merge.MergePromise};
 
 use admissions::Admission;

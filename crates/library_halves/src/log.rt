@@ -1,6 +1,7 @@
 // The log of a merge: for each record taken the 32 bits of its record in the merged trace (`word_of`), oldest first. `taken` says how many there are.
 // Contracts speak of any list of records taken whose log it is.
-ghost use Rattle.laws.specs.Basics.{◌≡◌, ◌+◌, ◌*◌, ◌≤◌, ◌<◌, length, sets};
+ghost use Rattle.std.specs.Prelude.{◌≡◌, ◌+◌, ◌*◌, ◌≤◌, ◌<◌};
+ghost use Rattle.laws.specs.Basics.{length, sets};
 ghost use Rattle.theory_merges.specs.Merge.{most_of_half};
 ghost use Rattle.model.specs.Trace.{bytes_of_def};
 ghost use Rattle.library_halves.specs.Log.{tallied, tally_of, bytes_up_to};

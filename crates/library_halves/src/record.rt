@@ -1,5 +1,6 @@
 // Whether a record of a half is taken: 14, 4, 5 and 23, in this order. `side` is true where the first half is meant, false for the second.
-ghost use Rattle.laws.specs.Basics.{◌≡◌, List, some, ◌⊎◌, ℕ, ◌*◌, ◌≤◌, length};
+ghost use Rattle.std.specs.Prelude.{◌≡◌, ◌⊎◌, ◌*◌, ◌≤◌};
+ghost use Rattle.laws.specs.Basics.{List, some, ℕ, length};
 ghost use Rattle.model.specs.{Trace.fields, Trace.if_zero_of, Words.most_processes};
 ghost use Rattle.theory_merges.specs.{Halves.HalfEvent, Halves.send_to, Halves.checkpoint_at, Merge.in_half_of, Merge.half_event_of, Merge.most_of_half};
 ghost use Rattle.library_halves.specs.{Log.Logged, Taking.Judges, Taking.message_of};

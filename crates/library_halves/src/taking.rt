@@ -1,5 +1,6 @@
 // Which record is taken next, and all of them. `a` records of the first half and `b` of the second were taken; `side` is true for the first half.
-ghost use Rattle.laws.specs.Basics.{◌≡◌, true, List, ◌+◌, ◌-◌, ◌*◌, ◌/◌, ◌%◌, ◌≤◌, leb, length, pick};
+ghost use Rattle.std.specs.Prelude.{◌≡◌, ◌+◌, ◌-◌, ◌*◌, ◌/◌, ◌%◌, ◌≤◌};
+ghost use Rattle.laws.specs.Basics.{true, List, leb, length, pick};
 ghost use Rattle.model.specs.Words.{most_processes};
 ghost use Rattle.theory_merges.specs.{Halves.HalfEvent, Halves.message_number, Merge.most_of_half};
 ghost use Rattle.trace.specs.Answers.{record_at};

@@ -1,6 +1,7 @@
 -- The first rows hold the start: each list is checkpoint 0.
 -- Assumes nothing.
-use Rattle.laws.specs.Basics.{◌≡◌, refl, sym, ◌∙◌, ap, List, ℕ, ◌≤◌, ◌<◌, arith, eqb, length, get_or, eq-eqb, pick}
+use Rattle.std.specs.Prelude.{◌≡◌, ◌≤◌, ◌<◌}
+use Rattle.laws.specs.Basics.{refl, sym, ◌∙◌, ap, List, ℕ, arith, eqb, length, get_or, eq-eqb, pick}
 use Rattle.histories.specs.History.{HistoryEvent, stored, checkpoints}
 use Rattle.histories.proofs.Apart.{sent_stored, received_stored}
 use Rattle.theory_patterns.specs.Paths.{StandsIn}

@@ -1,6 +1,7 @@
 -- The invariant of the reading after each kind of record, and the refusals of a record by the tables.
 -- Assumes nothing.
-use Rattle.laws.specs.Basics.{◌≡◌, refl, sym, ◌∙◌, ap, fun_ext, Bool, true, false, false≢true, List, some, ℕ, zero, suc, ◌+◌, ◌-◌, ◌≤◌, ◌<◌, arith, ltb, leb, length, get_or, set, length-set, get_or-set_same, get_or-set_other, eq-eqb, ne_eqb, lt-ltb, le-ltb, ltb-true, ltb-false, leb-false, pick, by_bool, by_eq}
+use Rattle.std.specs.Prelude.{◌≡◌, ◌+◌, ◌-◌, ◌≤◌, ◌<◌}
+use Rattle.laws.specs.Basics.{refl, sym, ◌∙◌, ap, fun_ext, Bool, true, false, false≢true, List, some, ℕ, zero, suc, arith, ltb, leb, length, get_or, set, length-set, get_or-set_same, get_or-set_other, eq-eqb, ne_eqb, lt-ltb, le-ltb, ltb-true, ltb-false, leb-false, pick, by_bool, by_eq}
 use native.Mathlib.Numerals.{add-one}
 use Rattle.laws.specs.{Counting.count_same, Counting.count_none, Tests.count_below, Update.upd, Update.upd_same, Update.upd_other}
 use Rattle.model.specs.declared.Event.TheVariants.{Checkpoint, Send, Deliver, Lose}

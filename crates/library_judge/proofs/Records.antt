@@ -1,6 +1,7 @@
 -- What a record of each kind leaves, from what the functions answer and from the invariant.
 -- Assumes nothing.
-use Rattle.laws.specs.Basics.{◌≡◌, refl, sym, ◌∙◌, true, false, not, List, [], ◌∷◌, Option, none, some, ℕ, suc, ◌+◌, ◌<◌, get_or, set, leb-false, by_bool}
+use Rattle.std.specs.Prelude.{◌≡◌, ◌∷◌, ◌+◌, ◌<◌}
+use Rattle.laws.specs.Basics.{refl, sym, ◌∙◌, true, false, not, List, [], Option, none, some, ℕ, suc, get_or, set, leb-false, by_bool}
 use Rattle.model.specs.declared.{Event.Event, Refusal.Refusal, Refusal.TheVariants.NotUnderWay, Refusal.TheVariants.MalformedRecord}
 use Rattle.model.specs.declared.Event.TheVariants.{Checkpoint, Send, Deliver, Lose, Recover}
 use Rattle.model.specs.{Refusals.first_of, laws.Refusals.no_rule, laws.Refusals.by_refusal}

@@ -1,6 +1,7 @@
 -- The tables hold the trail after each record: a checkpoint, a send, a delivery. A lost message changes nothing that the tables hold.
 -- Assumes nothing.
-use Rattle.laws.specs.Basics.{◌≡◌, refl, sym, ◌∙◌, ap, List, ◌⊎◌, inl, inr, ℕ, suc, ◌-◌, ◌≤◌, ◌<◌, arith, ltb, length, get_or, ltb-true, ltb-false, by_bool, by_eq}
+use Rattle.std.specs.Prelude.{◌≡◌, ◌⊎◌, ◌-◌, ◌≤◌, ◌<◌}
+use Rattle.laws.specs.Basics.{refl, sym, ◌∙◌, ap, List, inl, inr, ℕ, suc, arith, ltb, length, get_or, ltb-true, ltb-false, by_bool, by_eq}
 use Rattle.laws.specs.Loops.{either}
 use Rattle.histories.specs.History.{HistoryEvent, stored, sent, received, Lists, checkpoints}
 use Rattle.whole_runs.specs.Survival.{added}

@@ -1,6 +1,7 @@
 -- The tables that the functions leave hold the trail that `patterns` makes of the record: `storing`, `sending`, `receiving`.
 -- Assumes nothing.
-use Rattle.laws.specs.Basics.{◌≡◌, sym, ◌∙◌, ap, List, some, ℕ, suc, ◌+◌, ◌≤◌, ◌<◌, max, arith, ltb, get_or, set, length-set, get_or-set_same, get_or-set_other, ltb-true, ltb-false, pick, by_bool, by_eq}
+use Rattle.std.specs.Prelude.{◌≡◌, ◌+◌, ◌≤◌, ◌<◌}
+use Rattle.laws.specs.Basics.{sym, ◌∙◌, ap, List, some, ℕ, suc, max, arith, ltb, get_or, set, length-set, get_or-set_same, get_or-set_other, ltb-true, ltb-false, pick, by_bool, by_eq}
 use Rattle.laws.specs.{Tables.get_d_table, Update.upd, Update.upd_same, Update.upd_other}
 use Rattle.model.specs.declared.Interval.{Interval}
 use Rattle.histories.specs.History.{stored, sent, received, Lists, checkpoints}

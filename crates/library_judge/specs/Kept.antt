@@ -1,6 +1,7 @@
 -- The invariant of the reading: what the tables and the progress hold of the pattern read so far and of its trail; and what a record does to them.
 -- Assumes nothing.
-use Rattle.laws.specs.Basics.{◌≡◌, true, List, Option, none, some, ℕ, suc, ◌+◌, ◌*◌, ◌≤◌, ◌<◌, length, get_or, drop}
+use Rattle.std.specs.Prelude.{◌≡◌, ◌+◌, ◌*◌, ◌≤◌, ◌<◌}
+use Rattle.laws.specs.Basics.{true, List, Option, none, some, ℕ, suc, length, get_or, drop}
 use Rattle.model.specs.declared.Event.{Event}
 use Rattle.model.specs.Words.{most_processes, most_under_way}
 use Rattle.histories.specs.History.{sent, checkpoints}

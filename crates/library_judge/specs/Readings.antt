@@ -1,6 +1,7 @@
 -- What a record does to the tables and to the progress of the reading.
 -- Assumes nothing.
-use Rattle.laws.specs.Basics.{◌≡◌, refl, sym, ◌∙◌, ap, Bool, true, false, not, ◌&&◌, false≢true, List, [], ◌∷◌, Option, none, some, ℕ, zero, suc, ◌+◌, ◌-◌, ◌≤◌, ◌<◌, arith, eqb, ltb, leb, length, get_or, set, replicate, length-set, length-replicate, get_or-replicate, get_or-set_same, get_or-set_other, eq-eqb, ne_eqb, lt-ltb, ltb-true, le-leb, lt-leb, not-true, not-false, pick, by_bool, by_eq}
+use Rattle.std.specs.Prelude.{◌≡◌, ◌&&◌, ◌∷◌, ◌+◌, ◌-◌, ◌≤◌, ◌<◌}
+use Rattle.laws.specs.Basics.{refl, sym, ◌∙◌, ap, Bool, true, false, not, false≢true, List, [], Option, none, some, ℕ, zero, suc, arith, eqb, ltb, leb, length, get_or, set, replicate, length-set, length-replicate, get_or-replicate, get_or-set_same, get_or-set_other, eq-eqb, ne_eqb, lt-ltb, ltb-true, le-leb, lt-leb, not-true, not-false, pick, by_bool, by_eq}
 use Rattle.theory_patterns.specs.Patterns.{most_judged}
 use Rattle.model.specs.{declared.Interval.Interval, declared.Refusal.Refusal, Steps.advanced, Steps.taken_vector, Steps.started}
 use Rattle.model.specs.declared.Refusal.TheVariants.{NoSuchProcess, NotUnderWay, IntervalsUsed}

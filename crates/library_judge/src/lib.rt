@@ -8,7 +8,7 @@ mod reading;
 // decision.rt: the verdict on a trace that is read to its end, from the tables that the reading left
 pub mod decision;
 
-ghost use Rattle.laws.specs.Basics.{◌≡◌};
+ghost use Rattle.std.specs.Prelude.{◌≡◌};
 ghost use Rattle.theory_patterns.specs.Verdicts.{verdict};
 ghost use Rattle.library_judge.specs.Kept.{tables, Sized};
 

@@ -1,7 +1,8 @@
 // The reading of a trace, record by record, into tables. `vectors` and `process` have a row for each state that ends an interval or is live: its dependency vector and
 // its process. Message m has place m - 1 in the others: `carried` has the vector that it carries, `passing` its receiver and 1 while it is under way, else 0, `from`
 // the row of its send, and `to` the row of its receipt and 1, or 0.
-ghost use Rattle.laws.specs.Basics.{◌≡◌, some, ◌+◌, ◌*◌, ◌≤◌, ◌<◌, length};
+ghost use Rattle.std.specs.Prelude.{◌≡◌, ◌+◌, ◌*◌, ◌≤◌, ◌<◌};
+ghost use Rattle.laws.specs.Basics.{some, length};
 ghost use Rattle.theory_patterns.specs.Patterns.{most_judged};
 ghost use Rattle.model.specs.Words.{most_processes, most_under_way};
 ghost use Rattle.library_judge.specs.decision.Rows.{row_of, most_rows, table_size};

@@ -1,6 +1,7 @@
 -- What the reader of a carried vector does, by the place of the message in the words.
 -- Assumes nothing.
-use Rattle.laws.specs.Basics.{◌≡◌, refl, ◌∙◌, ap, true, List, [], ◌∷◌, Option, none, some, ℕ, suc, ◌+◌, ◌≤◌, ◌<◌, arith, length, lt-ltb, le-ltb}
+use Rattle.std.specs.Prelude.{◌≡◌, ◌∷◌, ◌+◌, ◌≤◌, ◌<◌}
+use Rattle.laws.specs.Basics.{refl, ◌∙◌, ap, true, List, [], Option, none, some, ℕ, suc, arith, length, lt-ltb, le-ltb}
 use Rattle.laws.specs.{Lists.table, Lists.or_else, Tables.table_same}
 use Rattle.model.specs.declared.{Interval.Interval, Message.Message, Refusal.TheVariants.ListTooShort, Refusal.TheVariants.NotUnderWay, Run.Run}
 use Rattle.model.specs.{Words.entry, Words.no_message, Steps.found, Sound.sound}

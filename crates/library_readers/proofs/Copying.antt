@@ -1,6 +1,7 @@
 -- A copy of all words is the words.
 -- Assumes nothing.
-use Rattle.laws.specs.Basics.{◌≡◌, sym, ◌∙◌, ap, List, ◌++◌, append-nil, ℕ, ◌+◌, ◌≤◌, ◌<◌, arith, length, get_or, drop, sets}
+use Rattle.std.specs.Prelude.{◌≡◌, ◌++◌, ◌+◌, ◌≤◌, ◌<◌}
+use Rattle.laws.specs.Basics.{sym, ◌∙◌, ap, List, append-nil, ℕ, arith, length, get_or, drop, sets}
 use lib.Seq.{drop-length, ext_get_or}
 use Rattle.laws.specs.{Front.written_front, Tables.length_table, Tables.get_d_table}
 use Rattle.words.specs.Layout.{word}

@@ -1,6 +1,7 @@
 -- What the reader of the messages that a recovery would lose does, by the words.
 -- Assumes nothing.
-use Rattle.laws.specs.Basics.{◌≡◌, refl, sym, ◌∙◌, ap, true, false, ◌&&◌, List, [], ◌∷◌, some, ℕ, ◌^◌, ◌≤◌, ◌<◌, arith, leb, length, lt-ltb, le-ltb}
+use Rattle.std.specs.Prelude.{◌≡◌, ◌&&◌, ◌∷◌, ◌^◌, ◌≤◌, ◌<◌}
+use Rattle.laws.specs.Basics.{refl, sym, ◌∙◌, ap, true, false, List, [], some, ℕ, arith, leb, length, lt-ltb, le-ltb}
 use Rattle.laws.specs.{Lists.table, Select.select_length, Select.select_select, Tables.length_table}
 use Rattle.model.specs.declared.{CheckpointIndex.CheckpointIndex, Message.Message, Run.Run}
 use Rattle.model.specs.declared.Refusal.TheVariants.{UnsoundState, ListTooShort, NoSuchFailedProcess}

@@ -1,6 +1,7 @@
 -- What each reader's outcome is, by the words: refused, and accepted.
 -- Assumes nothing.
-use Rattle.laws.specs.Basics.{◌≡◌, refl, sym, ◌∙◌, ap, true, List, [], ◌∷◌, Option, none, some, ℕ, zero, suc, ◌+◌, ◌*◌, ◌≤◌, ◌<◌, arith, length, get_or, sets, lt-ltb, le-ltb, le-leb, lt-leb}
+use Rattle.std.specs.Prelude.{◌≡◌, ◌∷◌, ◌+◌, ◌*◌, ◌≤◌, ◌<◌}
+use Rattle.laws.specs.Basics.{refl, sym, ◌∙◌, ap, true, List, [], Option, none, some, ℕ, zero, suc, arith, length, get_or, sets, lt-ltb, le-ltb, le-leb, lt-leb}
 use Rattle.laws.specs.{Lists.table, Rows.by_lt, Select.select_length, Tables.table_same, Tables.length_table, Tables.get_d_table}
 use Rattle.model.specs.declared.{Interval.Interval, Pin.TheVariants.Nothing, Checkpoint.Checkpoint, Message.Message, Run.Run, Refusal.Refusal}
 use Rattle.model.specs.declared.Refusal.TheVariants.{ListTooShort, NoSuchProcess}

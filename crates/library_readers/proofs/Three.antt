@@ -1,6 +1,7 @@
 -- Three numbers of each element, written one element after the other.
 -- Assumes nothing.
-use Rattle.laws.specs.Basics.{◌≡◌, refl, sym, ◌∙◌, ap, Bool, List, [], ◌∷◌, ◌++◌, append-nil, ℕ, ◌+◌, ◌*◌, ◌≤◌, ◌<◌, arith, length, length-append, sets, pick, by_bool}
+use Rattle.std.specs.Prelude.{◌≡◌, ◌∷◌, ◌++◌, ◌+◌, ◌*◌, ◌≤◌, ◌<◌}
+use Rattle.laws.specs.Basics.{refl, sym, ◌∙◌, ap, Bool, List, [], append-nil, ℕ, arith, length, length-append, sets, pick, by_bool}
 use native.Mathlib.Numerals.{add-one}
 use Rattle.laws.specs.{Lists.select, Lists.table, Select.select_append, Select.select_one, Tables.length_table, Written.sets_after}
 use Rattle.model.specs.declared.{Checkpoint.Checkpoint, Message.Message}

@@ -2,7 +2,8 @@
 -- sound, 3 for a list that is too short, 4 for a process not below n, 7 for a failed set with a process not below n, 8 for a message not under way. "Where several hold,
 -- the lowest number is given."
 -- Assumes nothing.
-use Rattle.laws.specs.Basics.{List, [], ◌∷◌, Option, none, some, ℕ, ◌+◌, ◌*◌, ltb, length, get_or}
+use Rattle.std.specs.Prelude.{◌∷◌, ◌+◌, ◌*◌}
+use Rattle.laws.specs.Basics.{List, [], Option, none, some, ℕ, ltb, length, get_or}
 use Rattle.laws.specs.Lists.{select, table}
 use Rattle.model.specs.declared.{Pin.Pin, Pin.TheVariants.Nothing, Pin.TheVariants.At, Checkpoint.Checkpoint, Message.Message, Run.Run}
 use Rattle.model.specs.declared.Refusal.TheVariants.{UnsoundState, ListTooShort, NoSuchProcess, NoSuchFailedProcess, NotUnderWay}

@@ -1,6 +1,7 @@
 -- What the readers write, by the words that they read.
 -- Assumes nothing.
-use Rattle.laws.specs.Basics.{◌&&◌, List, [], ◌∷◌, none, ℕ, ◌+◌}
+use Rattle.std.specs.Prelude.{◌&&◌, ◌∷◌, ◌+◌}
+use Rattle.laws.specs.Basics.{List, [], none, ℕ}
 use Rattle.laws.specs.Lists.{select, table}
 use Rattle.model.specs.declared.{Checkpoint.Checkpoint, CheckpointIndex.CheckpointIndex, Message.Message}
 use Rattle.words.specs.Layout.{word, wide2, wide4, count_of, part_at, message_in, is_message, run_of}

@@ -3,7 +3,8 @@
 
 #![tactic(auto)]
 
-ghost use Rattle.laws.specs.Basics.{◌≡◌, true, [], ◌∷◌, some, ℕ, ◌+◌, ◌*◌, ◌≤◌, ◌<◌, length, sets, pick};
+ghost use Rattle.std.specs.Prelude.{◌≡◌, ◌∷◌, ◌+◌, ◌*◌, ◌≤◌, ◌<◌};
+ghost use Rattle.laws.specs.Basics.{true, [], some, ℕ, length, sets, pick};
 ghost use Rattle.laws.specs.Lists.{table};
 ghost use Rattle.model.specs.{Sound.sound, Words.most_processes, Words.most_under_way};
 ghost use Rattle.whole_runs.specs.Outcomes.{refusing, accepting};

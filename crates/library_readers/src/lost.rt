@@ -1,5 +1,6 @@
 // The messages under way that a recovery would lose, asked before it.
-ghost use Rattle.laws.specs.Basics.{◌≡◌, true, false, ◌&&◌, ◌+◌, ◌*◌, ◌^◌, ◌≤◌, ◌<◌, leb, length, sets, pick};
+ghost use Rattle.std.specs.Prelude.{◌≡◌, ◌&&◌, ◌+◌, ◌*◌, ◌^◌, ◌≤◌, ◌<◌};
+ghost use Rattle.laws.specs.Basics.{true, false, leb, length, sets, pick};
 ghost use Rattle.model.specs.{Sound.sound, Words.most_processes, Words.most_under_way};
 ghost use Rattle.listing.specs.answers.Codes.{coded};
 ghost use Rattle.words.specs.Layout.{word, count_of, sender_at_of, message_in, is_message, run_of, state_size};

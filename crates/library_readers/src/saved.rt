@@ -1,5 +1,5 @@
 // A state saved to bytes and loaded from them. Both ask nothing of what they are lent: specs/Saving says what is refused and what is left.
-ghost use Rattle.laws.specs.Basics.{◌≡◌};
+ghost use Rattle.std.specs.Prelude.{◌≡◌};
 ghost use Rattle.listing.specs.answers.Codes.{coded};
 ghost use Rattle.library_readers.specs.saved.Saving.{saving, loading};
 

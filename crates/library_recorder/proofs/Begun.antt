@@ -1,6 +1,7 @@
 -- The three ways of a start in place through the recorder: refused by itself, refused for an empty buffer, and done.
 -- Assumes nothing.
-use Rattle.laws.specs.Basics.{◌≡◌, refl, sym, ◌∙◌, ap, List, [], ◌∷◌, none, some, ℕ, ◌+◌, ◌≤◌, arith, ltb, length, sets, eq-eqb, lt-ltb, le-ltb, by_bool}
+use Rattle.std.specs.Prelude.{◌≡◌, ◌∷◌, ◌+◌, ◌≤◌}
+use Rattle.laws.specs.Basics.{refl, sym, ◌∙◌, ap, List, [], none, some, ℕ, arith, ltb, length, sets, eq-eqb, lt-ltb, le-ltb, by_bool}
 use Rattle.model.specs.declared.{Refusal.Refusal, Refusal.TheVariants.BufferTooShort, Refusal.TheVariants.CountOutsideRange, StartAnswer.StartAnswer}
 use Rattle.model.specs.declared.StartAnswer.TheVariants.{Refused}
 use Rattle.model.specs.{Words.blank, Refusals.number, Refusals.first_of}

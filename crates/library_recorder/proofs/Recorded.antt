@@ -1,6 +1,7 @@
 -- Note 9 of the calls in place: the words, the buffer and the place are what the definitions of the crate theory_recording say, and there the theorem is proved.
 -- Assumes nothing.
-use Rattle.laws.specs.Basics.{◌≡◌, refl, sym, ◌∙◌, ap, true, List, [], ◌∷◌, none, some, ℕ, ◌-◌, ◌≤◌, arith, ltb, length, le-ltb, ltb-false, by_bool}
+use Rattle.std.specs.Prelude.{◌≡◌, ◌∷◌, ◌-◌, ◌≤◌}
+use Rattle.laws.specs.Basics.{refl, sym, ◌∙◌, ap, true, List, [], none, some, ℕ, arith, ltb, length, le-ltb, ltb-false, by_bool}
 use Rattle.model.specs.declared.{Run.Run, Refusal.Refusal, Refusal.TheVariants.BufferTooShort, StartAnswer.StartAnswer}
 use Rattle.model.specs.declared.StartAnswer.TheVariants.{Refused, Started}
 use Rattle.model.specs.{Refusals.start_refusal, laws.Refusals.by_refusal}

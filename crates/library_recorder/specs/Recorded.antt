@@ -1,7 +1,8 @@
 -- The recorder on the calls in place. `recorded_checkpoint` .. `recorded_earliest` of the crate theory_recording are of the run that the words stand for; here are a start in place
 -- through the recorder, and what a replay of the buffer gives. proofs/Recorded has the theorem.
 -- Assumes nothing.
-use Rattle.laws.specs.Basics.{◌≡◌, List, [], ◌∷◌, ℕ, ltb, length, pick}
+use Rattle.std.specs.Prelude.{◌≡◌, ◌∷◌}
+use Rattle.laws.specs.Basics.{List, [], ℕ, ltb, length, pick}
 use Rattle.model.specs.{declared.Refusal.TheVariants.BufferTooShort, declared.StartAnswer.StartAnswer, Words.blank}
 use Rattle.model.specs.declared.StartAnswer.TheVariants.{Refused, Started}
 use Rattle.whole_runs.specs.{Outcomes.judged, Calls.Call}

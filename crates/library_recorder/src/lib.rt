@@ -4,7 +4,8 @@
 
 #![tactic(auto)]
 
-ghost use Rattle.laws.specs.Basics.{◌≡◌, length};
+ghost use Rattle.std.specs.Prelude.{◌≡◌};
+ghost use Rattle.laws.specs.Basics.{length};
 ghost use Rattle.model.specs.declared.Refusal.{Refusal};
 ghost use Rattle.theory_recording.specs.Recording.{recorded_checkpoint, recorded_send, recorded_deliver, recorded_lose, recorded_line, recorded_recover, recorded_earliest};
 ghost use Rattle.words.specs.{Clean.Clean, Layout.run_of, Layout.state_size};

@@ -1,5 +1,6 @@
 // The bytes that the recorder writes.
-ghost use Rattle.laws.specs.Basics.{◌≡◌, true, not, ◌+◌, ◌-◌, ◌≤◌, eqb, ltb, length, sets, pick};
+ghost use Rattle.std.specs.Prelude.{◌≡◌, ◌+◌, ◌-◌, ◌≤◌};
+ghost use Rattle.laws.specs.Basics.{true, not, eqb, ltb, length, sets, pick};
 ghost use Rattle.model.specs.Trace.{fits};
 ghost use Rattle.theory_recording.specs.Replay.{record_bytes};
 

@@ -1,6 +1,7 @@
 // What a call answers where the buffer has no room for its record: its own refusal, else 21. "A refused call writes no byte", and the words and the lent lists keep every
 // entry: so the call is made on a copy of the words, with lists of its own. A refusal looks at the length of a lent list alone, and 512 entries, or 16, are as good as more.
-ghost use Rattle.laws.specs.Basics.{◌≡◌, List, ℕ, ◌≤◌, min, length};
+ghost use Rattle.std.specs.Prelude.{◌≡◌, ◌≤◌};
+ghost use Rattle.laws.specs.Basics.{List, ℕ, min, length};
 ghost use Rattle.model.specs.declared.Refusal.TheVariants.{BufferTooShort};
 ghost use Rattle.model.specs.Refusals.{checkpoint_refusal, send_refusal, deliver_refusal, lose_refusal, recover_refusal};
 ghost use Rattle.whole_runs.specs.Outcomes.{judged};

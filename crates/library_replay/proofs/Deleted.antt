@@ -1,6 +1,7 @@
 -- The text of deletions that were written to the front of a list: it is the same whatever the list held, where the list is long enough.
 -- Assumes nothing.
-use Rattle.laws.specs.Basics.{◌≡◌, refl, sym, ◌∙◌, ap, List, [], ◌∷◌, ◌++◌, ℕ, ◌+◌, ◌*◌, ◌≤◌, arith, length, drop, sets}
+use Rattle.std.specs.Prelude.{◌≡◌, ◌∷◌, ◌++◌, ◌+◌, ◌*◌, ◌≤◌}
+use Rattle.laws.specs.Basics.{refl, sym, ◌∙◌, ap, List, [], ℕ, arith, length, drop, sets}
 use lib.Seq.{sets-eq}
 use Rattle.model.specs.Steps.{Deletion}
 use Rattle.whole_runs.specs.{Outcomes.pairs, Listing.deletions_text, Listing.decimal, Listing.space, Listing.colon}

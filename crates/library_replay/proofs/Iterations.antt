@@ -1,6 +1,7 @@
 -- The iterations of the loop over a block: nothing taken yet, one record more, and where it stops.
 -- Assumes nothing.
-use Rattle.laws.specs.Basics.{◌≡◌, refl, sym, ◌∙◌, ap, Bool, true, false, ◌&&◌, List, [], ◌∷◌, Option, none, some, ℕ, suc, ◌+◌, ◌-◌, ◌*◌, ◌≤◌, ◌<◌, arith, ltb, leb, length, take, drop, length-drop, sets, length-take-le, eq-eqb, ltb-true, le-leb, lt-leb, leb-true, leb-false, pick, by_bool}
+use Rattle.std.specs.Prelude.{◌≡◌, ◌&&◌, ◌∷◌, ◌+◌, ◌-◌, ◌*◌, ◌≤◌, ◌<◌}
+use Rattle.laws.specs.Basics.{refl, sym, ◌∙◌, ap, Bool, true, false, List, [], Option, none, some, ℕ, suc, arith, ltb, leb, length, take, drop, length-drop, sets, length-take-le, eq-eqb, ltb-true, le-leb, lt-leb, leb-true, leb-false, pick, by_bool}
 use lib.Seq.{length-sets, drop-drop}
 use Rattle.laws.specs.Truth.{and_left, and_right}
 use Rattle.model.specs.{declared.Event.Event, declared.Run.Run, Trace.decoded}

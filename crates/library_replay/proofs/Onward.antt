@@ -1,7 +1,8 @@
 -- Block by block: the records that are taken are in the block and no more than a replay takes, before each there was room and the replay went on, and one is taken where
 -- one may be.
 -- Assumes nothing.
-use Rattle.laws.specs.Basics.{◌≡◌, refl, ◌∙◌, ap, Bool, true, ◌&&◌, List, [], ◌∷◌, ◌++◌, ℕ, zero, suc, ◌+◌, ◌-◌, ◌*◌, ◌≤◌, ◌<◌, arith, ltb, leb, length, take, length-append, lt-ltb, ltb-true, leb-true, by_bool}
+use Rattle.std.specs.Prelude.{◌≡◌, ◌&&◌, ◌∷◌, ◌++◌, ◌+◌, ◌-◌, ◌*◌, ◌≤◌, ◌<◌}
+use Rattle.laws.specs.Basics.{refl, ◌∙◌, ap, Bool, true, List, [], ℕ, zero, suc, arith, ltb, leb, length, take, length-append, lt-ltb, ltb-true, leb-true, by_bool}
 use Rattle.laws.specs.Truth.{and_left, and_right, never_both}
 use Rattle.model.specs.declared.Run.{Run}
 use Rattle.model.specs.Trace.{decoded}

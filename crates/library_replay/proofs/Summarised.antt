@@ -1,6 +1,7 @@
 -- What the calls in place say of a record, with lists of 512 and 16 entries whatever these hold: the state and the reply of the record by the model, whose lists hold zeros.
 -- Assumes nothing.
-use Rattle.laws.specs.Basics.{◌≡◌, refl, sym, ◌∙◌, ap, false, List, [], none, some, ℕ, ◌≤◌, arith, length, replicate, length-replicate, sets, by_bool}
+use Rattle.std.specs.Prelude.{◌≡◌, ◌≤◌}
+use Rattle.laws.specs.Basics.{refl, sym, ◌∙◌, ap, false, List, [], none, some, ℕ, arith, length, replicate, length-replicate, sets, by_bool}
 use Rattle.model.specs.declared.{Event.Event, Refusal.TheVariants.UnsoundState, Refusal.TheVariants.MalformedRecord, Run.Run, SendAnswer.SendAnswer}
 use Rattle.model.specs.declared.Event.TheVariants.{Checkpoint, Send, Deliver, Lose, Recover}
 use Rattle.model.specs.declared.{CheckpointAnswer.CheckpointAnswer, DeliverAnswer.DeliverAnswer, LoseAnswer.LoseAnswer, RecoverAnswer.RecoverAnswer}

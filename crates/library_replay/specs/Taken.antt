@@ -1,6 +1,7 @@
 -- A block of records, each of four bytes: how many of them are taken, and what they come to by whole_runs's specs/Listing, on any state, sound or not.
 -- Assumes nothing.
-use Rattle.laws.specs.Basics.{◌≡◌, Bool, true, ◌&&◌, List, [], ◌∷◌, ℕ, suc, ◌+◌, ◌-◌, ◌*◌, ◌≤◌, ◌<◌, ltb, leb, length, take, pick}
+use Rattle.std.specs.Prelude.{◌≡◌, ◌&&◌, ◌∷◌, ◌+◌, ◌-◌, ◌*◌, ◌≤◌, ◌<◌}
+use Rattle.laws.specs.Basics.{Bool, true, List, [], ℕ, suc, ltb, leb, length, take, pick}
 use Rattle.model.specs.declared.Run.{Run}
 use Rattle.model.specs.Trace.{decoded}
 use Rattle.whole_runs.specs.Listing.{perform, line_text, most_records, goes_on_of, records, goes_on_after_all, state_after_records}

@@ -1,5 +1,6 @@
 // The whole records of a block, as many as are taken. A block is records alone: the first byte of a trace is not in it.
-ghost use Rattle.laws.specs.Basics.{◌≡◌, true, ◌≤◌, length, sets};
+ghost use Rattle.std.specs.Prelude.{◌≡◌, ◌≤◌};
+ghost use Rattle.laws.specs.Basics.{true, length, sets};
 ghost use Rattle.model.specs.{Sound.sound, Words.most_processes, Words.most_deletions};
 ghost use Rattle.whole_runs.specs.WholeRuns.{Reachable};
 ghost use Rattle.words.specs.Layout.{run_of};

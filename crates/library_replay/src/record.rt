@@ -1,5 +1,6 @@
 // One record on the words: the call that it stands for, what its line says, and whether the words then stand for a sound state.
-ghost use Rattle.laws.specs.Basics.{◌≡◌, true, List, some, ℕ, length};
+ghost use Rattle.std.specs.Prelude.{◌≡◌};
+ghost use Rattle.laws.specs.Basics.{true, List, some, ℕ, length};
 ghost use Rattle.model.specs.{Sound.sound, Words.most_deletions, Words.most_processes};
 ghost use Rattle.whole_runs.specs.{Outcomes.refusing, WholeRuns.Reachable};
 ghost use Rattle.trace.specs.Answers.{event_read};

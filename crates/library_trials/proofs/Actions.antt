@@ -1,6 +1,7 @@
 -- What the parts of a step leave behind, from what the calls answer.
 -- Assumes nothing.
-use Rattle.laws.specs.Basics.{◌≡◌, refl, sym, ◌∙◌, ap, true, false, ◌&&◌, List, [], ◌∷◌, Option, none, some, ℕ, ◌+◌, ◌%◌, ◌≤◌, ◌<◌, arith, eqb, length, get_or, set, replicate, eq-eqb, ne_eqb, lt-ltb, le-ltb, le-leb, lt-leb, pick, by_bool}
+use Rattle.std.specs.Prelude.{◌≡◌, ◌&&◌, ◌∷◌, ◌+◌, ◌%◌, ◌≤◌, ◌<◌}
+use Rattle.laws.specs.Basics.{refl, sym, ◌∙◌, ap, true, false, List, [], Option, none, some, ℕ, arith, eqb, length, get_or, set, replicate, eq-eqb, ne_eqb, lt-ltb, le-ltb, le-leb, lt-leb, pick, by_bool}
 use lib.Seq.{set-get_or}
 use Rattle.laws.specs.{Lists.select, Truth.never_both}
 use Rattle.model.specs.declared.{Run.Run, Event.Event, Event.TheVariants.Checkpoint, Event.TheVariants.Send, Event.TheVariants.Deliver}

@@ -1,6 +1,7 @@
 -- What holds of a trial under way, and a step as the code takes it.
 -- Assumes nothing.
-use Rattle.laws.specs.Basics.{◌≡◌, refl, sym, ◌∙◌, ap, Bool, true, false, ◌&&◌, List, [], ◌∷◌, Option, none, some, ℕ, suc, ◌+◌, ◌*◌, ◌%◌, ◌≤◌, ◌<◌, max, arith, eqb, length, get_or, set, replicate, pick}
+use Rattle.std.specs.Prelude.{◌≡◌, ◌&&◌, ◌∷◌, ◌+◌, ◌*◌, ◌%◌, ◌≤◌, ◌<◌}
+use Rattle.laws.specs.Basics.{refl, sym, ◌∙◌, ap, Bool, true, false, List, [], Option, none, some, ℕ, suc, max, arith, eqb, length, get_or, set, replicate, pick}
 use native.Mathlib.Numerals.{add-one}
 use Rattle.model.specs.declared.{Run.Run, Event.Event, Event.TheVariants.Checkpoint, StartAnswer.StartAnswer, Refusal.TheVariants.TrialOutsideRange}
 use Rattle.model.specs.{Words.most_processes, Words.ones, Steps.start_state, Sound.sound, laws.Refusals.refusal_in}

@@ -1,6 +1,7 @@
 -- What the parts of a step leave behind, by the events that they are.
 -- Assumes nothing.
-use Rattle.laws.specs.Basics.{◌≡◌, true, false, List, [], ◌∷◌, Option, none, some, ℕ, ◌≤◌, ◌<◌, length}
+use Rattle.std.specs.Prelude.{◌≡◌, ◌∷◌, ◌≤◌, ◌<◌}
+use Rattle.laws.specs.Basics.{true, false, List, [], Option, none, some, ℕ, length}
 use Rattle.model.specs.{declared.Run.Run, declared.Event.Event, declared.Message.Message, declared.DeliverAnswer.DeliverAnswer, Words.most_processes}
 use Rattle.model.specs.declared.DeliverAnswer.TheVariants.{Refused, Received, Forced}
 use Rattle.theory_recording.specs.{Replay.state_after_events, Replay.performed, spacing.Trial.Trial}

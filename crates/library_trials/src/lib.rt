@@ -3,7 +3,8 @@
 
 #![tactic(auto)]
 
-ghost use Rattle.laws.specs.Basics.{◌≡◌, true, List, [], ◌∷◌, none, some, ℕ, ◌≤◌, ◌<◌, length, pick};
+ghost use Rattle.std.specs.Prelude.{◌≡◌, ◌∷◌, ◌≤◌, ◌<◌};
+ghost use Rattle.laws.specs.Basics.{true, List, [], none, some, ℕ, length, pick};
 ghost use Rattle.model.specs.declared.Event.TheVariants.{Checkpoint, Deliver};
 ghost use Rattle.model.specs.{Sound.sound, Words.most_processes};
 ghost use Rattle.theory_recording.specs.Replay.{state_after_events};

@@ -1,6 +1,7 @@
 -- No line is longer than `longest_line`: a bound for the buffer that lines are printed into.
 -- Assumes nothing.
-use Rattle.laws.specs.Basics.{◌≡◌, refl, List, [], ◌∷◌, Option, none, some, ℕ, zero, suc, ◌*◌, ◌^◌, ◌≤◌, ◌<◌, arith, eqb, length, get_or, length-append, by_bool}
+use Rattle.std.specs.Prelude.{◌≡◌, ◌∷◌, ◌*◌, ◌^◌, ◌≤◌, ◌<◌}
+use Rattle.laws.specs.Basics.{refl, List, [], Option, none, some, ℕ, zero, suc, arith, eqb, length, get_or, length-append, by_bool}
 use Rattle.whole_runs.specs.{Calls.Reply, Listing.decimal, Listing.value_text, Listing.deletions_text, Listing.accepted_text, Listing.line_text}
 use Rattle.listing.specs.Lines.{longest_line}
 use Rattle.listing.proofs.Digits.{no_more, at_most_lem}

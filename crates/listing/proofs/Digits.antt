@@ -1,6 +1,7 @@
 -- The decimal digits of a number: how many there are, by powers of ten, and what stands in a buffer while they are stored, the last one first.
 -- Assumes nothing.
-use Rattle.laws.specs.Basics.{◌≡◌, refl, sym, ◌∙◌, ap, List, [], ◌∷◌, ◌++◌, append-nil, append_assoc, ℕ, zero, suc, ◌+◌, ◌-◌, ◌/◌, ◌%◌, ◌^◌, ◌≤◌, ◌<◌, arith, ltb, length, set, length-set, length-append, sets, lt-ltb, le-ltb, ltb-true, ltb-false, by_bool}
+use Rattle.std.specs.Prelude.{◌≡◌, ◌∷◌, ◌++◌, ◌+◌, ◌-◌, ◌/◌, ◌%◌, ◌^◌, ◌≤◌, ◌<◌}
+use Rattle.laws.specs.Basics.{refl, sym, ◌∙◌, ap, List, [], append-nil, append_assoc, ℕ, zero, suc, arith, ltb, length, set, length-set, length-append, sets, lt-ltb, le-ltb, ltb-true, ltb-false, by_bool}
 use native.Mathlib.Nat.{pow-suc, one-le-pow}
 use lib.Seq.{set_comm}
 use Rattle.whole_runs.specs.Listing.{digits, decimal}

@@ -1,6 +1,7 @@
 -- A summary that says what a reply says prints the same line; and what its number says of a refusal.
 -- Assumes nothing.
-use Rattle.laws.specs.Basics.{◌≡◌, sym, ◌∙◌, ap, List, Option, none, some, ℕ, arith}
+use Rattle.std.specs.Prelude.{◌≡◌}
+use Rattle.laws.specs.Basics.{sym, ◌∙◌, ap, List, Option, none, some, ℕ, arith}
 use Rattle.model.specs.{declared.Refusal.Refusal, Refusals.number, laws.Refusals.by_refusal, laws.Refusals.number_range}
 use Rattle.whole_runs.specs.{Outcomes.Report, Calls.Reply, Listing.deletions_text, Listing.accepted_text, Listing.line_text}
 use Rattle.listing.specs.declared.Summary.{Summary}

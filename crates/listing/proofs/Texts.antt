@@ -1,6 +1,7 @@
 -- Texts printed one after the other, and the text of a deletion list by its last pair.
 -- Assumes nothing.
-use Rattle.laws.specs.Basics.{◌≡◌, refl, sym, ◌∙◌, ap, List, [], ◌∷◌, ◌++◌, append-nil, append_assoc, ℕ, zero, suc, ◌+◌, ◌*◌, ◌≤◌, ◌<◌, arith, eqb, length, get_or, length-append, ne_eqb, pick}
+use Rattle.std.specs.Prelude.{◌≡◌, ◌∷◌, ◌++◌, ◌+◌, ◌*◌, ◌≤◌, ◌<◌}
+use Rattle.laws.specs.Basics.{refl, sym, ◌∙◌, ap, List, [], append-nil, append_assoc, ℕ, zero, suc, arith, eqb, length, get_or, length-append, ne_eqb, pick}
 use lib.Seq.{length-sets}
 use Rattle.laws.specs.Written.{sets_append}
 use Rattle.whole_runs.specs.Calls.{Reply}

@@ -1,6 +1,7 @@
 -- What a line says, as the model has it: a summary of a reply, and the text of one deletion.
 -- Assumes nothing.
-use Rattle.laws.specs.Basics.{List, [], ◌∷◌, ◌++◌, Option, none, some, ℕ}
+use Rattle.std.specs.Prelude.{◌∷◌, ◌++◌}
+use Rattle.laws.specs.Basics.{List, [], Option, none, some, ℕ}
 use Rattle.whole_runs.specs.{Calls.Reply, Listing.decimal, Listing.space, Listing.colon, Listing.line_feed}
 use Rattle.listing.specs.declared.{Value.Value, Value.TheVariants.Hyphen, Value.TheVariants.Number, Summary.Summary}
 

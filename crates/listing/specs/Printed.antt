@@ -1,6 +1,7 @@
 -- A text printed into a lent buffer from a place on: what the buffer then holds, and where the next byte goes.
 -- Assumes nothing.
-use Rattle.laws.specs.Basics.{◌≡◌, List, ℕ, ◌+◌, ◌≤◌, length, sets}
+use Rattle.std.specs.Prelude.{◌≡◌, ◌+◌, ◌≤◌}
+use Rattle.laws.specs.Basics.{List, ℕ, length, sets}
 
 -- The text fits between the place and the buffer's end.
 abbrev pub Room : List ℕ → ℕ → List ℕ → Type 0

@@ -1,6 +1,7 @@
 -- What a replayed record says: a summary and a deletion list against the reply of the model, and the line that is printed of both.
 -- Assumes nothing.
-use Rattle.laws.specs.Basics.{◌≡◌, List, Option, ℕ}
+use Rattle.std.specs.Prelude.{◌≡◌}
+use Rattle.laws.specs.Basics.{List, Option, ℕ}
 use Rattle.model.specs.declared.{Run.Run, Event.Event}
 use Rattle.whole_runs.specs.{Outcomes.Report, Calls.Reply, Listing.deletions_text, Listing.perform}
 use Rattle.listing.specs.declared.Summary.{Summary}

@@ -1,6 +1,7 @@
 // An answer as one number of 64 bits, for callers in a language to which no enum can be handed. specs/Codes says which number: the fields are the same for
 // every call. The report of an answer is that of `summaries`, which prints it.
-ghost use Rattle.laws.specs.Basics.{◌≡◌, some, ℕ, ◌≤◌, ◌<◌};
+ghost use Rattle.std.specs.Prelude.{◌≡◌, ◌≤◌, ◌<◌};
+ghost use Rattle.laws.specs.Basics.{some, ℕ};
 ghost use Rattle.listing.specs.{Lines.value_in, Summarised.report_in};
 ghost use Rattle.whole_runs.specs.Outcomes.{start_report, checkpoint_report, send_report, deliver_report, lose_report, line_report, recover_report};
 ghost use Rattle.listing.specs.answers.Codes.{value_code_of, coded, Fits, start_code, checkpoint_code, send_code, deliver_code, lose_code, line_code, recover_code};

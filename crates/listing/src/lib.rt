@@ -3,7 +3,8 @@
 
 #![tactic(auto)]
 
-ghost use Rattle.laws.specs.Basics.{◌≡◌, [], ◌∷◌, ◌*◌, ◌≤◌, length};
+ghost use Rattle.std.specs.Prelude.{◌≡◌, ◌∷◌, ◌*◌, ◌≤◌};
+ghost use Rattle.laws.specs.Basics.{[], length};
 ghost use Rattle.whole_runs.specs.Listing.{decimal, value_text, deletions_text, accepted_text, line_text};
 ghost use Rattle.listing.specs.{Lines.value_in, Lines.reply_of, Lines.pair_text, Lines.refusal_line, Printed.Room, Printed.Printed};
 

@@ -1,5 +1,5 @@
 // What a line says of each answer: the number that document 01 gives a refusal, the value, the count of deletions.
-ghost use Rattle.laws.specs.Basics.{◌≡◌};
+ghost use Rattle.std.specs.Prelude.{◌≡◌};
 ghost use Rattle.model.specs.Refusals.{number};
 ghost use Rattle.whole_runs.specs.Outcomes.{refusing, start_report, checkpoint_report, send_report, deliver_report, lose_report, line_report, recover_report};
 ghost use Rattle.listing.specs.Summarised.{report_in};

@@ -1,6 +1,7 @@
 -- The numbers of a state, and the states that they stand for.
 -- Assumes nothing.
-use Rattle.laws.specs.Basics.{◌≡◌, refl, sym, ◌∙◌, ap, true, false, List, [], ◌∷◌, ℕ, ◌+◌, ◌≤◌, ◌<◌, arith, eqb, length, get_or, take, length-take-le, eq-eqb, ne_eqb, lt-ltb, le-ltb, le-leb, by_bool}
+use Rattle.std.specs.Prelude.{◌≡◌, ◌∷◌, ◌+◌, ◌≤◌, ◌<◌}
+use Rattle.laws.specs.Basics.{refl, sym, ◌∙◌, ap, true, false, List, [], ℕ, arith, eqb, length, get_or, take, length-take-le, eq-eqb, ne_eqb, lt-ltb, le-ltb, le-leb, by_bool}
 use lib.Seq.{take-take}
 use Rattle.model.specs.declared.Run.{Run}
 use Rattle.model.specs.Refusals.{number}

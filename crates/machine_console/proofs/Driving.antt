@@ -1,6 +1,7 @@
 -- The loop that obeys the machine: what obeying a request leaves of its state.
 -- Assumes nothing.
-use Rattle.laws.specs.Basics.{◌≡◌, List, ℕ}
+use Rattle.std.specs.Prelude.{◌≡◌}
+use Rattle.laws.specs.Basics.{List, ℕ}
 use Rattle.machines.specs.Forms.{Leaves, GoesTo}
 use Rattle.machines.proofs.Places.{leaves_front}
 use Rattle.machine_console.specs.Lent.{marks_of, state_in, state_of, place_of}

@@ -1,6 +1,7 @@
 -- The machine ends: a number falls with each answer.
 -- Assumes nothing.
-use Rattle.laws.specs.Basics.{◌≡◌, refl, List, ◌++◌, ℕ, ◌+◌, ◌-◌, ◌*◌, ◌≤◌, ◌<◌, arith, eqb, ltb, length, get_or, length-append, ltb-true, pick, by_bool}
+use Rattle.std.specs.Prelude.{◌≡◌, ◌++◌, ◌+◌, ◌-◌, ◌*◌, ◌≤◌, ◌<◌}
+use Rattle.laws.specs.Basics.{refl, List, ℕ, arith, eqb, ltb, length, get_or, length-append, ltb-true, pick, by_bool}
 use Rattle.machines.specs.Machines.{Stop, Answer, heard, stepped, Ends}
 use Rattle.machines.proofs.Answers.{by_read, by_done}
 use Rattle.machine_console.specs.Text.{call_size, refused_at}

@@ -1,6 +1,7 @@
 -- Which state an answer leads to, by what the code was handed of it.
 -- Assumes nothing.
-use Rattle.laws.specs.Basics.{◌≡◌, sym, ◌∙◌, ap, subst, List, ℕ, ◌+◌, ◌-◌, ◌≤◌, arith, length, get_or, take, drop, length-take-le}
+use Rattle.std.specs.Prelude.{◌≡◌, ◌+◌, ◌-◌, ◌≤◌}
+use Rattle.laws.specs.Basics.{sym, ◌∙◌, ap, subst, List, ℕ, arith, length, get_or, take, drop, length-take-le}
 use lib.Seq.{get_or-take, get_or-drop}
 use Rattle.machines.specs.Machines.{heard, heard_read, stepped}
 use Rattle.machines.specs.Forms.{answer_of, taken_of}

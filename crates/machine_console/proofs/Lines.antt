@@ -1,6 +1,7 @@
 -- The lines of calls, one call more.
 -- Assumes nothing.
-use Rattle.laws.specs.Basics.{◌≡◌, refl, sym, ◌∙◌, ap, List, [], ◌∷◌, ◌++◌, append-nil, append_assoc, ℕ, zero, suc, ◌+◌, ◌*◌, ◌/◌, ◌%◌, ◌≤◌, ◌<◌, arith, length, drop, length-drop}
+use Rattle.std.specs.Prelude.{◌≡◌, ◌∷◌, ◌++◌, ◌+◌, ◌*◌, ◌/◌, ◌%◌, ◌≤◌, ◌<◌}
+use Rattle.laws.specs.Basics.{refl, sym, ◌∙◌, ap, List, [], append-nil, append_assoc, ℕ, zero, suc, arith, length, drop, length-drop}
 use lib.Seq.{take-append-le, drop-append-le}
 use Rattle.model.specs.declared.Run.{Run}
 use Rattle.machine_console.specs.{Made.made_on, Text.first_call, Text.call_text, Text.call_lines, Text.run_after}

@@ -1,6 +1,7 @@
 -- A call is made with the lists that are lent for it, and its line is at the front of the buffer.
 -- Assumes nothing.
-use Rattle.laws.specs.Basics.{◌≡◌, refl, ◌∙◌, ap, Bool, List, [], ◌∷◌, Option, none, some, ℕ, zero, suc, ◌-◌, ◌*◌, ◌≤◌, arith, length, take, replicate, length-replicate, pick, by_bool}
+use Rattle.std.specs.Prelude.{◌≡◌, ◌∷◌, ◌-◌, ◌*◌, ◌≤◌}
+use Rattle.laws.specs.Basics.{refl, ◌∙◌, ap, Bool, List, [], Option, none, some, ℕ, zero, suc, arith, length, take, replicate, length-replicate, pick, by_bool}
 use lib.Seq.{length-sets}
 use Rattle.model.specs.declared.Run.{Run}
 use Rattle.model.specs.Refusals.{number}

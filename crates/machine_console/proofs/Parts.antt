@@ -1,6 +1,7 @@
 -- The texts of pairs and of a line list: how long they are, and what one entry more adds.
 -- Assumes nothing.
-use Rattle.laws.specs.Basics.{◌≡◌, refl, sym, ◌∙◌, ap, subst, List, [], ◌∷◌, ◌++◌, append-nil, append_assoc, Option, none, some, ℕ, zero, suc, ◌+◌, ◌*◌, ◌/◌, ◌≤◌, ◌<◌, min, arith, eqb, ltb, length, get_or, take, length-append, ne_eqb, ltb-true, ltb-false, by_bool}
+use Rattle.std.specs.Prelude.{◌≡◌, ◌∷◌, ◌++◌, ◌+◌, ◌*◌, ◌/◌, ◌≤◌, ◌<◌}
+use Rattle.laws.specs.Basics.{refl, sym, ◌∙◌, ap, subst, List, [], append-nil, append_assoc, Option, none, some, ℕ, zero, suc, min, arith, eqb, ltb, length, get_or, take, length-append, ne_eqb, ltb-true, ltb-false, by_bool}
 use native.Mathlib.Numerals.{add-one}
 use lib.Seq.{take_all}
 use Rattle.whole_runs.specs.Listing.{decimal, space, colon, line_feed, value_text, deletions_text}

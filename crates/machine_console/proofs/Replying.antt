@@ -1,6 +1,7 @@
 -- A call in place is the call of the caller who claims its role, and its line says what it answered.
 -- Assumes nothing.
-use Rattle.laws.specs.Basics.{◌≡◌, sym, ◌∙◌, ap, subst, List, ℕ}
+use Rattle.std.specs.Prelude.{◌≡◌}
+use Rattle.laws.specs.Basics.{sym, ◌∙◌, ap, subst, List, ℕ}
 use Rattle.model.specs.declared.Run.{Run}
 use Rattle.whole_runs.specs.{Outcomes.Outcome, Outcomes.Report, Calls.answered}
 use Rattle.listing.specs.Summarised.{report_in}

@@ -1,6 +1,7 @@
 -- A start on words is the console's start with the block count 1 at each process.
 -- Assumes nothing.
-use Rattle.laws.specs.Basics.{◌≡◌, refl, sym, ◌∙◌, ap, true, false, List, ℕ, arith, eqb, length, eq-eqb, ne_eqb, pick, by_bool}
+use Rattle.std.specs.Prelude.{◌≡◌}
+use Rattle.laws.specs.Basics.{refl, sym, ◌∙◌, ap, true, false, List, ℕ, arith, eqb, length, eq-eqb, ne_eqb, pick, by_bool}
 use Rattle.model.specs.declared.{Refusal.TheVariants.Denied, StartAnswer.StartAnswer}
 use Rattle.model.specs.{Words.ones}
 use Rattle.whole_runs.specs.{Outcomes.Outcome, Outcomes.Report, Outcomes.start_report, Calls.answered}

@@ -1,6 +1,7 @@
 -- What is lent stands for a state, before and after a step.
 -- Assumes nothing.
-use Rattle.laws.specs.Basics.{◌≡◌, refl, sym, ap, subst, true, false, ◌&&◌, List, ℕ, ◌-◌, ◌≤◌, arith, eqb, leb, length, take, length-take-le, eqb-true, leb-true, by_bool}
+use Rattle.std.specs.Prelude.{◌≡◌, ◌&&◌, ◌-◌, ◌≤◌}
+use Rattle.laws.specs.Basics.{refl, sym, ap, subst, true, false, List, ℕ, arith, eqb, leb, length, take, length-take-le, eqb-true, leb-true, by_bool}
 use Rattle.laws.specs.Truth.{and_left, and_right}
 use Rattle.machines.specs.Machines.{Read, Answer, stepped}
 use Rattle.machines.specs.Forms.{Asks, request_of_def, Placed, GoesTo, answer_of}

@@ -1,6 +1,7 @@
 -- What the machine does with every list of answers.
 -- Assumes nothing.
-use Rattle.laws.specs.Basics.{◌≡◌, refl, sym, ◌∙◌, ap, Bool, true, false, List, [], ◌∷◌, ◌++◌, append-nil, append_assoc, ℕ, ◌+◌, ◌-◌, ◌*◌, ◌/◌, ◌%◌, ◌≤◌, ◌<◌, arith, eqb, ltb, length, get_or, length-append, ltb-true, ltb-false, pick, by_bool}
+use Rattle.std.specs.Prelude.{◌≡◌, ◌∷◌, ◌++◌, ◌+◌, ◌-◌, ◌*◌, ◌/◌, ◌%◌, ◌≤◌, ◌<◌}
+use Rattle.laws.specs.Basics.{refl, sym, ◌∙◌, ap, Bool, true, false, List, [], append-nil, append_assoc, ℕ, arith, eqb, ltb, length, get_or, length-append, ltb-true, ltb-false, pick, by_bool}
 use Rattle.laws.specs.Tests.{some_of}
 use native.Mathlib.Numerals.{add-one}
 use Rattle.model.specs.declared.{Run.Run, Refusal.TheVariants.NoFirstByte, Refusal.TheVariants.LeftOverBytes}

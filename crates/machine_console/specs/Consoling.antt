@@ -1,6 +1,7 @@
 -- The program `console` as a machine: it reads a script, makes its calls, eight bytes each, writes the line of each before it reads on, and stops.
 -- Assumes nothing.
-use Rattle.laws.specs.Basics.{◌≡◌, Bool, true, false, List, [], ◌∷◌, ◌++◌, ℕ, ◌+◌, ◌-◌, ◌*◌, ◌≤◌, ◌<◌, eqb, ltb, length, get_or, pick}
+use Rattle.std.specs.Prelude.{◌≡◌, ◌∷◌, ◌++◌, ◌+◌, ◌-◌, ◌*◌, ◌≤◌, ◌<◌}
+use Rattle.laws.specs.Basics.{Bool, true, false, List, [], ℕ, eqb, ltb, length, get_or, pick}
 use Rattle.model.specs.declared.{Run.Run, Refusal.TheVariants.NoFirstByte, Refusal.TheVariants.LeftOverBytes}
 use Rattle.machines.specs.Machines.{Request, Read, Write, Fail, Stop, Answer, Number, Bytes, End, Done, Failed, Machine, Exchange, asked, exchanges, state_after, written_of, error_text_of, read_of, gathered, end_met, failure}
 use Rattle.machine_console.specs.Made.{made_on, opened}

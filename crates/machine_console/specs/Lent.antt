@@ -1,6 +1,7 @@
 -- The machine's state in what a caller lends: four numbers; the words of the state; the buffer that the script is read into; the buffer for what is written and reported.
 -- Assumes nothing.
-use Rattle.laws.specs.Basics.{◌≡◌, Bool, true, ◌&&◌, List, ℕ, ◌-◌, eqb, leb, length, get_or, take, pick}
+use Rattle.std.specs.Prelude.{◌≡◌, ◌&&◌, ◌-◌}
+use Rattle.laws.specs.Basics.{Bool, true, List, ℕ, eqb, leb, length, get_or, take, pick}
 use Rattle.words.specs.Layout.{run_of, state_size}
 use Rattle.machines.specs.Forms.{Stands}
 use Rattle.machine_console.specs.{Text.call_size, Replied.longest_line}

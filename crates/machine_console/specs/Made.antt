@@ -1,6 +1,7 @@
 -- The calls of a script, made on a state: "The console works on states reached by its own calls", an operator's start first.
 -- Assumes nothing.
-use Rattle.laws.specs.Basics.{Bool, List, [], ◌∷◌, Option, none, some, ℕ, ◌-◌, ◌*◌, min, eqb, replicate, pick}
+use Rattle.std.specs.Prelude.{◌∷◌, ◌-◌, ◌*◌}
+use Rattle.laws.specs.Basics.{Bool, List, [], Option, none, some, ℕ, min, eqb, replicate, pick}
 use Rattle.model.specs.{declared.Run.Run, declared.Refusal.TheVariants.MalformedRecord, Words.ones, Words.most_processes}
 use Rattle.whole_runs.specs.Outcomes.{refusing, start_report}
 use Rattle.whole_runs.specs.Calls.{checkpoint, send, deliver, lose, recover, line, earliest, Answered, answered}

@@ -1,6 +1,7 @@
 -- What the functions leave that make a call on words and write its line.
 -- Assumes nothing.
-use Rattle.laws.specs.Basics.{◌≡◌, List, Option, ℕ, ◌≤◌, length, take}
+use Rattle.std.specs.Prelude.{◌≡◌, ◌≤◌}
+use Rattle.laws.specs.Basics.{List, Option, ℕ, length, take}
 use Rattle.model.specs.declared.Run.{Run}
 use Rattle.whole_runs.specs.Calls.{Reply, Answered}
 use Rattle.listing.specs.Summarised.{report_in}

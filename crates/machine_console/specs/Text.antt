@@ -1,7 +1,8 @@
 -- The facts of a script, one line a call, decimal, single spaces: the number of the call, from 1; 0 or the number of its refusal; if accepted, what the call answered and
 -- wrote.
 -- Assumes nothing.
-use Rattle.laws.specs.Basics.{List, [], ◌∷◌, ◌++◌, Option, none, some, ℕ, zero, suc, ◌+◌, ◌/◌, ◌%◌, eqb, length, take, drop, pick}
+use Rattle.std.specs.Prelude.{◌∷◌, ◌++◌, ◌+◌, ◌/◌, ◌%◌}
+use Rattle.laws.specs.Basics.{List, [], Option, none, some, ℕ, zero, suc, eqb, length, take, drop, pick}
 use Rattle.model.specs.declared.{Run.Run, Refusal.Refusal, Refusal.TheVariants.NoFirstByte, Refusal.TheVariants.LeftOverBytes}
 use Rattle.model.specs.Refusals.{number}
 use Rattle.whole_runs.specs.{Calls.Reply, Listing.decimal, Listing.space, Listing.line_feed, Listing.value_text, Listing.deletions_text}

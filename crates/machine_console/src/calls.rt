@@ -1,5 +1,6 @@
 // Each call on the words, asked for by the number of the caller's role and the set of its processes, with lent lists for what it writes.
-ghost use Rattle.laws.specs.Basics.{◌≡◌, List, ℕ, length};
+ghost use Rattle.std.specs.Prelude.{◌≡◌};
+ghost use Rattle.laws.specs.Basics.{List, ℕ, length};
 ghost use Rattle.listing.specs.Summarised.{report_in};
 ghost use Rattle.words.specs.Layout.{run_of, state_size};
 ghost use Rattle.theory_roles.specs.Console.{list_report};

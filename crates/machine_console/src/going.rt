@@ -1,5 +1,6 @@
 // How the machine goes on: what an answer comes to in each state. Each function hands back the numbers of the next one.
-ghost use Rattle.laws.specs.Basics.{◌≡◌, List, [], ℕ, ◌+◌, ◌≤◌, ◌<◌, length, take};
+ghost use Rattle.std.specs.Prelude.{◌≡◌, ◌+◌, ◌≤◌, ◌<◌};
+ghost use Rattle.laws.specs.Basics.{List, [], ℕ, length, take};
 ghost use Rattle.words.specs.Layout.{run_of, state_size};
 ghost use Rattle.machines.specs.{Machines.stepped, Forms.answer_of};
 ghost use Rattle.machine_console.specs.{Text.line_text, Replied.longest_line, Lent.most_done_of, Lent.between_of, Lent.state_in, Lent.Arrives};

@@ -24,7 +24,8 @@ mod going;
 // script.rt: a script of console calls (document 02, Note 13): a first byte, the count of processes, and calls of eight bytes each, numbers with their high byte first.
 pub mod script;
 
-ghost use Rattle.laws.specs.Basics.{◌≡◌, true, length};
+ghost use Rattle.std.specs.Prelude.{◌≡◌};
+ghost use Rattle.laws.specs.Basics.{true, length};
 ghost use Rattle.machines.specs.{Machines.stepped, Forms.answer_of};
 ghost use Rattle.machine_console.specs.{Consoling.consoling, Consoling.Opening, Lent.has_room_of, Lent.state_of, Lent.place_of, Lent.StandsFor};
 

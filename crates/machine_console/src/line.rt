@@ -1,5 +1,6 @@
 // The line of a call, printed to the front of a lent buffer.
-ghost use Rattle.laws.specs.Basics.{◌≡◌, [], ◌++◌, some, ◌+◌, ◌*◌, ◌≤◌, length};
+ghost use Rattle.std.specs.Prelude.{◌≡◌, ◌++◌, ◌+◌, ◌*◌, ◌≤◌};
+ghost use Rattle.laws.specs.Basics.{[], some, length};
 ghost use Rattle.model.specs.Words.{most_processes, most_deletions};
 ghost use Rattle.whole_runs.specs.Listing.{decimal};
 ghost use Rattle.listing.specs.{Lines.value_in, Printed.Printed};

@@ -1,5 +1,6 @@
 // A call of a script is made on the words, and its line put to the front of a buffer.
-ghost use Rattle.laws.specs.Basics.{◌≡◌, some, ◌-◌, ◌≤◌, length, pick};
+ghost use Rattle.std.specs.Prelude.{◌≡◌, ◌-◌, ◌≤◌};
+ghost use Rattle.laws.specs.Basics.{some, length, pick};
 ghost use Rattle.words.specs.Layout.{run_of, state_size};
 ghost use Rattle.machine_console.specs.{script.Script.call_of, Made.processes, Made.lent_line, Made.lent_pairs, Replied.longest_line, Replied.Makes};
 

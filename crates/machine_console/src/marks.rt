@@ -1,5 +1,6 @@
 // The numbers that a caller lends for the state, read and put.
-ghost use Rattle.laws.specs.Basics.{◌≡◌, ◌≤◌, length};
+ghost use Rattle.std.specs.Prelude.{◌≡◌, ◌≤◌};
+ghost use Rattle.laws.specs.Basics.{length};
 ghost use Rattle.machine_console.specs.Lent.{marks_of, most_done_of, in_bounds_of, asks_for};
 
 use machines::Request;

@@ -1,6 +1,6 @@
 // A script of console calls (document 02, Note 13): a first byte, the count of processes, and calls of eight bytes each, numbers with their high byte first.
 // Which bytes are calls, and what each asks for, is defined in specs/Script.
-ghost use Rattle.laws.specs.Basics.{◌≡◌, ◌+◌, ◌*◌, ◌<◌};
+ghost use Rattle.std.specs.Prelude.{◌≡◌, ◌+◌, ◌*◌, ◌<◌};
 ghost use Rattle.machine_console.specs.script.Script.{role_of_def, operation_of_def, is_clear_of, call_in, call_of, asked, next_of};
 
 use theory_roles::{Caller, Operation, Role};

@@ -1,5 +1,6 @@
 // The parts of a line, printed into a lent buffer from a place on: every function hands back the place after what it printed.
-ghost use Rattle.laws.specs.Basics.{◌≡◌, some, ◌+◌, ◌*◌, ◌≤◌, min, length};
+ghost use Rattle.std.specs.Prelude.{◌≡◌, ◌+◌, ◌*◌, ◌≤◌};
+ghost use Rattle.laws.specs.Basics.{some, min, length};
 ghost use Rattle.machine_console.specs.{Replied.longest_field, Text.field_text, Text.pairs_text, Text.entries_text, Text.member_shown, Text.members_text};
 ghost use Rattle.listing.specs.{Lines.value_in, Printed.Printed};
 

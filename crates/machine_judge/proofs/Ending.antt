@@ -1,6 +1,7 @@
 -- The machine ends: a number falls with each answer.
 -- Assumes nothing.
-use Rattle.laws.specs.Basics.{◌≡◌, refl, false, ◌||◌, List, [], ◌∷◌, ◌++◌, ℕ, ◌+◌, ◌-◌, ◌≤◌, ◌<◌, arith, ltb, leb, length, length-append, leb-false, by_bool}
+use Rattle.std.specs.Prelude.{◌≡◌, ◌||◌, ◌∷◌, ◌++◌, ◌+◌, ◌-◌, ◌≤◌, ◌<◌}
+use Rattle.laws.specs.Basics.{refl, false, List, [], ℕ, arith, ltb, leb, length, length-append, leb-false, by_bool}
 use Rattle.laws.specs.Truth.{or_none}
 use Rattle.machines.specs.Machines.{Stop, Answer, heard, heard_read, heard_done, stepped, Ends}
 use Rattle.machines.proofs.Answers.{by_read, by_done}

@@ -1,6 +1,7 @@
 -- How long the line of a verdict can be, and that the processes of a right one are among 16.
 -- Assumes nothing.
-use Rattle.laws.specs.Basics.{◌≡◌, refl, sym, Bool, true, false, not, ◌&&◌, false≢true, List, [], ◌∷◌, ◌++◌, none, ℕ, ◌≤◌, ◌<◌, arith, leb, length, length-append, ne_eqb, leb-true}
+use Rattle.std.specs.Prelude.{◌≡◌, ◌&&◌, ◌∷◌, ◌++◌, ◌≤◌, ◌<◌}
+use Rattle.laws.specs.Basics.{refl, sym, Bool, true, false, not, false≢true, List, [], none, ℕ, arith, leb, length, length-append, ne_eqb, leb-true}
 use Rattle.model.specs.declared.{Refusal.Refusal, CheckpointIndex.CheckpointIndex}
 use Rattle.model.specs.{Words.ones, Refusals.number, Refusals.start_refusal, laws.Refusals.no_rule, laws.Refusals.by_refusal, laws.Refusals.number_range}
 use Rattle.listing.specs.{Lines.pair_text, Printed.Printed}

@@ -1,6 +1,7 @@
 -- A settled verdict is settled for good.
 -- Assumes nothing.
-use Rattle.laws.specs.Basics.{◌≡◌, refl, sym, Bool, true, false, not, ◌&&◌, ◌||◌, false≢true, List, [], ◌∷◌, ◌++◌, none, ℕ, ◌≤◌, ltb, leb, length, le-ltb, leb-true, by_bool}
+use Rattle.std.specs.Prelude.{◌≡◌, ◌&&◌, ◌||◌, ◌∷◌, ◌++◌, ◌≤◌}
+use Rattle.laws.specs.Basics.{refl, sym, Bool, true, false, not, false≢true, List, [], none, ℕ, ltb, leb, length, le-ltb, leb-true, by_bool}
 use Rattle.model.specs.{Words.ones, Refusals.start_refusal, laws.Refusals.no_rule, laws.Refusals.by_refusal}
 use Rattle.theory_patterns.specs.{Patterns.reading, Verdicts.count_of, Verdicts.verdict}
 use Rattle.theory_patterns.proofs.Ends.{long_traces_end}

@@ -1,6 +1,7 @@
 -- Which state the lent numbers and buffers stand for once a phase and a count are put.
 -- Assumes nothing.
-use Rattle.laws.specs.Basics.{◌≡◌, refl, sym, ◌∙◌, ap, Bool, true, false, List, [], ◌∷◌, ℕ, zero, suc, ◌+◌, ◌-◌, ◌≤◌, ◌<◌, arith, leb, length, get_or, take, drop, set, length-set, get_or-set_same, get_or-set_other, length-take-le, eq-eqb, ne_eqb, lt-ltb, le-ltb, le-leb, pick, by_eq}
+use Rattle.std.specs.Prelude.{◌≡◌, ◌∷◌, ◌+◌, ◌-◌, ◌≤◌, ◌<◌}
+use Rattle.laws.specs.Basics.{refl, sym, ◌∙◌, ap, Bool, true, false, List, [], ℕ, zero, suc, arith, leb, length, get_or, take, drop, set, length-set, get_or-set_same, get_or-set_other, length-take-le, eq-eqb, ne_eqb, lt-ltb, le-ltb, le-leb, pick, by_eq}
 use Rattle.laws.specs.Choice.{pick_same}
 use Rattle.machines.specs.Forms.{request_of_def, Placed, GoesTo}
 use Rattle.machines.proofs.Driving.{stopped_stands}

@@ -1,6 +1,7 @@
 -- Which state an answer leads to, by its form.
 -- Assumes nothing.
-use Rattle.laws.specs.Basics.{◌≡◌, refl, sym, ◌∙◌, ap, Bool, true, false, ◌&&◌, List, ℕ, ◌+◌, ◌≤◌, ◌<◌, arith, eqb, leb, length, get_or, take, length-take-le, ne_eqb, lt-leb, pick, by_bool}
+use Rattle.std.specs.Prelude.{◌≡◌, ◌&&◌, ◌+◌, ◌≤◌, ◌<◌}
+use Rattle.laws.specs.Basics.{refl, sym, ◌∙◌, ap, Bool, true, false, List, ℕ, arith, eqb, leb, length, get_or, take, length-take-le, ne_eqb, lt-leb, pick, by_bool}
 use lib.Seq.{take-add}
 use Rattle.machines.specs.Machines.{Answer, Done, Failed, heard, heard_done, stepped}
 use Rattle.machines.specs.Forms.{answer_of, taken_of, Between}

@@ -1,6 +1,7 @@
 -- What the machine does with every list of answers.
 -- Assumes nothing.
-use Rattle.laws.specs.Basics.{◌≡◌, refl, sym, ◌∙◌, ap, Bool, false, ◌||◌, List, [], ◌∷◌, ◌++◌, append-nil, ℕ, ◌+◌, ◌≤◌, arith, length, pick, by_bool}
+use Rattle.std.specs.Prelude.{◌≡◌, ◌||◌, ◌∷◌, ◌++◌, ◌+◌, ◌≤◌}
+use Rattle.laws.specs.Basics.{refl, sym, ◌∙◌, ap, Bool, false, List, [], append-nil, ℕ, arith, length, pick, by_bool}
 use Rattle.laws.specs.Tests.{some_of}
 use Rattle.machines.specs.Machines.{Read, Write, Answer, Bytes, End, Exchange, heard, heard_read, heard_done, stepped, exchanged, state_after, exchanges, written, error_text, written_of, error_text_of, brought, read_by, read_of, gathered, is_end, end_met, failed, failure, requests_of}
 use Rattle.machines.proofs.{Runs.throughout, Runs.written_is, Runs.error_text_is, Runs.stops, Answers.by_read, Answers.by_done, Leading.read_size}

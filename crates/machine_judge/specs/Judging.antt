@@ -1,6 +1,7 @@
 -- The program `judge` as a machine: it reads a trace, writes the line of its verdict, and stops. It reads no more than settles the verdict.
 -- Assumes nothing.
-use Rattle.laws.specs.Basics.{◌≡◌, Bool, true, false, ◌||◌, List, [], ◌∷◌, ◌++◌, ℕ, ◌+◌, ◌-◌, ◌≤◌, ◌<◌, eqb, ltb, leb, length, pick}
+use Rattle.std.specs.Prelude.{◌≡◌, ◌||◌, ◌∷◌, ◌++◌, ◌+◌, ◌-◌, ◌≤◌, ◌<◌}
+use Rattle.laws.specs.Basics.{Bool, true, false, List, [], ℕ, eqb, ltb, leb, length, pick}
 use Rattle.model.specs.Words.{most_processes}
 use Rattle.machines.specs.Machines.{Request, Read, Write, Fail, Stop, Answer, Number, Bytes, End, Done, Failed, Machine, Exchange, asked, exchanges, state_after, written_of, error_text_of, read_of, gathered, end_met, failure}
 use Rattle.theory_patterns.specs.Verdicts.{verdict}

@@ -1,7 +1,8 @@
 -- The line of a verdict, by its number and its pair: `refused R`, `trackable` or `breaks P:K Q:X`, decimal, with a line feed; and what it is for a line to be the verdict on
 -- a trace.
 -- Assumes nothing.
-use Rattle.laws.specs.Basics.{List, [], ◌∷◌, ◌++◌, Option, none, some, ℕ, ◌<◌, eqb, pick}
+use Rattle.std.specs.Prelude.{◌∷◌, ◌++◌, ◌<◌}
+use Rattle.laws.specs.Basics.{List, [], Option, none, some, ℕ, eqb, pick}
 use Rattle.model.specs.Words.{most_processes}
 use Rattle.whole_runs.specs.Listing.{line_feed}
 use Rattle.listing.specs.Lines.{pair_text}

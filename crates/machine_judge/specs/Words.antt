@@ -1,6 +1,7 @@
 -- The machine's state in what a caller lends: two numbers, the phase and a count; the buffer that the trace is read into; the buffer for what is written and reported.
 -- Assumes nothing.
-use Rattle.laws.specs.Basics.{Bool, ◌&&◌, ◌||◌, List, ℕ, ◌≤◌, eqb, ltb, leb, length, get_or, take, pick}
+use Rattle.std.specs.Prelude.{◌&&◌, ◌||◌, ◌≤◌}
+use Rattle.laws.specs.Basics.{Bool, List, ℕ, eqb, ltb, leb, length, get_or, take, pick}
 use Rattle.machines.specs.Forms.{Stands}
 use Rattle.machine_judge.specs.Text.{longest_verdict}
 use Rattle.machine_judge.specs.Judging.{most_read, State, Reading, Printing, Failing, Stopped, judging}

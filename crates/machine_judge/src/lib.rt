@@ -6,7 +6,8 @@
 // text.rt: the line of a verdict
 pub mod text;
 
-ghost use Rattle.laws.specs.Basics.{◌≡◌, List, [], ℕ, ◌≤◌, length, take, set};
+ghost use Rattle.std.specs.Prelude.{◌≡◌, ◌≤◌};
+ghost use Rattle.laws.specs.Basics.{List, [], ℕ, length, take, set};
 ghost use Rattle.machines.specs.{Machines.stepped, Forms.answer_of};
 ghost use Rattle.machine_judge.specs.Judging.{most_read, wanted, settled, Reading, Printing, Failing, Stopped, printing, onward, judging};
 ghost use Rattle.machine_judge.specs.{Words.EnoughRoom, Words.lacks_room_of, Words.state_of, Words.place_of, Words.StandsFor, Text.longest_verdict};

@@ -1,5 +1,6 @@
 // The line of a verdict, printed to the front of a lent buffer.
-ghost use Rattle.laws.specs.Basics.{◌≤◌, ◌<◌, length};
+ghost use Rattle.std.specs.Prelude.{◌≤◌, ◌<◌};
+ghost use Rattle.laws.specs.Basics.{length};
 ghost use Rattle.model.specs.Words.{most_processes};
 ghost use Rattle.listing.specs.Printed.{Printed};
 ghost use Rattle.theory_patterns.specs.declared.Verdict.TheVariants.{Breaks};

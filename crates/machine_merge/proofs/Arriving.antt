@@ -1,6 +1,7 @@
 -- The numbers of a state, and the states that they stand for.
 -- Assumes nothing.
-use Rattle.laws.specs.Basics.{◌≡◌, refl, sym, ◌∙◌, ap, subst, false, List, ◌++◌, ℕ, ◌+◌, ◌-◌, ◌≤◌, ◌<◌, arith, eqb, length, take, drop, length-append, length-drop, length-take-le, by_bool}
+use Rattle.std.specs.Prelude.{◌≡◌, ◌++◌, ◌+◌, ◌-◌, ◌≤◌, ◌<◌}
+use Rattle.laws.specs.Basics.{refl, sym, ◌∙◌, ap, subst, false, List, ℕ, arith, eqb, length, take, drop, length-append, length-drop, length-take-le, by_bool}
 use Rattle.listing.specs.Printed.{Printed}
 use Rattle.listing.proofs.Texts.{then}
 use Rattle.machines.proofs.programs.Texts.{printed_inside, printed_front}

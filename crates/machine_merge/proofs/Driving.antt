@@ -1,6 +1,7 @@
 -- The loop that obeys the machine: what obeying a request leaves of its state.
 -- Assumes nothing.
-use Rattle.laws.specs.Basics.{◌≡◌, refl, ap, List, ℕ, ◌+◌, ◌≤◌, min, arith, eqb, length, take, pick, by_bool}
+use Rattle.std.specs.Prelude.{◌≡◌, ◌+◌, ◌≤◌}
+use Rattle.laws.specs.Basics.{refl, ap, List, ℕ, min, arith, eqb, length, take, pick, by_bool}
 use Rattle.machines.specs.{Forms.Leaves, Forms.GoesTo}
 use Rattle.machines.proofs.Places.{leaves_front}
 use Rattle.machine_merge.specs.declared.marks.Marks.{Marks}

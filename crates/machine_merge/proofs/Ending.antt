@@ -1,6 +1,7 @@
 -- The machine ends: a number falls with each answer.
 -- Assumes nothing.
-use Rattle.laws.specs.Basics.{◌≡◌, refl, List, [], ◌∷◌, ℕ, ◌+◌, ◌-◌, ◌≤◌, ◌<◌, arith, eqb, ltb, length, take, ltb-true, by_bool}
+use Rattle.std.specs.Prelude.{◌≡◌, ◌∷◌, ◌+◌, ◌-◌, ◌≤◌, ◌<◌}
+use Rattle.laws.specs.Basics.{refl, List, [], ℕ, arith, eqb, ltb, length, take, ltb-true, by_bool}
 use Rattle.machines.specs.programs.Numbers.{number_in, no_number}
 use Rattle.machines.proofs.Answers.{by_word, by_read, by_done}
 use Rattle.machines.specs.Machines.{Stop, Answer, heard, heard_count, heard_word, heard_read, heard_done, is_number, stepped, Ends}

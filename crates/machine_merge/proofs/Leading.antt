@@ -1,6 +1,7 @@
 -- Which state an answer leads to, by what the code was handed of it.
 -- Assumes nothing.
-use Rattle.laws.specs.Basics.{◌≡◌, refl, sym, ◌∙◌, ap, Bool, true, false, List, [], ◌∷◌, ◌++◌, ℕ, ◌+◌, ◌-◌, ◌≤◌, ◌<◌, arith, ltb, length, take, drop, length-drop, length-take-le, eq-eqb, ne_eqb, lt-ltb, le-ltb, ltb-false, pick, by_bool}
+use Rattle.std.specs.Prelude.{◌≡◌, ◌∷◌, ◌++◌, ◌+◌, ◌-◌, ◌≤◌, ◌<◌}
+use Rattle.laws.specs.Basics.{refl, sym, ◌∙◌, ap, Bool, true, false, List, [], ℕ, arith, ltb, length, take, drop, length-drop, length-take-le, eq-eqb, ne_eqb, lt-ltb, le-ltb, ltb-false, pick, by_bool}
 use Rattle.model.specs.declared.Refusal.{Refusal}
 use Rattle.machines.specs.{programs.Numbers.number_in, programs.Numbers.no_number, programs.Numbers.at_most, programs.Texts.figure_text, programs.Texts.refused_text}
 use Rattle.machines.specs.Machines.{Answer, Bytes, Done, Failed, heard, heard_count, heard_word, heard_read, heard_done, is_number, stepped}

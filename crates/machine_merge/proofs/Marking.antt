@@ -1,6 +1,7 @@
 -- The numbers of a state, put one after the other, and their bounds.
 -- Assumes nothing.
-use Rattle.laws.specs.Basics.{◌≡◌, refl, true, ◌&&◌, List, [], ◌∷◌, ℕ, ◌≤◌, ◌<◌, arith, ltb, leb, length, set, lt-ltb, ltb-true, le-leb, leb-true}
+use Rattle.std.specs.Prelude.{◌≡◌, ◌&&◌, ◌∷◌, ◌≤◌, ◌<◌}
+use Rattle.laws.specs.Basics.{refl, true, List, [], ℕ, arith, ltb, leb, length, set, lt-ltb, ltb-true, le-leb, leb-true}
 use Rattle.laws.specs.Truth.{and_left, and_right}
 use Rattle.machine_merge.specs.declared.marks.Marks.{Marks}
 use Rattle.machine_merge.specs.{Buffered.most_kept_of, Buffered.most_counted, Merging.longest_name, Words.marks_of, Words.in_bounds_of, Words.Fits}

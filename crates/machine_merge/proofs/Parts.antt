@@ -1,6 +1,7 @@
 -- Parts of the buffer that files are read into.
 -- Assumes nothing.
-use Rattle.laws.specs.Basics.{◌≡◌, refl, sym, ◌∙◌, ap, List, [], ◌∷◌, ◌++◌, ℕ, zero, suc, ◌+◌, ◌≤◌, min, arith, eqb, ltb, leb, take, drop, leb-true, leb-false, by_bool}
+use Rattle.std.specs.Prelude.{◌≡◌, ◌∷◌, ◌++◌, ◌+◌, ◌≤◌}
+use Rattle.laws.specs.Basics.{refl, sym, ◌∙◌, ap, List, [], ℕ, zero, suc, min, arith, eqb, ltb, leb, take, drop, leb-true, leb-false, by_bool}
 use lib.Seq.{take-take, drop-drop, take-add}
 use Rattle.machine_merge.specs.Buffered.{most_kept_of, buffered_size, wanted, keeping}
 use Rattle.machine_merge.specs.Words.{name_at, half_at_of, read_to_of, kept_of}

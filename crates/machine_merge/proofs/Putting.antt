@@ -1,6 +1,7 @@
 -- What a merge of what is held comes to: the trace or the line that the program puts.
 -- Assumes nothing.
-use Rattle.laws.specs.Basics.{◌≡◌, refl, sym, ◌∙◌, ap, List, [], ◌∷◌, none, ℕ, zero, suc, ◌+◌, ◌≤◌, arith, length, take, drop, replicate, sets, le-ltb}
+use Rattle.std.specs.Prelude.{◌≡◌, ◌∷◌, ◌+◌, ◌≤◌}
+use Rattle.laws.specs.Basics.{refl, sym, ◌∙◌, ap, List, [], none, ℕ, zero, suc, arith, length, take, drop, replicate, sets, le-ltb}
 use lib.Seq.{sets-eq, take_at}
 use Rattle.model.specs.{declared.Fields.Fields, declared.Refusal.Refusal, laws.Refusals.by_refusal}
 use Rattle.theory_merges.specs.Halves.{HalfEvent}

@@ -1,6 +1,7 @@
 -- The set, judged whole: one of 65,536 or more has a bit at 16 or above, and so at n or above in every run. Whichever it is, the same is printed for it.
 -- Assumes nothing.
-use Rattle.laws.specs.Basics.{◌≡◌, sym, ◌∙◌, ap, true, ◌||◌, List, none, some, ℕ, ◌+◌, ◌^◌, ◌≤◌, ◌<◌, arith, leb, length, replicate, lt-ltb, le-ltb, le-leb, by_bool}
+use Rattle.std.specs.Prelude.{◌≡◌, ◌||◌, ◌+◌, ◌^◌, ◌≤◌, ◌<◌}
+use Rattle.laws.specs.Basics.{sym, ◌∙◌, ap, true, List, none, some, ℕ, arith, leb, length, replicate, lt-ltb, le-ltb, le-leb, by_bool}
 use lib.Pow.{pow_mono}
 use Rattle.laws.specs.{Rows.by_lt, Truth.or_none, Truth.never_both}
 use Rattle.model.specs.{Refusals.first_of, laws.Refusals.by_refusal, laws.Refusals.no_rule}

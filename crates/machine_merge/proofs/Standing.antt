@@ -1,6 +1,7 @@
 -- What is held of a half stands for the whole of it: the program prints for it what it prints for the whole.
 -- Assumes nothing.
-use Rattle.laws.specs.Basics.{◌≡◌, refl, sym, ◌∙◌, ap, false, List, [], ◌∷◌, some, ℕ, zero, suc, ◌+◌, ◌-◌, ◌/◌, ◌%◌, ◌≤◌, ◌<◌, arith, eqb, ltb, leb, length, take, replicate, length-replicate, length-take-le, eq-eqb, ne_eqb, lt-ltb, le-ltb, le-leb, lt-leb, leb-true, leb-false, by_bool, by_eq}
+use Rattle.std.specs.Prelude.{◌≡◌, ◌∷◌, ◌+◌, ◌-◌, ◌/◌, ◌%◌, ◌≤◌, ◌<◌}
+use Rattle.laws.specs.Basics.{refl, sym, ◌∙◌, ap, false, List, [], some, ℕ, zero, suc, arith, eqb, ltb, leb, length, take, replicate, length-replicate, length-take-le, eq-eqb, ne_eqb, lt-ltb, le-ltb, le-leb, lt-leb, leb-true, leb-false, by_bool, by_eq}
 use lib.Seq.{take_all}
 use Rattle.model.specs.declared.Refusal.{Refusal}
 use Rattle.theory_merges.specs.Merge.{count_of, after_first_byte, bad_count, left_over_of, too_many, merge_refusal}

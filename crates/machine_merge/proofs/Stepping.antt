@@ -1,6 +1,7 @@
 -- What is lent stands for a state, before and after a step.
 -- Assumes nothing.
-use Rattle.laws.specs.Basics.{◌≡◌, refl, sym, subst, true, false, List, ℕ, arith, length, le-ltb}
+use Rattle.std.specs.Prelude.{◌≡◌}
+use Rattle.laws.specs.Basics.{refl, sym, subst, true, false, List, ℕ, arith, length, le-ltb}
 use Rattle.machines.specs.{Machines.Answer, Machines.stepped, Forms.answer_of}
 use Rattle.machines.proofs.{Driving.still_stands, Places.long_enough}
 use Rattle.machine_merge.specs.declared.marks.Marks.{Marks}

@@ -1,6 +1,7 @@
 -- What the machine does with every list of answers.
 -- Assumes nothing.
-use Rattle.laws.specs.Basics.{◌≡◌, refl, sym, ◌∙◌, ap, subst, Bool, true, false, ◌||◌, List, [], ◌∷◌, ◌++◌, append-nil, Option, none, some, ℕ, zero, suc, ◌+◌, ◌≤◌, ◌<◌, arith, eqb, ltb, leb, length, take, replicate, length-append, eqb-false, ltb-true, ltb-false, le-leb, lt-leb, pick, by_bool}
+use Rattle.std.specs.Prelude.{◌≡◌, ◌||◌, ◌∷◌, ◌++◌, ◌+◌, ◌≤◌, ◌<◌}
+use Rattle.laws.specs.Basics.{refl, sym, ◌∙◌, ap, subst, Bool, true, false, List, [], append-nil, Option, none, some, ℕ, zero, suc, arith, eqb, ltb, leb, length, take, replicate, length-append, eqb-false, ltb-true, ltb-false, le-leb, lt-leb, pick, by_bool}
 use lib.Seq.{take-take}
 use Rattle.laws.specs.Choice.{pick_same}
 use Rattle.model.specs.laws.Refusals.{by_refusal}

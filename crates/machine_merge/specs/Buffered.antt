@@ -1,7 +1,8 @@
 -- What is held of a half once it is read to its end: of more than 16,392 bytes, 4,097 records and as many bytes after them as are left over. Such a half has too
 -- many records, and no number that it can meet depends on anything else (proofs/Standing).
 -- Assumes nothing.
-use Rattle.laws.specs.Basics.{List, ◌++◌, ℕ, ◌+◌, ◌-◌, ◌%◌, ltb, leb, length, take, pick}
+use Rattle.std.specs.Prelude.{◌++◌, ◌+◌, ◌-◌, ◌%◌}
+use Rattle.laws.specs.Basics.{List, ℕ, ltb, leb, length, take, pick}
 
 -- At most this many bytes of a half are kept; all others are only counted.
 abbrev pub most_kept_of : ℕ

@@ -1,6 +1,7 @@
 -- The program `merge` as a machine: it takes the set, reads one half after the other to its end, writes the merged trace or reports why there is none, and stops.
 -- Assumes nothing.
-use Rattle.laws.specs.Basics.{List, [], ◌∷◌, ◌++◌, ℕ, ◌+◌, eqb, ltb, length, take, pick}
+use Rattle.std.specs.Prelude.{◌∷◌, ◌++◌, ◌+◌}
+use Rattle.laws.specs.Basics.{List, [], ℕ, eqb, ltb, length, take, pick}
 use Rattle.machines.specs.programs.Numbers.{number_in, no_number, at_most}
 use Rattle.machines.specs.Machines.{Request, Count, Argument, Open, Read, Write, Say, Fail, Stop, Answer, Number, Bytes, End, Done, Failed, Machine, is_number}
 use Rattle.machine_merge.specs.{Buffered.most_counted, Buffered.buffered_size, Buffered.wanted, Buffered.keeping, Printed.Printed, Printed.printed}

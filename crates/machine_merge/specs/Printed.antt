@@ -1,6 +1,7 @@
 -- What the program puts for two files and a set: the merged trace, or a line with the number of the refusal.
 -- Assumes nothing.
-use Rattle.laws.specs.Basics.{List, [], ◌∷◌, ℕ, ◌+◌, length, replicate}
+use Rattle.std.specs.Prelude.{◌∷◌, ◌+◌}
+use Rattle.laws.specs.Basics.{List, [], ℕ, length, replicate}
 use Rattle.model.specs.declared.Refusal.{Refusal}
 use Rattle.whole_runs.specs.Outcomes.{judged}
 use Rattle.machines.specs.programs.Texts.{refused_text}

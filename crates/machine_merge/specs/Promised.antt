@@ -1,6 +1,7 @@
 -- What is promised of the program, over every list of answers of the system.
 -- Assumes nothing.
-use Rattle.laws.specs.Basics.{◌≡◌, Bool, true, false, ◌||◌, List, [], ◌∷◌, ◌++◌, Option, none, some, ℕ, eqb, leb, length, pick}
+use Rattle.std.specs.Prelude.{◌≡◌, ◌||◌, ◌∷◌, ◌++◌}
+use Rattle.laws.specs.Basics.{Bool, true, false, List, [], Option, none, some, ℕ, eqb, leb, length, pick}
 use Rattle.machines.specs.programs.Numbers.{decimal_in}
 use Rattle.machines.specs.Machines.{Request, Count, Argument, Open, Read, Write, Say, Fail, Stop, Answer, Number, Bytes, End, Done, Failed, Exchange, heard, stepped, asked, exchanges, state_after, written_of, brought}
 use Rattle.machine_merge.specs.{Buffered.most_counted, Printed.printed}

@@ -1,6 +1,7 @@
 -- The machine's state in what a caller lends: seven numbers; the buffer that words and files are read into; the buffer for what is written and reported.
 -- Assumes nothing.
-use Rattle.laws.specs.Basics.{◌≡◌, Bool, true, ◌&&◌, ◌||◌, List, ℕ, ◌+◌, ◌≤◌, min, eqb, ltb, leb, length, get_or, take, drop, pick}
+use Rattle.std.specs.Prelude.{◌≡◌, ◌&&◌, ◌||◌, ◌+◌, ◌≤◌}
+use Rattle.laws.specs.Basics.{Bool, true, List, ℕ, min, eqb, ltb, leb, length, get_or, take, drop, pick}
 use Rattle.machines.specs.{Machines.stepped, Forms.answer_of, Forms.Asks, Forms.Stands}
 use Rattle.machine_merge.specs.declared.marks.Marks.{Marks}
 use Rattle.machine_merge.specs.Buffered.{most_kept_of, most_counted, buffered_size, wanted}

@@ -1,5 +1,6 @@
 // How the machine goes on: the numbers of the state that an answer leads to. The buffers are those of the state with them.
-ghost use Rattle.laws.specs.Basics.{List, ℕ, ◌+◌, ◌≤◌, ◌<◌, length};
+ghost use Rattle.std.specs.Prelude.{◌+◌, ◌≤◌, ◌<◌};
+ghost use Rattle.laws.specs.Basics.{List, ℕ, length};
 ghost use Rattle.machines.specs.Machines.{Bytes};
 ghost use Rattle.machine_merge.specs.{Buffered.most_counted, Printed.printed};
 ghost use Rattle.machine_merge.specs.Merging.{longest_word, longest_name, Counting, Setting, Naming, Opening, Writing, Reporting, Failing, Stopped, no_name_text, file_text, showing, after_set};

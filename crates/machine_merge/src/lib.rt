@@ -9,7 +9,8 @@ mod marks;
 // going.rt: how the machine goes on, for each kind of answer
 mod going;
 
-ghost use Rattle.laws.specs.Basics.{◌≡◌, length};
+ghost use Rattle.std.specs.Prelude.{◌≡◌};
+ghost use Rattle.laws.specs.Basics.{length};
 ghost use Rattle.machines.specs.{Machines.stepped, Forms.answer_of};
 ghost use Rattle.machine_merge.specs.Merging.{Counting, merging};
 ghost use Rattle.machine_merge.specs.Words.{EnoughRoom, lacks_room_of, state_of, place_of, StandsFor};

@@ -1,5 +1,6 @@
 // The numbers that a caller lends for the state, read and put.
-ghost use Rattle.laws.specs.Basics.{◌≡◌, ◌+◌, ◌*◌, ◌≤◌, length};
+ghost use Rattle.std.specs.Prelude.{◌≡◌, ◌+◌, ◌*◌, ◌≤◌};
+ghost use Rattle.laws.specs.Basics.{length};
 ghost use Rattle.machine_merge.specs.{Buffered.buffered_size, Buffered.wanted, Buffered.most_kept_of, Merging.longest_name};
 ghost use Rattle.machine_merge.specs.Words.{marks_of, at_phase, in_bounds_of, name_at, half_at_of, read_to_of, word_at, asks_for};
 

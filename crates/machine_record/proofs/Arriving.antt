@@ -1,6 +1,7 @@
 -- The numbers of a state, and the states that they stand for.
 -- Assumes nothing.
-use Rattle.laws.specs.Basics.{◌≡◌, refl, sym, ◌∙◌, ap, true, false, List, [], ◌∷◌, ℕ, ◌+◌, ◌≤◌, ◌<◌, arith, eqb, length, take, length-take-le, lt-ltb, le-ltb, le-leb, by_bool}
+use Rattle.std.specs.Prelude.{◌≡◌, ◌∷◌, ◌+◌, ◌≤◌, ◌<◌}
+use Rattle.laws.specs.Basics.{refl, sym, ◌∙◌, ap, true, false, List, [], ℕ, arith, eqb, length, take, length-take-le, lt-ltb, le-ltb, le-leb, by_bool}
 use Rattle.model.specs.Refusals.{number}
 use Rattle.whole_runs.specs.Listing.{most_records}
 use Rattle.listing.specs.Printed.{Printed}

@@ -1,6 +1,7 @@
 -- The loop over the records of a block.
 -- Assumes nothing.
-use Rattle.laws.specs.Basics.{◌≡◌, refl, sym, ◌∙◌, ap, List, [], ◌∷◌, ◌++◌, append-nil, append_assoc, Option, ℕ, ◌+◌, ◌-◌, ◌*◌, ◌≤◌, ◌<◌, arith, length, take, drop, length-drop, sets, length-take-le, eq-eqb, le-leb, pick}
+use Rattle.std.specs.Prelude.{◌≡◌, ◌∷◌, ◌++◌, ◌+◌, ◌-◌, ◌*◌, ◌≤◌, ◌<◌}
+use Rattle.laws.specs.Basics.{refl, sym, ◌∙◌, ap, List, [], append-nil, append_assoc, Option, ℕ, arith, length, take, drop, length-drop, sets, length-take-le, eq-eqb, le-leb, pick}
 use lib.Seq.{length-sets, drop-drop}
 use Rattle.model.specs.{declared.Event.Event, declared.Run.Run, Trace.decoded}
 use Rattle.trace.specs.Answers.{record_at, event_in}

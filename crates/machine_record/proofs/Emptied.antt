@@ -1,6 +1,7 @@
 -- What is recorded in emptied buffers is what one long buffer holds.
 -- Assumes nothing.
-use Rattle.laws.specs.Basics.{◌≡◌, refl, sym, ◌∙◌, ap, subst, false, List, [], ◌∷◌, ◌++◌, append-nil, append_assoc, Option, none, some, ◌⊎◌, inl, inr, ℕ, ◌+◌, ◌-◌, ◌≤◌, arith, ltb, length, take, drop, replicate, length-append, length-replicate, sets, length-take-le, le-ltb, ltb-false, by_bool}
+use Rattle.std.specs.Prelude.{◌≡◌, ◌∷◌, ◌++◌, ◌⊎◌, ◌+◌, ◌-◌, ◌≤◌}
+use Rattle.laws.specs.Basics.{refl, sym, ◌∙◌, ap, subst, false, List, [], append-nil, append_assoc, Option, none, some, inl, inr, ℕ, arith, ltb, length, take, drop, replicate, length-append, length-replicate, sets, length-take-le, le-ltb, ltb-false, by_bool}
 use lib.Seq.{sets-eq, length-sets, take_at}
 use Rattle.model.specs.declared.{Event.Event, Refusal.Refusal, Run.Run}
 use Rattle.model.specs.declared.Event.TheVariants.{Checkpoint, Send, Deliver, Lose, Recover}

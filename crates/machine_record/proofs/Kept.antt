@@ -1,6 +1,7 @@
 -- A block that is taken, and the bytes that are left over of it.
 -- Assumes nothing.
-use Rattle.laws.specs.Basics.{◌≡◌, refl, sym, ◌∙◌, ap, List, [], ◌∷◌, ℕ, suc, ◌+◌, ◌-◌, ◌*◌, ◌≤◌, arith, length, take, drop, length-drop, sets, length-take-le}
+use Rattle.std.specs.Prelude.{◌≡◌, ◌∷◌, ◌+◌, ◌-◌, ◌*◌, ◌≤◌}
+use Rattle.laws.specs.Basics.{refl, sym, ◌∙◌, ap, List, [], ℕ, suc, arith, length, take, drop, length-drop, sets, length-take-le}
 use lib.Seq.{take-add, drop_at}
 use Rattle.model.specs.Trace.{decoded}
 use Rattle.words.specs.Layout.{run_of}

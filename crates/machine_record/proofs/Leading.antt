@@ -1,6 +1,7 @@
 -- Which state an answer leads to, by what the code was handed of it.
 -- Assumes nothing.
-use Rattle.laws.specs.Basics.{◌≡◌, refl, sym, ◌∙◌, ap, subst, List, ℕ, ◌+◌, ◌-◌, ◌*◌, ◌≤◌, ◌<◌, min, arith, leb, length, get_or, take, drop, length-take-le, ne_eqb, lt-ltb, le-ltb, by_bool}
+use Rattle.std.specs.Prelude.{◌≡◌, ◌+◌, ◌-◌, ◌*◌, ◌≤◌, ◌<◌}
+use Rattle.laws.specs.Basics.{refl, sym, ◌∙◌, ap, subst, List, ℕ, min, arith, leb, length, get_or, take, drop, length-take-le, ne_eqb, lt-ltb, le-ltb, by_bool}
 use lib.Seq.{drop-cons}
 use Rattle.whole_runs.specs.Listing.{most_records}
 use Rattle.machines.specs.Forms.{answer_of, taken_of}

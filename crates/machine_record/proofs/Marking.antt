@@ -1,6 +1,7 @@
 -- The numbers of a state, put one after the other.
 -- Assumes nothing.
-use Rattle.laws.specs.Basics.{◌≡◌, refl, List, [], ◌∷◌, ℕ, ◌≤◌, arith, length, set}
+use Rattle.std.specs.Prelude.{◌≡◌, ◌∷◌, ◌≤◌}
+use Rattle.laws.specs.Basics.{refl, List, [], ℕ, arith, length, set}
 use Rattle.machine_record.specs.declared.marks.Marks.{Marks}
 use Rattle.machine_record.specs.Lent.{marks_of}
 

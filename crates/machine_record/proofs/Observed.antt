@@ -1,6 +1,7 @@
 -- Where the machine stands after a list of answers, by what was asked and answered.
 -- Assumes nothing.
-use Rattle.laws.specs.Basics.{◌≡◌, refl, sym, ◌∙◌, ap, true, false, List, [], ◌∷◌, ◌++◌, append-nil, append_assoc, ℕ, ◌+◌, ◌≤◌, ◌<◌, arith, eqb, ltb, length, eqb-true, le-ltb, ltb-true, by_bool}
+use Rattle.std.specs.Prelude.{◌≡◌, ◌∷◌, ◌++◌, ◌+◌, ◌≤◌, ◌<◌}
+use Rattle.laws.specs.Basics.{refl, sym, ◌∙◌, ap, true, false, List, [], append-nil, append_assoc, ℕ, arith, eqb, ltb, length, eqb-true, le-ltb, ltb-true, by_bool}
 use Rattle.whole_runs.specs.Listing.{most_records}
 use Rattle.machines.specs.programs.Numbers.{number_in}
 use Rattle.machines.specs.Machines.{Count, Argument, Read, Write, Say, Fail, Stop, Answer, Number, Bytes, End, Done, Failed, Exchange, heard, stepped, exchanged, state_after, exchanges, written, error_text, written_of, error_text_of, brought, read_by, read_of, requests_of}

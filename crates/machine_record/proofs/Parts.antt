@@ -1,6 +1,7 @@
 -- Records part by part: what two parts come to, one after the other.
 -- Assumes nothing.
-use Rattle.laws.specs.Basics.{◌≡◌, refl, sym, ◌∙◌, ap, List, [], ◌∷◌, ◌++◌, append_assoc, Option, ℕ, ◌+◌, ◌*◌, ◌<◌, arith, length}
+use Rattle.std.specs.Prelude.{◌≡◌, ◌∷◌, ◌++◌, ◌+◌, ◌*◌, ◌<◌}
+use Rattle.laws.specs.Basics.{refl, sym, ◌∙◌, ap, List, [], append_assoc, Option, ℕ, arith, length}
 use Rattle.model.specs.{declared.Event.Event, Trace.decoded}
 use Rattle.machine_record.specs.Recorded.{whole_records, left_over_of}
 use Rattle.machine_record.specs.Records.{Standing, standing_next, standing_after, texts_after}

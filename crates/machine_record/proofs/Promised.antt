@@ -1,6 +1,7 @@
 -- The promises, proved.
 -- Assumes nothing.
-use Rattle.laws.specs.Basics.{◌≡◌, refl, sym, ◌∙◌, ap, true, false, List, [], ◌∷◌, ◌++◌, append-nil, ℕ, ◌+◌, ◌*◌, ◌≤◌, ◌<◌, arith, eqb, ltb, length, ltb-true, ltb-false, by_bool}
+use Rattle.std.specs.Prelude.{◌≡◌, ◌∷◌, ◌++◌, ◌+◌, ◌*◌, ◌≤◌, ◌<◌}
+use Rattle.laws.specs.Basics.{refl, sym, ◌∙◌, ap, true, false, List, [], append-nil, ℕ, arith, eqb, ltb, length, ltb-true, ltb-false, by_bool}
 use Rattle.whole_runs.specs.Listing.{most_records}
 use Rattle.machines.specs.Machines.{Request, Read, Write, Say, Fail, Stop, Answer, Bytes, End, Failed, Exchange, heard, heard_read, stepped, state_after, exchanges, written, error_text, written_of, error_text_of, read_of, requests_of}
 use Rattle.machines.proofs.{Leading.never, Leading.read_size, Runs.written_is, Runs.error_text_is}

@@ -1,6 +1,7 @@
 -- The machine stops: each answer brings it nearer to its end, or brings bytes.
 -- Assumes nothing.
-use Rattle.laws.specs.Basics.{◌≡◌, refl, ◌∙◌, ap, List, [], ◌∷◌, ◌++◌, ℕ, ◌+◌, ◌-◌, ◌*◌, ◌≤◌, ◌<◌, arith, eqb, ltb, length, length-append, ltb-true, ltb-false, by_bool}
+use Rattle.std.specs.Prelude.{◌≡◌, ◌∷◌, ◌++◌, ◌+◌, ◌-◌, ◌*◌, ◌≤◌, ◌<◌}
+use Rattle.laws.specs.Basics.{refl, ◌∙◌, ap, List, [], ℕ, arith, eqb, ltb, length, length-append, ltb-true, ltb-false, by_bool}
 use Rattle.whole_runs.specs.Listing.{most_records}
 use Rattle.machines.specs.programs.Numbers.{number_in}
 use Rattle.machines.specs.Machines.{Stop, Answer, Bytes, Exchange, Ends, heard, stepped, exchanged, brought, read_by, read_of, exchanges, state_after}

@@ -1,6 +1,7 @@
 -- A start in place through the recorder, in a buffer of no byte or one, and the start in a long buffer.
 -- Assumes nothing.
-use Rattle.laws.specs.Basics.{◌≡◌, refl, sym, ◌∙◌, ap, true, false, List, [], ◌∷◌, ◌++◌, none, ℕ, ◌+◌, ◌-◌, ◌≤◌, min, arith, eqb, ltb, length, take, drop, length-append, length-replicate, length-drop, sets, length-take-le, eq-eqb, ne_eqb, lt-ltb, le-ltb, ltb-true, ltb-false, by_bool}
+use Rattle.std.specs.Prelude.{◌≡◌, ◌∷◌, ◌++◌, ◌+◌, ◌-◌, ◌≤◌}
+use Rattle.laws.specs.Basics.{refl, sym, ◌∙◌, ap, true, false, List, [], none, ℕ, min, arith, eqb, ltb, length, take, drop, length-append, length-replicate, length-drop, sets, length-take-le, eq-eqb, ne_eqb, lt-ltb, le-ltb, ltb-true, ltb-false, by_bool}
 use Rattle.laws.specs.Truth.{never_both}
 use Rattle.model.specs.declared.{Refusal.Refusal, Refusal.TheVariants.BufferTooShort, StartAnswer.StartAnswer, StartAnswer.TheVariants.Refused}
 use Rattle.model.specs.{Words.ones, Steps.start_state, Refusals.start_refusal, laws.Refusals.by_refusal}

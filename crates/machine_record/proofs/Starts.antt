@@ -1,6 +1,7 @@
 -- The start of a recording, and Note 9 of what the program writes.
 -- Assumes nothing.
-use Rattle.laws.specs.Basics.{◌≡◌, refl, sym, ◌∙◌, ap, true, false, List, [], ◌∷◌, ◌++◌, ℕ, ◌+◌, ◌-◌, ◌*◌, ◌≤◌, arith, eqb, length, take, drop, length-replicate, length-drop}
+use Rattle.std.specs.Prelude.{◌≡◌, ◌∷◌, ◌++◌, ◌+◌, ◌-◌, ◌*◌, ◌≤◌}
+use Rattle.laws.specs.Basics.{refl, sym, ◌∙◌, ap, true, false, List, [], ℕ, arith, eqb, length, take, drop, length-replicate, length-drop}
 use lib.Seq.{take_at}
 use Rattle.model.specs.declared.{StartAnswer.StartAnswer, StartAnswer.TheVariants.Refused, StartAnswer.TheVariants.Started}
 use Rattle.model.specs.{Words.ones, Steps.start_state}

@@ -1,6 +1,7 @@
 -- What is lent stands for a state, before and after a step.
 -- Assumes nothing.
-use Rattle.laws.specs.Basics.{◌≡◌, refl, sym, ap, subst, true, false, ◌&&◌, List, ℕ, ◌-◌, ◌*◌, ◌≤◌, min, arith, eqb, leb, length, take, length-take-le, eqb-true, leb-true, by_bool}
+use Rattle.std.specs.Prelude.{◌≡◌, ◌&&◌, ◌-◌, ◌*◌, ◌≤◌}
+use Rattle.laws.specs.Basics.{refl, sym, ap, subst, true, false, List, ℕ, min, arith, eqb, leb, length, take, length-take-le, eqb-true, leb-true, by_bool}
 use Rattle.laws.specs.Truth.{and_left, and_right}
 use Rattle.whole_runs.specs.Listing.{most_records}
 use Rattle.machines.specs.Machines.{Read, Answer, stepped}

@@ -1,6 +1,7 @@
 -- What the functions leave that take records.
 -- Assumes nothing.
-use Rattle.laws.specs.Basics.{◌≡◌, refl, sym, ◌∙◌, ap, true, false, List, [], ◌∷◌, Option, none, some, ℕ, ◌+◌, ◌-◌, ◌≤◌, arith, ltb, length, take, length-replicate, sets, lt-ltb, le-ltb, ltb-true, ltb-false, by_bool}
+use Rattle.std.specs.Prelude.{◌≡◌, ◌∷◌, ◌+◌, ◌-◌, ◌≤◌}
+use Rattle.laws.specs.Basics.{refl, sym, ◌∙◌, ap, true, false, List, [], Option, none, some, ℕ, arith, ltb, length, take, length-replicate, sets, lt-ltb, le-ltb, ltb-true, ltb-false, by_bool}
 use Rattle.model.specs.{declared.Event.Event, declared.Run.Run, Refusals.number}
 use Rattle.whole_runs.specs.{Outcomes.Report, Calls.Reply, Calls.answered}
 use Rattle.listing.specs.declared.Summary.{Summary}

@@ -1,7 +1,8 @@
 -- The machine's state in what a caller lends: six numbers; the words of the state; the buffer that the input is read into; the buffer for what is written and reported; and a
 -- buffer for lines that are reported after what is written.
 -- Assumes nothing.
-use Rattle.laws.specs.Basics.{◌≡◌, Bool, true, ◌&&◌, List, ℕ, ◌-◌, ◌*◌, min, eqb, leb, length, get_or, take, pick}
+use Rattle.std.specs.Prelude.{◌≡◌, ◌&&◌, ◌-◌, ◌*◌}
+use Rattle.laws.specs.Basics.{Bool, true, List, ℕ, min, eqb, leb, length, get_or, take, pick}
 use Rattle.words.specs.Layout.{run_of, state_size}
 use Rattle.machines.specs.Forms.{Stands}
 use Rattle.whole_runs.specs.Listing.{most_records}

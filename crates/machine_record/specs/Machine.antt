@@ -1,6 +1,7 @@
 -- The program `record` as a machine: what it asks for in each state, and how it goes on.
 -- Assumes nothing.
-use Rattle.laws.specs.Basics.{List, [], ◌∷◌, ◌++◌, ℕ, ◌+◌, ◌-◌, ◌*◌, min, eqb, ltb, length, pick}
+use Rattle.std.specs.Prelude.{◌∷◌, ◌++◌, ◌+◌, ◌-◌, ◌*◌}
+use Rattle.laws.specs.Basics.{List, [], ℕ, min, eqb, ltb, length, pick}
 use Rattle.model.specs.declared.Refusal.TheVariants.{NoFirstByte}
 use Rattle.model.specs.{Refusals.number, Steps.start_state, Words.ones}
 use Rattle.whole_runs.specs.Listing.{most_records}

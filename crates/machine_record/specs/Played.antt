@@ -1,6 +1,7 @@
 -- What the functions leave that take records: in the words of the recorder.
 -- Assumes nothing.
-use Rattle.laws.specs.Basics.{◌≡◌, List, Option, ℕ, ◌+◌, ◌≤◌, ltb, length, take, sets, pick}
+use Rattle.std.specs.Prelude.{◌≡◌, ◌+◌, ◌≤◌}
+use Rattle.laws.specs.Basics.{List, Option, ℕ, ltb, length, take, sets, pick}
 use Rattle.model.specs.declared.{Event.Event, Run.Run}
 use Rattle.theory_recording.specs.Recording.{Tape}
 use Rattle.machine_record.specs.{declared.calls.Played.Played, declared.block.Taken.Taken, Recorded.recorded_in}

@@ -1,6 +1,7 @@
 -- What is promised of the program, over every list of answers of the system.
 -- Assumes nothing.
-use Rattle.laws.specs.Basics.{◌≡◌, true, false, List, [], ◌∷◌, ℕ, ◌+◌, ◌*◌, ◌≤◌, eqb, length, pick}
+use Rattle.std.specs.Prelude.{◌≡◌, ◌∷◌, ◌+◌, ◌*◌, ◌≤◌}
+use Rattle.laws.specs.Basics.{true, false, List, [], ℕ, eqb, length, pick}
 use Rattle.model.specs.Words.{ones}
 use Rattle.whole_runs.specs.Listing.{most_records}
 use Rattle.machines.specs.programs.Numbers.{number_in}

@@ -1,6 +1,7 @@
 -- What the recorder leaves of an input: each record's call goes through it, the start first, in one buffer of that many bytes (document 02, Note 9).
 -- Assumes nothing.
-use Rattle.laws.specs.Basics.{List, [], ◌∷◌, ◌++◌, Option, none, some, ℕ, suc, ◌+◌, ◌*◌, eqb, take, replicate, pick}
+use Rattle.std.specs.Prelude.{◌∷◌, ◌++◌, ◌+◌, ◌*◌}
+use Rattle.laws.specs.Basics.{List, [], Option, none, some, ℕ, suc, eqb, take, replicate, pick}
 use Rattle.model.specs.declared.{Event.Event, Refusal.TheVariants.MalformedRecord, Refusal.TheVariants.NoFirstByte, Refusal.TheVariants.LeftOverBytes}
 use Rattle.model.specs.{Refusals.number, Trace.decoded, Words.ones}
 use Rattle.whole_runs.specs.{Outcomes.refusing, Outcomes.start_report, Calls.Call, Listing.call_of, Listing.decimal, Listing.line_feed, Listing.most_records}

@@ -1,7 +1,8 @@
 -- The same, record by record, in emptied buffers: between two records the recorder is left with the state, how many bytes of the buffer are left, and how many records it
 -- took. What it wrote has gone. proofs/Emptied has the theorem that nothing of what is written or reported depends on that.
 -- Assumes nothing.
-use Rattle.laws.specs.Basics.{◌≡◌, List, [], ◌∷◌, ◌++◌, Option, ℕ, ◌+◌, ◌-◌, ◌≤◌, length}
+use Rattle.std.specs.Prelude.{◌≡◌, ◌∷◌, ◌++◌, ◌+◌, ◌-◌, ◌≤◌}
+use Rattle.laws.specs.Basics.{List, [], Option, ℕ, length}
 use Rattle.model.specs.{declared.Event.Event, declared.Run.Run, Trace.decoded}
 use Rattle.theory_recording.specs.Recording.{Tape, Taped}
 use Rattle.machine_record.specs.Recorded.{lent, in_front, recorded_in, line_for}

@@ -1,5 +1,6 @@
 // The records of a block, each through the recorder: what is recorded goes to the front of `out`, the lines of refused records to the front of `lines`.
-ghost use Rattle.laws.specs.Basics.{◌≡◌, ◌+◌, ◌*◌, ◌≤◌, length};
+ghost use Rattle.std.specs.Prelude.{◌≡◌, ◌+◌, ◌*◌, ◌≤◌};
+ghost use Rattle.laws.specs.Basics.{length};
 ghost use Rattle.whole_runs.specs.Listing.{most_records};
 ghost use Rattle.trace.specs.Answers.{event_in};
 ghost use Rattle.words.specs.Layout.{run_of};

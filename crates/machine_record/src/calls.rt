@@ -1,5 +1,6 @@
 // A record's call through the recorder, on the words, with a buffer and the place that its next byte goes to.
-ghost use Rattle.laws.specs.Basics.{◌≡◌, some};
+ghost use Rattle.std.specs.Prelude.{◌≡◌};
+ghost use Rattle.laws.specs.Basics.{some};
 ghost use Rattle.trace.specs.Answers.{event_in};
 ghost use Rattle.words.specs.Layout.{run_of};
 ghost use Rattle.machine_record.specs.Played.{Plays};

@@ -1,5 +1,6 @@
 // How the machine goes on: the numbers of the state that an answer leads to. The words and buffers are those of the state with them.
-ghost use Rattle.laws.specs.Basics.{◌≡◌, List, ℕ, ◌+◌, ◌-◌, ◌*◌, ◌≤◌, min, length, take};
+ghost use Rattle.std.specs.Prelude.{◌≡◌, ◌+◌, ◌-◌, ◌*◌, ◌≤◌};
+ghost use Rattle.laws.specs.Basics.{List, ℕ, min, length, take};
 ghost use Rattle.whole_runs.specs.Listing.{most_records};
 ghost use Rattle.words.specs.Layout.{state_size};
 ghost use Rattle.machines.specs.{programs.Numbers.number_in, Machines.stepped, Forms.answer_of};

@@ -18,7 +18,8 @@ mod marks;
 // going.rt: how the machine goes on, for each kind of answer
 mod going;
 
-ghost use Rattle.laws.specs.Basics.{◌≡◌, true, length};
+ghost use Rattle.std.specs.Prelude.{◌≡◌};
+ghost use Rattle.laws.specs.Basics.{true, length};
 ghost use Rattle.machines.specs.{Machines.stepped, Forms.answer_of};
 ghost use Rattle.machine_record.specs.{Machine.machine, Machine.counting, Lent.has_room_of, Lent.state_of, Lent.place_of, Lent.StandsFor};
 

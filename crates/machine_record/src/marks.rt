@@ -1,5 +1,6 @@
 // The numbers that a caller lends for the state, read and put.
-ghost use Rattle.laws.specs.Basics.{◌≡◌, ◌-◌, ◌*◌, ◌≤◌, min, length};
+ghost use Rattle.std.specs.Prelude.{◌≡◌, ◌-◌, ◌*◌, ◌≤◌};
+ghost use Rattle.laws.specs.Basics.{min, length};
 ghost use Rattle.machine_record.specs.{Machine.block_bytes, Lent.marks_of, Lent.in_bounds_of, Lent.asks_for};
 ghost use Rattle.whole_runs.specs.Listing.{most_records};
 

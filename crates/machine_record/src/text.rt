@@ -1,5 +1,6 @@
 // The line that is reported of a refused record.
-ghost use Rattle.laws.specs.Basics.{◌+◌, ◌≤◌, length};
+ghost use Rattle.std.specs.Prelude.{◌+◌, ◌≤◌};
+ghost use Rattle.laws.specs.Basics.{length};
 ghost use Rattle.listing.specs.Printed.{Printed};
 ghost use Rattle.machine_record.specs.{Recorded.refused_line, Recorded.line_for, Played.longest_line};
 

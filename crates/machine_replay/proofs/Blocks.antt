@@ -1,6 +1,7 @@
 -- Where a block of records leads: to a read, to its lines, or to the last lines.
 -- Assumes nothing.
-use Rattle.laws.specs.Basics.{◌≡◌, refl, sym, ◌∙◌, ap, Bool, true, false, ◌&&◌, List, [], ◌∷◌, ℕ, zero, suc, ◌+◌, ◌-◌, ◌*◌, ◌≤◌, ◌<◌, arith, eqb, ltb, leb, length, take, drop, length-drop, sets, length-take-le, ne_eqb, lt-ltb, le-ltb, le-leb, leb-true, leb-false, by_bool}
+use Rattle.std.specs.Prelude.{◌≡◌, ◌&&◌, ◌∷◌, ◌+◌, ◌-◌, ◌*◌, ◌≤◌, ◌<◌}
+use Rattle.laws.specs.Basics.{refl, sym, ◌∙◌, ap, Bool, true, false, List, [], ℕ, zero, suc, arith, eqb, ltb, leb, length, take, drop, length-drop, sets, length-take-le, ne_eqb, lt-ltb, le-ltb, le-leb, leb-true, leb-false, by_bool}
 use lib.Seq.{drop-drop, take_at, take-nil}
 use Rattle.laws.specs.{Truth.and_no_right, Front.written_front}
 use Rattle.whole_runs.specs.Listing.{most_records, state_after_records}

@@ -1,6 +1,7 @@
 -- The loop that obeys the machine: where it stands before each request.
 -- Assumes nothing.
-use Rattle.laws.specs.Basics.{◌≡◌, refl, sym, ◌∙◌, ap, subst, true, false, List, ℕ, ◌≤◌, ◌<◌, leb, length, take, leb-true, by_bool, by_eq}
+use Rattle.std.specs.Prelude.{◌≡◌, ◌≤◌, ◌<◌}
+use Rattle.laws.specs.Basics.{refl, sym, ◌∙◌, ap, subst, true, false, List, ℕ, leb, length, take, leb-true, by_bool, by_eq}
 use Rattle.machines.specs.Machines.{Write, Answer, stepped, Reached, Ended}
 use Rattle.machines.specs.Forms.{request_of_def, goes_on_of, Leaves, Asks}
 use Rattle.machines.proofs.{Runs.reached_first, Runs.reached_next, Places.going_is, Places.stopped_is, Places.leaves_front}

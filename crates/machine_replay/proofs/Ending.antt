@@ -1,6 +1,7 @@
 -- The replay program ends after finitely many answers: a number falls with each.
 -- Assumes nothing.
-use Rattle.laws.specs.Basics.{◌≡◌, refl, Bool, ◌&&◌, List, ◌++◌, ℕ, ◌+◌, ◌-◌, ◌*◌, ◌≤◌, ◌<◌, arith, eqb, ltb, length, get_or, length-append, length-drop, eqb-false, by_bool}
+use Rattle.std.specs.Prelude.{◌≡◌, ◌&&◌, ◌++◌, ◌+◌, ◌-◌, ◌*◌, ◌≤◌, ◌<◌}
+use Rattle.laws.specs.Basics.{refl, Bool, List, ℕ, arith, eqb, ltb, length, get_or, length-append, length-drop, eqb-false, by_bool}
 use Rattle.model.specs.{Words.ones, Refusals.start_refusal, laws.Refusals.by_refusal}
 use Rattle.whole_runs.specs.Listing.{most_records}
 use Rattle.library_replay.specs.Taken.{outcome_of, block_outcome, BlocksGoOn}

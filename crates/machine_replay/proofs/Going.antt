@@ -1,6 +1,7 @@
 -- Where a replay stands after the bytes that it read: the records taken are the first of them, their lines are written, and the bytes held are the others.
 -- Assumes nothing.
-use Rattle.laws.specs.Basics.{◌≡◌, refl, sym, ◌∙◌, ap, Bool, true, false, ◌&&◌, List, [], ◌∷◌, ◌++◌, append-nil, append_assoc, none, ℕ, ◌+◌, ◌*◌, ◌/◌, ◌≤◌, ◌<◌, arith, ltb, length, take, drop, length-append, length-drop, length-take-le, ltb-false, pick, by_bool}
+use Rattle.std.specs.Prelude.{◌≡◌, ◌&&◌, ◌∷◌, ◌++◌, ◌+◌, ◌*◌, ◌/◌, ◌≤◌, ◌<◌}
+use Rattle.laws.specs.Basics.{refl, sym, ◌∙◌, ap, Bool, true, false, List, [], append-nil, append_assoc, none, ℕ, arith, ltb, length, take, drop, length-append, length-drop, length-take-le, ltb-false, pick, by_bool}
 use lib.ListN.{take-append-drop}
 use lib.Seq.{take-append-le, drop-append-le, take-add, drop-drop}
 use Rattle.model.specs.declared.Run.{Run}

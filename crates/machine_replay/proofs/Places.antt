@@ -1,6 +1,7 @@
 -- The state that stands in lent lists, by the numbers of its place.
 -- Assumes nothing.
-use Rattle.laws.specs.Basics.{◌≡◌, refl, ◌∙◌, ap, Bool, true, false, ◌&&◌, List, [], ◌∷◌, ℕ, ◌+◌, ◌-◌, ◌≤◌, ◌<◌, arith, eqb, ltb, leb, length, take, set, ne_eqb, eqb-true, lt-ltb, ltb-true, le-leb, leb-true, pick, by_bool}
+use Rattle.std.specs.Prelude.{◌≡◌, ◌&&◌, ◌∷◌, ◌+◌, ◌-◌, ◌≤◌, ◌<◌}
+use Rattle.laws.specs.Basics.{refl, ◌∙◌, ap, Bool, true, false, List, [], ℕ, arith, eqb, ltb, leb, length, take, set, ne_eqb, eqb-true, lt-ltb, ltb-true, le-leb, leb-true, pick, by_bool}
 use Rattle.laws.specs.{Truth.and_left, Truth.and_right}
 use Rattle.whole_runs.specs.Listing.{most_records}
 use Rattle.listing.specs.{Lines.longest_line, Printed.Printed}

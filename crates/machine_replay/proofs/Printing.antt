@@ -1,6 +1,7 @@
 -- What the replay program asks to be written is the listing of what it read, over every list of answers.
 -- Assumes nothing.
-use Rattle.laws.specs.Basics.{◌≡◌, refl, sym, ◌∙◌, ap, subst, Bool, true, false, ◌&&◌, ◌||◌, List, [], ◌∷◌, ◌++◌, append-nil, append_assoc, ℕ, ◌+◌, ◌*◌, ◌≤◌, ◌<◌, arith, eqb, ltb, leb, length, length-append, eqb-true, lt-ltb, ltb-true, le-leb, leb-true, leb-false, by_bool}
+use Rattle.std.specs.Prelude.{◌≡◌, ◌&&◌, ◌||◌, ◌∷◌, ◌++◌, ◌+◌, ◌*◌, ◌≤◌, ◌<◌}
+use Rattle.laws.specs.Basics.{refl, sym, ◌∙◌, ap, subst, Bool, true, false, List, [], append-nil, append_assoc, ℕ, arith, eqb, ltb, leb, length, length-append, eqb-true, lt-ltb, ltb-true, le-leb, leb-true, leb-false, by_bool}
 use Rattle.laws.specs.{Truth.and_left, Truth.and_right, Truth.or_left, Tests.same, Tests.some_of}
 use Rattle.model.specs.{Words.ones, Refusals.start_refusal, laws.Refusals.by_refusal}
 use Rattle.whole_runs.specs.Listing.{most_records, asks_for_all, records, started, listing}

@@ -1,6 +1,7 @@
 -- The first byte: the start in place, and what was read.
 -- Assumes nothing.
-use Rattle.laws.specs.Basics.{◌≡◌, refl, ◌∙◌, ap, false, List, ◌++◌, none, some, ℕ, ◌+◌, ◌-◌, ◌*◌, ◌≤◌, min, arith, leb, length, get_or, take, drop, length-take-le, leb-true, by_bool}
+use Rattle.std.specs.Prelude.{◌≡◌, ◌++◌, ◌+◌, ◌-◌, ◌*◌, ◌≤◌}
+use Rattle.laws.specs.Basics.{refl, ◌∙◌, ap, false, List, none, some, ℕ, min, arith, leb, length, get_or, take, drop, length-take-le, leb-true, by_bool}
 use lib.Seq.{take-add, get_or-take, get_or-drop}
 use Rattle.laws.specs.Truth.{and_no_right}
 use Rattle.model.specs.declared.{Run.Run, Refusal.Refusal, StartAnswer.StartAnswer}

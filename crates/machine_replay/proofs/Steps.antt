@@ -1,6 +1,7 @@
 -- A step on lent lists: the state that stands in them, and that calls from a start led to its run.
 -- Assumes nothing.
-use Rattle.laws.specs.Basics.{◌≡◌, refl, ap, subst, Bool, ◌&&◌, List, ℕ, ◌+◌, ◌≤◌, ◌<◌, eqb, ltb, length, get_or, le-leb, lt-leb, by_bool}
+use Rattle.std.specs.Prelude.{◌≡◌, ◌&&◌, ◌+◌, ◌≤◌, ◌<◌}
+use Rattle.laws.specs.Basics.{refl, ap, subst, Bool, List, ℕ, eqb, ltb, length, get_or, le-leb, lt-leb, by_bool}
 use Rattle.model.specs.{Words.ones, Refusals.start_refusal, laws.Refusals.by_refusal}
 use Rattle.whole_runs.specs.{Outcomes.start_outcome, WholeRuns.Reachable}
 use Rattle.whole_runs.proofs.WholeRuns.{reachable_start}

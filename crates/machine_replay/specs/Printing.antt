@@ -1,6 +1,7 @@
 -- What the replay program asks to be written, over every list of answers of the system: the listing of what it read, as far as it read.
 -- Assumes nothing.
-use Rattle.laws.specs.Basics.{◌≡◌, Bool, true, false, ◌&&◌, List, [], ◌∷◌, ◌++◌, Option, none, some, ℕ, ◌+◌, ◌*◌, ◌/◌, ◌≤◌, length, take}
+use Rattle.std.specs.Prelude.{◌≡◌, ◌&&◌, ◌∷◌, ◌++◌, ◌+◌, ◌*◌, ◌/◌, ◌≤◌}
+use Rattle.laws.specs.Basics.{Bool, true, false, List, [], Option, none, some, ℕ, length, take}
 use Rattle.model.specs.declared.Refusal.{Refusal}
 use Rattle.model.specs.{Words.ones, Refusals.start_refusal, Steps.start_state}
 use Rattle.whole_runs.specs.Listing.{most_records, asks_for_all, goes_on_after_all, listing}

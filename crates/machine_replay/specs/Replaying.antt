@@ -1,6 +1,7 @@
 -- The replay program as a machine: what it asks the system for, and where each answer leads.
 -- Assumes nothing.
-use Rattle.laws.specs.Basics.{Bool, ◌&&◌, List, [], ◌∷◌, ◌++◌, Option, none, some, ℕ, ◌+◌, ◌-◌, ◌*◌, min, eqb, ltb, length, get_or, drop, pick}
+use Rattle.std.specs.Prelude.{◌&&◌, ◌∷◌, ◌++◌, ◌+◌, ◌-◌, ◌*◌}
+use Rattle.laws.specs.Basics.{Bool, List, [], Option, none, some, ℕ, min, eqb, ltb, length, get_or, drop, pick}
 use Rattle.laws.specs.Tests.{same}
 use Rattle.model.specs.declared.{Run.Run, Refusal.Refusal, Refusal.TheVariants.NoFirstByte}
 use Rattle.model.specs.{Words.ones, Refusals.start_refusal, Steps.start_state}

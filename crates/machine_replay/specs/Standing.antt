@@ -1,6 +1,7 @@
 -- The state that stands in lent lists: six numbers, the words of the run, the bytes that were read, and the text that is written.
 -- Assumes nothing.
-use Rattle.laws.specs.Basics.{◌≡◌, Bool, true, false, ◌&&◌, List, ℕ, ◌+◌, ◌-◌, ◌≤◌, ◌<◌, eqb, ltb, leb, length, get_or, take, drop, sets, pick}
+use Rattle.std.specs.Prelude.{◌≡◌, ◌&&◌, ◌+◌, ◌-◌, ◌≤◌, ◌<◌}
+use Rattle.laws.specs.Basics.{Bool, true, false, List, ℕ, eqb, ltb, leb, length, get_or, take, drop, sets, pick}
 use Rattle.whole_runs.specs.{Listing.most_records, WholeRuns.Reachable}
 use Rattle.listing.specs.Lines.{longest_line}
 use Rattle.words.specs.Layout.{state_size, run_of}

@@ -1,5 +1,6 @@
 // Where an answer leads, by phase.
-ghost use Rattle.laws.specs.Basics.{◌≡◌, true, ◌+◌, ◌*◌, ◌≤◌, ◌<◌, length};
+ghost use Rattle.std.specs.Prelude.{◌≡◌, ◌+◌, ◌*◌, ◌≤◌, ◌<◌};
+ghost use Rattle.laws.specs.Basics.{true, length};
 ghost use Rattle.laws.specs.Tests.{same};
 ghost use Rattle.model.specs.{Words.ones, Refusals.start_refusal};
 ghost use Rattle.whole_runs.specs.{Listing.most_records, WholeRuns.Reachable};

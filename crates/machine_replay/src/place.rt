@@ -1,5 +1,6 @@
 // The numbers of a state: in which phase it is, and what it knows there.
-ghost use Rattle.laws.specs.Basics.{◌≡◌, ◌≤◌, length};
+ghost use Rattle.std.specs.Prelude.{◌≡◌, ◌≤◌};
+ghost use Rattle.laws.specs.Basics.{length};
 ghost use Rattle.machine_replay.specs.Standing.{numbers, bit_of, place_in, enough_room, inside};
 
 use listing::LONGEST_LINE;

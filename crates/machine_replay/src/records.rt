@@ -1,5 +1,6 @@
 // The records that were read are taken, as many as have room for their lines.
-ghost use Rattle.laws.specs.Basics.{◌≡◌, true, ◌+◌, ◌≤◌, length, take, drop};
+ghost use Rattle.std.specs.Prelude.{◌≡◌, ◌+◌, ◌≤◌};
+ghost use Rattle.laws.specs.Basics.{true, length, take, drop};
 ghost use Rattle.whole_runs.specs.WholeRuns.{Reachable};
 ghost use Rattle.words.specs.Layout.{run_of};
 ghost use Rattle.machine_replay.specs.Replaying.{onward};

@@ -1,5 +1,6 @@
 // A whole step: the answer of the system is taken, and the next request is handed back.
-ghost use Rattle.laws.specs.Basics.{◌≡◌, true, ◌≤◌, length};
+ghost use Rattle.std.specs.Prelude.{◌≡◌, ◌≤◌};
+ghost use Rattle.laws.specs.Basics.{true, length};
 ghost use Rattle.machines.specs.{Machines.stepped, Forms.answer_of, Forms.Asks};
 ghost use Rattle.machine_replay.specs.Replaying.{starting, asks, replaying};
 ghost use Rattle.machine_replay.specs.Standing.{numbers, enough_room, Holds, state_in, state_of, place_of, FromStart};

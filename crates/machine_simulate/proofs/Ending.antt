@@ -1,9 +1,10 @@
 -- The machine ends: a number falls with each answer.
 -- Assumes nothing.
-use Rattle.laws.specs.Basics.{◌≡◌, refl, ap, Bool, true, false, List, ℕ, ◌+◌, ◌-◌, ◌≤◌, ◌<◌, arith, ltb, ltb-true, ltb-false, pick, by_bool}
+use Rattle.std.specs.Prelude.{◌≡◌, ◌+◌, ◌-◌, ◌≤◌, ◌<◌}
+use Rattle.laws.specs.Basics.{refl, ap, Bool, true, false, List, ℕ, arith, ltb, ltb-true, ltb-false, pick, by_bool}
 use Rattle.machines.specs.Machines.{Stop, Answer, heard, heard_count, heard_done, is_number, stepped, Ends}
 use Rattle.machines.proofs.Answers.{by_done}
-use Rattle.machine_simulate.specs.declared.words.Numbers.{Numbers}
+use Rattle.machine_simulate.specs.declared.arguments.Numbers.{Numbers}
 use Rattle.machine_simulate.specs.{Arguments.is_wrong_of, Arguments.is_refused, Arguments.with_word, Text.result_text, Text.trial_of}
 use Rattle.machine_simulate.specs.Simulating.{State, Counting, Asking, Printing, Tabling, Reporting, Failing, Stopped, ask, next, tabled, answered, decided, after_count, after_word, next_row_of, without_first, after_write_of, simulating}
 use Rattle.machine_simulate.proofs.Numbers.{in_table}

@@ -1,11 +1,12 @@
 -- A word by its first hyphen, and what a table that is not refused asks for.
 -- Assumes nothing.
-use Rattle.laws.specs.Basics.{◌≡◌, true, false, ◌||◌, List, ℕ, ◌+◌, ◌≤◌, ◌<◌, arith, ltb, length, take, drop, eq-eqb, ne_eqb}
+use Rattle.std.specs.Prelude.{◌≡◌, ◌||◌, ◌+◌, ◌≤◌, ◌<◌}
+use Rattle.laws.specs.Basics.{true, false, List, ℕ, arith, ltb, length, take, drop, eq-eqb, ne_eqb}
 use Rattle.laws.specs.Truth.{or_none}
 use Rattle.machines.specs.programs.Numbers.{number_in}
 use Rattle.theory_recording.specs.spacing.Spacing.{out_of_range}
 use Rattle.theory_recording.proofs.spacing.Agreement.{in_range}
-use Rattle.machine_simulate.specs.declared.{words.Spacings.Spacings, words.Numbers.Numbers}
+use Rattle.machine_simulate.specs.declared.{arguments.Spacings.Spacings, arguments.Numbers.Numbers}
 use Rattle.machine_simulate.specs.Arguments.{hyphen_or, hyphen_in_of, spacings_in, is_refused, with_word}
 
 -- A byte more: the first hyphen.

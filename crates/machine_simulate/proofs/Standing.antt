@@ -1,11 +1,12 @@
 -- Which state the lent numbers and buffers stand for once a phase, a count and the numbers of the words are put.
 -- Assumes nothing.
-use Rattle.laws.specs.Basics.{◌≡◌, refl, ◌∙◌, ap, Bool, true, false, List, [], ◌∷◌, ℕ, ◌≤◌, ◌<◌, arith, eqb, length, get_or, take, set, ne_eqb, le-ltb, le-leb, lt-leb, pick}
+use Rattle.std.specs.Prelude.{◌≡◌, ◌∷◌, ◌≤◌, ◌<◌}
+use Rattle.laws.specs.Basics.{refl, ◌∙◌, ap, Bool, true, false, List, [], ℕ, arith, eqb, length, get_or, take, set, ne_eqb, le-ltb, le-leb, lt-leb, pick}
 use Rattle.laws.specs.Choice.{pick_same}
 use Rattle.listing.specs.Printed.{Printed}
 use Rattle.machines.specs.{Machines.Say, Machines.Fail, Forms.request_of_def, Forms.Placed, Forms.GoesTo}
 use Rattle.machines.proofs.{Places.long_enough, programs.Texts.printed_inside, programs.Texts.printed_front}
-use Rattle.machine_simulate.specs.declared.words.Numbers.{Numbers}
+use Rattle.machine_simulate.specs.declared.arguments.Numbers.{Numbers}
 use Rattle.machine_simulate.specs.Text.{longest_text}
 use Rattle.machine_simulate.specs.Simulating.{longest_word, Counting, Asking, Printing, Tabling, Reporting, Failing, Stopped, ask}
 use Rattle.machine_simulate.specs.Words.{EnoughRoom, lacks_room_of, kept_in, in_phase, state_of, Puts, StandsFor}

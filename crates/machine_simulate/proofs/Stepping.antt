@@ -1,11 +1,12 @@
 -- Which state an answer leads to, by its form.
 -- Assumes nothing.
-use Rattle.laws.specs.Basics.{◌≡◌, refl, sym, ◌∙◌, ap, Bool, true, false, List, ℕ, ◌+◌, ◌≤◌, ◌<◌, arith, eqb, ltb, length, get_or, take, ne_eqb, lt-ltb, le-ltb, le-leb, lt-leb, pick, by_bool}
+use Rattle.std.specs.Prelude.{◌≡◌, ◌+◌, ◌≤◌, ◌<◌}
+use Rattle.laws.specs.Basics.{refl, sym, ◌∙◌, ap, Bool, true, false, List, ℕ, arith, eqb, ltb, length, get_or, take, ne_eqb, lt-ltb, le-ltb, le-leb, lt-leb, pick, by_bool}
 use Rattle.model.specs.declared.Refusal.TheVariants.{TrialOutsideRange}
 use Rattle.machines.specs.{programs.Texts.refused_text, Forms.answer_of, Forms.taken_of, Forms.Between}
 use Rattle.machines.specs.Machines.{Answer, Done, Failed, heard, heard_count, heard_word, heard_done, is_number, brought, stepped}
 use Rattle.machines.proofs.Driving.{still_stands}
-use Rattle.machine_simulate.specs.declared.words.Numbers.{Numbers}
+use Rattle.machine_simulate.specs.declared.arguments.Numbers.{Numbers}
 use Rattle.machine_simulate.specs.Arguments.{is_wrong_of, is_refused, no_numbers, with_word}
 use Rattle.machine_simulate.specs.Text.{head_line, row_text, trial_of}
 use Rattle.machine_simulate.specs.Simulating.{longest_word, usage, output_name, State, Counting, Asking, Printing, Tabling, Reporting, Failing, Stopped, ask, next, tabled, answered, decided, without_first, next_row_of, after_count, after_word, after_write_of, simulating}

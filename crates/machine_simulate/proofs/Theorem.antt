@@ -1,13 +1,14 @@
 -- What the machine does with every list of answers.
 -- Assumes nothing.
-use Rattle.laws.specs.Basics.{◌≡◌, refl, sym, ◌∙◌, ap, subst, Bool, true, false, ◌||◌, List, [], ◌∷◌, ◌++◌, append-nil, append_assoc, ℕ, suc, ◌+◌, ◌-◌, ◌≤◌, ◌<◌, arith, eqb, ltb, eq-eqb, ne_eqb, ltb-true, ltb-false, pick, by_bool, by_eq}
+use Rattle.std.specs.Prelude.{◌≡◌, ◌||◌, ◌∷◌, ◌++◌, ◌+◌, ◌-◌, ◌≤◌, ◌<◌}
+use Rattle.laws.specs.Basics.{refl, sym, ◌∙◌, ap, subst, Bool, true, false, List, [], append-nil, append_assoc, ℕ, suc, arith, eqb, ltb, eq-eqb, ne_eqb, ltb-true, ltb-false, pick, by_bool, by_eq}
 use Rattle.laws.specs.{Rows.or_false, Tests.some_of}
 use Rattle.model.specs.declared.Refusal.TheVariants.{TrialOutsideRange}
 use Rattle.machines.specs.{programs.Numbers.number_in, programs.Texts.refused_text}
 use Rattle.machines.specs.Machines.{Request, Count, Argument, Write, Say, Fail, Stop, Answer, Done, Failed, Exchange, heard, heard_count, heard_word, heard_done, is_number, brought, stepped, exchanged, state_after, exchanges, written, error_text, written_of, error_text_of, gathered, failed, requests_of}
 use Rattle.machines.proofs.{Runs.throughout, Runs.gathered_next, Runs.some_next, Runs.written_is, Runs.error_text_is, Runs.stops, Answers.by_done}
 use Rattle.machines.proofs.Reporting.{printed_in, reported_in, more, writes, reports}
-use Rattle.machine_simulate.specs.declared.words.Numbers.{Numbers}
+use Rattle.machine_simulate.specs.declared.arguments.Numbers.{Numbers}
 use Rattle.machine_simulate.specs.Arguments.{spacings_in, is_wrong_of, is_refused, no_numbers, with_word, numbers_in}
 use Rattle.machine_simulate.specs.Text.{head_line, result_text, row_text, trial_of, rows_text, rows_of, table_text, right_text, text_of}
 use Rattle.machine_simulate.specs.Simulating.{usage, output_name, longest_word, State, Counting, Asking, Printing, Tabling, Reporting, Failing, Stopped, ask, next, tabled, answered, decided, after_count, after_word, without_first, next_row_of, after_write_of, simulating, word_by, word_of_def, numbers_of, is_last, last_asked, failure, failures, wrong_words, SimulatesAlways, StopsAfterFailure}

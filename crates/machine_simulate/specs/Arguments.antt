@@ -1,11 +1,12 @@
 -- The words that the program is started with: decimal digits, and for the spacing one number or two with a hyphen between.
 -- Assumes nothing.
-use Rattle.laws.specs.Basics.{Bool, true, false, ◌&&◌, ◌||◌, List, ℕ, ◌+◌, eqb, ltb, length, get_or, take, drop, pick}
+use Rattle.std.specs.Prelude.{◌&&◌, ◌||◌, ◌+◌}
+use Rattle.laws.specs.Basics.{Bool, true, false, List, ℕ, eqb, ltb, length, get_or, take, drop, pick}
 use Rattle.laws.specs.Loops.{iter}
 use Rattle.model.specs.Words.{most_processes}
 use Rattle.machines.specs.programs.Numbers.{no_number, number_in}
 use Rattle.theory_recording.specs.spacing.Spacing.{out_of_range, most_spacing, most_steps}
-use Rattle.machine_simulate.specs.declared.{words.Spacings.Spacings, words.Numbers.Numbers}
+use Rattle.machine_simulate.specs.declared.{arguments.Spacings.Spacings, arguments.Numbers.Numbers}
 
 -- The place of the first hyphen (45) of a word; its length where there is none.
 unfoldable pub hyphen_or : ℕ → ℕ → ℕ → ℕ → ℕ

@@ -1,11 +1,12 @@
 -- The program `simulate` as a machine: it asks for its four words, writes what they ask for, a table row by row, and stops.
 -- Assumes nothing.
-use Rattle.laws.specs.Basics.{◌≡◌, Bool, false, ◌&&◌, List, [], ◌∷◌, ◌++◌, ℕ, ◌+◌, ◌<◌, eqb, ltb, length, pick}
+use Rattle.std.specs.Prelude.{◌≡◌, ◌&&◌, ◌∷◌, ◌++◌, ◌+◌, ◌<◌}
+use Rattle.laws.specs.Basics.{Bool, false, List, [], ℕ, eqb, ltb, length, pick}
 use Rattle.laws.specs.Tests.{some_of}
 use Rattle.model.specs.declared.Refusal.TheVariants.{TrialOutsideRange}
 use Rattle.machines.specs.programs.Texts.{refused_text}
 use Rattle.machines.specs.Machines.{Request, Count, Argument, Open, Read, Write, Say, Fail, Stop, Answer, Number, Bytes, End, Done, Failed, Machine, Exchange, heard, is_number, brought, stepped, asked, exchanges, state_after, written_of, error_text_of, gathered, failed}
-use Rattle.machine_simulate.specs.declared.words.Numbers.{Numbers}
+use Rattle.machine_simulate.specs.declared.arguments.Numbers.{Numbers}
 use Rattle.machine_simulate.specs.Arguments.{is_wrong_of, is_refused, no_numbers, with_word, numbers_in}
 use Rattle.machine_simulate.specs.Text.{head_line, result_text, row_text, trial_of, text_of}
 

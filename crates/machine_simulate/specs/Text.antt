@@ -1,14 +1,15 @@
 -- What the program prints of a result: its five figures, each with its name, one a line, or `refused R`; the row of a table; and of four numbers, all that it prints.
 -- Numbers are decimal.
 -- Assumes nothing.
-use Rattle.laws.specs.Basics.{List, [], ◌∷◌, ◌++◌, ℕ, zero, suc, ◌+◌, ◌-◌, pick}
+use Rattle.std.specs.Prelude.{◌∷◌, ◌++◌, ◌+◌, ◌-◌}
+use Rattle.laws.specs.Basics.{List, [], ℕ, zero, suc, pick}
 use Rattle.model.specs.declared.Refusal.TheVariants.{TrialOutsideRange}
 use Rattle.whole_runs.specs.Listing.{decimal, space, line_feed}
 use Rattle.machines.specs.{programs.Numbers.at_most, programs.Texts.figure_text, programs.Texts.refused_text}
 use Rattle.theory_recording.specs.spacing.Spacing.{simulated}
 use Rattle.theory_recording.specs.declared.{spacing.TrialAnswer.TrialAnswer, spacing.TrialAnswer.TheVariants.Refused, spacing.TrialAnswer.TheVariants.Tried}
 use Rattle.theory_recording.specs.declared.spacing.TrialResult.{TrialResult}
-use Rattle.machine_simulate.specs.declared.words.Numbers.{Numbers}
+use Rattle.machine_simulate.specs.declared.arguments.Numbers.{Numbers}
 use Rattle.machine_simulate.specs.Arguments.{is_wrong_of, is_refused}
 
 -- "deliveries ", "forced ", "most-kept ", "forced-per-thousand-deliveries " and "remainder ", byte by byte.

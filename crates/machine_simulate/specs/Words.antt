@@ -1,9 +1,10 @@
 -- The machine's state in what a caller lends: eight numbers, the phase, a count and the numbers of the words; the buffer that words are asked into; the buffer for what
 -- is written and reported.
 -- Assumes nothing.
-use Rattle.laws.specs.Basics.{◌≡◌, Bool, ◌&&◌, ◌||◌, List, ℕ, ◌≤◌, eqb, ltb, leb, length, get_or, take, pick}
+use Rattle.std.specs.Prelude.{◌≡◌, ◌&&◌, ◌||◌, ◌≤◌}
+use Rattle.laws.specs.Basics.{Bool, List, ℕ, eqb, ltb, leb, length, get_or, take, pick}
 use Rattle.machines.specs.Forms.{Stands}
-use Rattle.machine_simulate.specs.declared.words.Numbers.{Numbers}
+use Rattle.machine_simulate.specs.declared.arguments.Numbers.{Numbers}
 use Rattle.machine_simulate.specs.Text.{longest_text}
 use Rattle.machine_simulate.specs.Simulating.{longest_word, State, Counting, Asking, Printing, Tabling, Reporting, Failing, Stopped, simulating}
 use Rattle.machines.specs.declared.Request as requests

@@ -3,25 +3,26 @@
 
 #![tactic(auto)]
 
-// words.rt: the words that the program is started with
-pub mod words;
+// arguments.rt: the words that the program is started with
+pub mod arguments;
 
 // print.rt: what is printed of a result
 pub mod print;
 
-ghost use Rattle.laws.specs.Basics.{◌≡◌, List, ℕ, ◌≤◌, length, get_or, take, pick};
+ghost use Rattle.std.specs.Prelude.{◌≡◌, ◌≤◌};
+ghost use Rattle.laws.specs.Basics.{List, ℕ, length, get_or, take, pick};
 ghost use Rattle.theory_recording.specs.spacing.Spacing.{most_spacing};
 ghost use Rattle.machines.specs.{Machines.brought, Machines.stepped, Forms.answer_of, Forms.taken_of, Forms.Between};
 ghost use Rattle.machine_simulate.specs.Text.{longest_text, trial_of};
 ghost use Rattle.machine_simulate.specs.Simulating.{longest_word, usage, output_name, Counting, Asking, Printing, Tabling, Reporting, Failing, Stopped, tabled, answered, decided, next_row_of, simulating};
 ghost use Rattle.machine_simulate.specs.Words.{EnoughRoom, lacks_room_of, kept_in, state_of, Puts, StandsFor};
 
+use arguments::{Numbers, Spacings};
 use machines::heard::Taken;
 use machines::programs::numbers::clamped;
 use machines::{Answer, Request, heard};
 use model::Refusal;
 use theory_recording::spacing::TrialResult;
-use words::{Numbers, Spacings};
 
 // The phases; 1 to 4 are the words. Every other number stands for a machine that has stopped.
 const COUNTING: u64 = 0;
@@ -100,7 +101,7 @@ fn stop(memory: &mut [u64]) -> Request
     requires { 8 ≤ length memory.old }
     ensures { (input out : List ℕ) → StandsFor memory.new input out result Stopped }
 {
-    put(memory, STOPPED, 0, words::no_numbers());
+    put(memory, STOPPED, 0, arguments::no_numbers());
     Request::Stop
 }
 
@@ -118,7 +119,7 @@ fn print_last(memory: &mut [u64], input: &[u8], out: &[u8], size: usize) -> Requ
     requires { EnoughRoom (length memory.old) (length input.now) (length out.now) × (size ≤ longest_text) }
     ensures { StandsFor memory.new input.now out.now result (Printing (take size out.now)) }
 {
-    put(memory, PRINTING, size, words::no_numbers());
+    put(memory, PRINTING, size, arguments::no_numbers());
     Request::Write(size)
 }
 
@@ -141,7 +142,7 @@ fn report_usage(memory: &mut [u64], input: &[u8], out: &mut [u8]) -> Request
         0,
         b"usage: simulate N SPACING STEPS SEED, or simulate N FROM-TO STEPS SEED\n",
     );
-    put(memory, REPORTING, size, words::no_numbers());
+    put(memory, REPORTING, size, arguments::no_numbers());
     Request::Say(size)
 }
 
@@ -151,7 +152,7 @@ fn fail(memory: &mut [u64], input: &[u8], out: &mut [u8]) -> Request
     ensures { StandsFor memory.new input.now out.new result (Failing output_name) }
 {
     let size = machines::programs::text::write_word(out, 0, b"simulate: standard output");
-    put(memory, FAILING, size, words::no_numbers());
+    put(memory, FAILING, size, arguments::no_numbers());
     Request::Fail(size)
 }
 
@@ -172,7 +173,7 @@ fn table(memory: &mut [u64], input: &[u8], out: &mut [u8], k: Numbers) -> Reques
     ensures { StandsFor memory.new input.now out.new result (tabled k) }
 {
     let spacings = k.spacings;
-    if words::is_refused(k.n, spacings.from, spacings.to, k.steps) {
+    if arguments::is_refused(k.n, spacings.from, spacings.to, k.steps) {
         let refused = machines::programs::text::write_refused(out, Refusal::TrialOutsideRange);
         return print_last(memory, input, out, refused);
     }
@@ -203,7 +204,7 @@ fn decide(memory: &mut [u64], input: &[u8], out: &mut [u8], k: Numbers) -> Reque
     ensures { StandsFor memory.new input.now out.new result (decided k) }
 {
     let spacings = k.spacings;
-    if words::is_wrong(k.n, spacings, k.steps, k.seed) {
+    if arguments::is_wrong(k.n, spacings, k.steps, k.seed) {
         return report_usage(memory, input, out);
     }
     answer_with(memory, input, out, k)
@@ -237,7 +238,7 @@ fn after_count(memory: &mut [u64], input: &[u8], out: &mut [u8], answer: Answer)
     ensures { StandsFor memory.new input.now out.new result (stepped simulating Counting (answer_of answer 0 input.now)) }
 {
     if heard::is_number(answer, 5) {
-        return ask_word(memory, input, out, 1, words::no_numbers());
+        return ask_word(memory, input, out, 1, arguments::no_numbers());
     }
     report_usage(memory, input, out)
 }
@@ -267,7 +268,7 @@ fn after_word(
     ensures { StandsFor memory.new input.now out.new result (stepped simulating (Asking i k) (answer_of answer 0 input.now)) }
 {
     let size = size_of(heard::word(answer, LONGEST_WORD));
-    let numbers = words::with_word(i, k, &input[..size]);
+    let numbers = arguments::with_word(i, k, &input[..size]);
     if i < 4 {
         return ask_word(memory, input, out, i + 1, numbers);
     }
@@ -320,7 +321,7 @@ pub fn begin(memory: &mut [u64], input: &[u8], out: &[u8]) -> Request
     requires { EnoughRoom (length memory.old) (length input.now) (length out.now) }
     ensures { StandsFor memory.new input.now out.now result Counting }
 {
-    put(memory, COUNTING, 0, words::no_numbers());
+    put(memory, COUNTING, 0, arguments::no_numbers());
     Request::Count
 }
 

@@ -1,5 +1,6 @@
 // What is printed of a result, to a lent buffer: every function hands back the place after what it printed.
-ghost use Rattle.laws.specs.Basics.{◌∷◌, ◌+◌, ◌≤◌, length};
+ghost use Rattle.std.specs.Prelude.{◌∷◌, ◌+◌, ◌≤◌};
+ghost use Rattle.laws.specs.Basics.{length};
 ghost use Rattle.whole_runs.specs.Listing.{decimal, space};
 ghost use Rattle.listing.specs.Printed.{Printed};
 ghost use Rattle.machine_simulate.specs.Text.{longest_text, figures_text, result_text, row_text};

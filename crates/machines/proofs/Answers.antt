@@ -1,6 +1,7 @@
 -- Every answer, as it is taken: one that fits, or `Failed`.
 -- Assumes nothing.
-use Rattle.laws.specs.Basics.{◌&&◌, List, ℕ, ◌≤◌, leb, length, leb-true, by_bool}
+use Rattle.std.specs.Prelude.{◌&&◌, ◌≤◌}
+use Rattle.laws.specs.Basics.{List, ℕ, leb, length, leb-true, by_bool}
 use Rattle.laws.specs.Truth.{and_left, and_right}
 use Rattle.machines.specs.Machines.{Answer, Number, Bytes, End, Done, Failed, heard_count, heard_word, heard_read, heard_done}
 

@@ -1,6 +1,7 @@
 -- What a call of a machine leaves, by whether a list is too short.
 -- Assumes nothing.
-use Rattle.laws.specs.Basics.{◌≡◌, refl, sym, ◌∙◌, Bool, true, false, ◌||◌, false≢true, List, ℕ, ◌≤◌, ◌<◌, ltb, length, sets, lt-ltb, le-ltb}
+use Rattle.std.specs.Prelude.{◌≡◌, ◌||◌, ◌≤◌, ◌<◌}
+use Rattle.laws.specs.Basics.{refl, sym, ◌∙◌, Bool, true, false, false≢true, List, ℕ, ltb, length, sets, lt-ltb, le-ltb}
 use Rattle.machines.specs.{Packed.packed, Called.Called}
 use Rattle.machines.specs.declared.Request as requests
 

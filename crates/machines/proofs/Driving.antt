@@ -1,6 +1,7 @@
 -- The loop that obeys a machine: where it stands before each request.
 -- Assumes nothing.
-use Rattle.laws.specs.Basics.{◌≡◌, sym, ◌∙◌, ap, subst, true, false, List, ℕ, ◌<◌, arith}
+use Rattle.std.specs.Prelude.{◌≡◌, ◌<◌}
+use Rattle.laws.specs.Basics.{sym, ◌∙◌, ap, subst, true, false, List, ℕ, arith}
 use Rattle.machines.specs.Machines.{Stop, Answer, Machine, stepped, Reached, Ended, Ends}
 use Rattle.machines.specs.Forms.{goes_on_of, request_of_def, Placed, GoesTo, Asks, Stands}
 use Rattle.machines.proofs.{Runs.reached_first, Runs.reached_next, Places.going_is, Places.stopped_is}

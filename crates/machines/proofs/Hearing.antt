@@ -1,6 +1,7 @@
 -- Answers in their forms, as they are taken.
 -- Assumes nothing.
-use Rattle.laws.specs.Basics.{◌≡◌, refl, sym, ◌∙◌, ap, true, false, ◌&&◌, false≢true, List, ℕ, zero, suc, ◌+◌, ◌≤◌, ◌<◌, arith, leb, length, take, drop, length-drop, length-take-le, eq-eqb, ne_eqb, le-ltb, le-leb, lt-leb, leb-true, by_bool}
+use Rattle.std.specs.Prelude.{◌≡◌, ◌&&◌, ◌+◌, ◌≤◌, ◌<◌}
+use Rattle.laws.specs.Basics.{refl, sym, ◌∙◌, ap, true, false, false≢true, List, ℕ, zero, suc, arith, leb, length, take, drop, length-drop, length-take-le, eq-eqb, ne_eqb, le-ltb, le-leb, lt-leb, leb-true, by_bool}
 use Rattle.laws.specs.Truth.{and_no_right}
 use lib.IntN.{ℤ, pos, negsuc}
 use lib.Signed.{lt_z}

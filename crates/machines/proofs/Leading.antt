@@ -1,6 +1,7 @@
 -- Where an answer leads, by how it is taken.
 -- Assumes nothing.
-use Rattle.laws.specs.Basics.{◌≡◌, ap, ℕ, arith}
+use Rattle.std.specs.Prelude.{◌≡◌}
+use Rattle.laws.specs.Basics.{ap, ℕ, arith}
 use Rattle.machines.specs.Machines.{Read, Answer, Machine, heard, stepped}
 
 pub stepped_by : {S : Type 0} (m : Machine S) (s : S) (a x : Answer) → heard (m.ask s) a ≡ x → stepped m s a ≡ m.next s x

@@ -1,6 +1,7 @@
 -- What the places of a request come to, by its kind.
 -- Assumes nothing.
-use Rattle.laws.specs.Basics.{◌≡◌, refl, sym, ◌∙◌, ap, subst, true, false, ◌||◌, List, ℕ, ◌+◌, ◌-◌, ◌≤◌, arith, ltb, length, take, sets, ltb-false}
+use Rattle.std.specs.Prelude.{◌≡◌, ◌||◌, ◌+◌, ◌-◌, ◌≤◌}
+use Rattle.laws.specs.Basics.{refl, sym, ◌∙◌, ap, subst, true, false, List, ℕ, arith, ltb, length, take, sets, ltb-false}
 use Rattle.laws.specs.Truth.{or_none}
 use borrow.Rule.Slice.PartMut.{mid_of, put_mid, mid_len, take_put, drop_put, same_len_mid}
 use Rattle.machines.specs.{Machines.Stop, Packed.packed, Forms.goes_on_of, Forms.request_of_def, Forms.Placed, Forms.Around, Forms.Leaves, Forms.GoesTo, Forms.from, Forms.Comes, Forms.Fits, Forms.Obeys}

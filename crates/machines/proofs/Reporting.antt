@@ -1,6 +1,7 @@
 -- Programs that write what they know of the bytes that were read, and report a read or a write that failed: what their theorems share.
 -- Assumes nothing.
-use Rattle.laws.specs.Basics.{◌≡◌, refl, sym, ◌∙◌, ap, Bool, false, ◌||◌, List, [], ◌∷◌, ◌++◌, append-nil, ℕ}
+use Rattle.std.specs.Prelude.{◌≡◌, ◌||◌, ◌∷◌, ◌++◌}
+use Rattle.laws.specs.Basics.{refl, sym, ◌∙◌, ap, Bool, false, List, [], append-nil, ℕ}
 use Rattle.laws.specs.Rows.{or_false}
 use Rattle.machines.specs.Machines.{Request, Read, Write, Fail, Stop, Answer, Done, Failed, Exchange, written, error_text, written_of, error_text_of, brought, read_by, read_of, gathered, is_end, end_met, failed, failure, requests_of}
 use Rattle.machines.proofs.Runs.{read_next, gathered_next, end_next, written_next, error_text_next}

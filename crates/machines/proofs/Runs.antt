@@ -1,7 +1,8 @@
 -- Runs of a machine: a fact that holds at the start and that every answer keeps holds after every list of answers; what lists of exchanges come to, one exchange after
 -- the other; a machine that has a measure ends.
 -- Assumes nothing.
-use Rattle.laws.specs.Basics.{◌≡◌, refl, sym, ◌∙◌, ap, subst, Bool, ◌||◌, List, [], ◌∷◌, ◌++◌, append-nil, append_assoc, ◌⊎◌, inl, inr, ℕ, ◌<◌, arith, length}
+use Rattle.std.specs.Prelude.{◌≡◌, ◌||◌, ◌∷◌, ◌++◌, ◌⊎◌, ◌<◌}
+use Rattle.laws.specs.Basics.{refl, sym, ◌∙◌, ap, subst, Bool, List, [], append-nil, append_assoc, inl, inr, ℕ, arith, length}
 use mathlib.Core.Logic.{⊎_elim}
 use Rattle.laws.specs.{Tests.some_of, Select.some_append, Select.some_one}
 use Rattle.machines.specs.Machines.{Request, Count, Argument, Open, Read, Write, Say, Fail, Stop, Answer, Machine, Exchange, stepped, exchanged, state_from, exchanges_from, asked_from, state_after, exchanges, asked, written, error_text, written_of, error_text_of, read_by, read_of, gathered, is_end, end_met, requests_of, Reached, Ends}

@@ -1,6 +1,7 @@
 -- A call of a machine, for callers that have no enums: what it leaves in the list that the request goes to.
 -- Assumes nothing.
-use Rattle.laws.specs.Basics.{◌≡◌, Bool, true, false, ◌||◌, List, ℕ, ltb, length, sets}
+use Rattle.std.specs.Prelude.{◌≡◌, ◌||◌}
+use Rattle.laws.specs.Basics.{Bool, true, false, List, ℕ, ltb, length, sets}
 use Rattle.machines.specs.Packed.{packed}
 use Rattle.machines.specs.declared.Request as requests
 

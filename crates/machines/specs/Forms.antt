@@ -1,8 +1,8 @@
 -- The forms that requests and answers have in code: numbers and places of lent buffers. The bytes that a program asks for go to a place of its buffer `input`; those
 -- that it hands out stand at the front of its buffer `out`.
 -- Assumes nothing.
-use Rattle.laws.specs.Basics.{◌≡◌, Bool, true, false, List, ℕ, zero, suc, ◌+◌, ◌≤◌, eqb, leb, length, take, drop, pick}
-use Rattle.std.specs.Prelude.{ℤ, pos, negsuc, min}
+use Rattle.laws.specs.Basics.{Bool, true, false, List, ℕ, zero, suc, eqb, leb, length, take, drop, pick}
+use Rattle.std.specs.Prelude.{ℤ, pos, negsuc, min, ◌≡◌, ◌+◌, ◌≤◌}
 use Rattle.machines.specs.Machines.{Request, Count, Argument, Open, Read, Write, Say, Fail, Stop, Answer, Number, Bytes, End, Done, Failed, Machine}
 use Rattle.machines.specs.declared.{Source.Source, Obeyed.Obeyed}
 use Rattle.machines.specs.declared.Request as requests

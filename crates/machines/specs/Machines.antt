@@ -1,7 +1,8 @@
 -- A program as a machine: it asks the system for one thing at a time, and goes on by what the system answers. What it asked for and what it was answered are lists, so
 -- that a theorem about a program is one over every list of answers.
 -- Assumes nothing.
-use Rattle.laws.specs.Basics.{◌≡◌, Bool, true, false, ◌&&◌, List, [], ◌∷◌, ◌++◌, ℕ, ◌<◌, eqb, leb, length, pick}
+use Rattle.std.specs.Prelude.{◌≡◌, ◌&&◌, ◌∷◌, ◌++◌, ◌<◌}
+use Rattle.laws.specs.Basics.{Bool, true, false, List, [], ℕ, eqb, leb, length, pick}
 use Rattle.laws.specs.Tests.{some_of}
 
 -- What a program asks of the system.

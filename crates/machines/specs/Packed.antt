@@ -1,6 +1,7 @@
 -- Requests and answers as numbers, for callers that have no enums.
 -- Assumes nothing.
-use Rattle.laws.specs.Basics.{List, [], ◌∷◌, ℕ, eqb, pick}
+use Rattle.std.specs.Prelude.{◌∷◌}
+use Rattle.laws.specs.Basics.{List, [], ℕ, eqb, pick}
 use Rattle.machines.specs.declared.Request as requests
 use Rattle.machines.specs.declared.Request.TheVariants as request
 use Rattle.machines.specs.declared.Answer as answers

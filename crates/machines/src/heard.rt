@@ -1,5 +1,6 @@
 // Answers as a machine takes them (`heard` in `specs/Machines`): one that does not fit what was asked for counts as failed.
-ghost use Rattle.laws.specs.Basics.{◌≡◌, List, ℕ, ◌+◌, ◌≤◌, length, pick};
+ghost use Rattle.std.specs.Prelude.{◌≡◌, ◌+◌, ◌≤◌};
+ghost use Rattle.laws.specs.Basics.{List, ℕ, length, pick};
 ghost use Rattle.machines.specs.Machines.{heard_count, heard_word, heard_read, heard_done, is_number, Done, Failed};
 ghost use Rattle.machines.specs.Forms.{answer_of, taken_of, Between};
 

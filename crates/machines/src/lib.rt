@@ -22,7 +22,8 @@ pub mod replay_input;
 // programs.rt: what several programs share: the number that a word is, and texts printed into a lent buffer.
 pub mod programs;
 
-ghost use Rattle.laws.specs.Basics.{◌≡◌, length};
+ghost use Rattle.std.specs.Prelude.{◌≡◌};
+ghost use Rattle.laws.specs.Basics.{length};
 ghost use Rattle.machines.specs.Forms.{goes_on_of, Placed, standard_input, from, Obeys};
 
 use std::env::Env;

@@ -1,5 +1,6 @@
 // Requests and answers as numbers, for callers that have no enums.
-ghost use Rattle.laws.specs.Basics.{◌≡◌, [], ◌∷◌, ◌≤◌, length, sets};
+ghost use Rattle.std.specs.Prelude.{◌≡◌, ◌∷◌, ◌≤◌};
+ghost use Rattle.laws.specs.Basics.{[], length, sets};
 ghost use Rattle.machines.specs.Packed.{packed, unpacked};
 
 use crate::{Answer, Request};

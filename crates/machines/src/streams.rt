@@ -1,7 +1,7 @@
 // What a program holds of the system while it runs: the streams that it is started with, the file that it opened last, and why the last call failed that did. No contract
 // can say what a stream brings or takes.
-ghost use Rattle.laws.specs.Basics.{◌≤◌, length};
-ghost use Rattle.std.specs.Prelude.{IfOk};
+ghost use Rattle.laws.specs.Basics.{length};
+ghost use Rattle.std.specs.Prelude.{IfOk, ◌≤◌};
 
 use crate::Source;
 use std::fs::File;

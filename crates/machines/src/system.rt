@@ -1,7 +1,8 @@
 // One function for each kind of request: the call of the system, and what it answered. No contract can say what a call reads or writes, so these lines have to be
 // checked by reading. Each function also takes the request that it obeys, which says which bytes it is about, and ensures that the answer is what some numbers of the
 // system's come to (`Comes` in `specs/Forms`): only these numbers are left open.
-ghost use Rattle.laws.specs.Basics.{◌≡◌, ◌+◌, ◌≤◌, length};
+ghost use Rattle.std.specs.Prelude.{◌≡◌, ◌+◌, ◌≤◌};
+ghost use Rattle.laws.specs.Basics.{length};
 ghost use Rattle.machines.specs.Forms.{Around, read_answer, word_answer, done_answer, open_answer, Comes, Fits};
 
 use crate::streams::{EILSEQ, EINVAL, ENAMETOOLONG, Streams};

@@ -1,6 +1,7 @@
 -- The numbers of the refusals: the table the other way round, from a number to its refusal, and what follows from it.
 -- Assumes nothing.
-use Rattle.laws.specs.Basics.{◌≡◌, refl, sym, ◌∙◌, ap, true, ◌||◌, List, [], ◌∷◌, ℕ, ◌≤◌, arith, eqb, leb, get_or, ne_eqb, eqb-true, leb-true, leb-false, by_bool}
+use Rattle.std.specs.Prelude.{◌≡◌, ◌||◌, ◌∷◌, ◌≤◌}
+use Rattle.laws.specs.Basics.{refl, sym, ◌∙◌, ap, true, List, [], ℕ, arith, eqb, leb, get_or, ne_eqb, eqb-true, leb-true, leb-false, by_bool}
 use lib.ListN.{get_or-eq_default}
 use Rattle.laws.specs.Search.{all_below, all_out}
 use Rattle.model.specs.declared.Refusal.{Refusal}

@@ -1,6 +1,7 @@
 -- The line rule on a sound state is one of precedence: it accepts a state exactly if the last stored checkpoint of no failed process comes causally before it.
 -- Assumes nothing.
-use Rattle.laws.specs.Basics.{◌≡◌, true, not, ◌&&◌, ℕ, ◌-◌, ◌≤◌, arith, ltb, lt-ltb, le-ltb, ltb-true, ltb-false, by_bool}
+use Rattle.std.specs.Prelude.{◌≡◌, ◌&&◌, ◌-◌, ◌≤◌}
+use Rattle.laws.specs.Basics.{true, not, ℕ, arith, ltb, lt-ltb, le-ltb, ltb-true, ltb-false, by_bool}
 use Rattle.laws.specs.{Ranges.all_same, Search.all_below}
 use Rattle.model.specs.declared.{Checkpoint.Checkpoint, Run.Run}
 use Rattle.model.specs.{Words.entry, Words.last_stored_of, Words.comes_before, Words.own, Words.failed, Steps.allowed, Sound.sound, laws.Sound.sound_state}

@@ -1,7 +1,8 @@
 -- Records and events: every well-formed record stands for one event, and every event that fits the fields has one record.
 -- A record goes to its word of 32 bits, to its three fields, to its event; each of these steps is undone by the step back.
 -- Assumes nothing.
-use Rattle.laws.specs.Basics.{◌≡◌, refl, sym, ◌∙◌, ap, true, ◌&&◌, false≢true, List, [], ◌∷◌, Option, none, some, ℕ, zero, suc, ◌/◌, ◌%◌, ◌≤◌, ◌<◌, arith, eqb, ltb, length, eqb-true, lt-ltb, ltb-true, by_bool}
+use Rattle.std.specs.Prelude.{◌≡◌, ◌&&◌, ◌∷◌, ◌/◌, ◌%◌, ◌≤◌, ◌<◌}
+use Rattle.laws.specs.Basics.{refl, sym, ◌∙◌, ap, true, false≢true, List, [], Option, none, some, ℕ, zero, suc, arith, eqb, ltb, length, eqb-true, lt-ltb, ltb-true, by_bool}
 use Rattle.laws.specs.{Options.some_same, Options.none≢some, Truth.and_left, Truth.and_right, Tests.every}
 use Rattle.model.specs.declared.{Fields.Fields, Event.Event}
 use Rattle.model.specs.declared.Event.TheVariants.{Checkpoint, Send, Deliver, Lose, Recover}

@@ -1,6 +1,7 @@
 -- The set of entries that rose is exact, of any two vectors (specs/Risen).
 -- Assumes nothing.
-use Rattle.laws.specs.Basics.{◌≡◌, sym, ◌∙◌, ap, Bool, not, List, ℕ, ◌≤◌, ◌<◌, arith, eqb, eq-eqb, ne_eqb, le-ltb, by_bool}
+use Rattle.std.specs.Prelude.{◌≡◌, ◌≤◌, ◌<◌}
+use Rattle.laws.specs.Basics.{sym, ◌∙◌, ap, Bool, not, List, ℕ, arith, eqb, eq-eqb, ne_eqb, le-ltb, by_bool}
 use Rattle.laws.specs.{Bits.bits_of, Bits.bits_less, Bits.bits_at, Bits.bits_past, Bits.bits_none, Bits.bits_some, Tables.get_d_table}
 use Rattle.laws.specs.Search.{any_below, any_out, any_none}
 use Rattle.model.specs.declared.Interval.{Interval}

@@ -1,6 +1,7 @@
 -- The numbers that documents 01 and 02 give the refusals: 1 to 25 without 6, each to one refusal.
 -- Assumes nothing.
-use Rattle.laws.specs.Basics.{◌≡◌, ℕ, ◌≤◌}
+use Rattle.std.specs.Prelude.{◌≡◌, ◌≤◌}
+use Rattle.laws.specs.Basics.{ℕ}
 use Rattle.model.specs.declared.Refusal.{Refusal}
 use Rattle.model.specs.Refusals.{number}
 

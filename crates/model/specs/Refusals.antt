@@ -1,6 +1,7 @@
 -- Document 01, "Who can cause which refusal": the numbers, and for each call its tests in the table's order.
 -- Assumes nothing.
-use Rattle.laws.specs.Basics.{Bool, true, false, not, ◌&&◌, ◌||◌, List, [], ◌∷◌, Option, none, some, ℕ, ◌+◌, ◌*◌, ◌^◌, eqb, ltb, leb, length, get_or, pick}
+use Rattle.std.specs.Prelude.{◌&&◌, ◌||◌, ◌∷◌, ◌+◌, ◌*◌, ◌^◌}
+use Rattle.laws.specs.Basics.{Bool, true, false, not, List, [], Option, none, some, ℕ, eqb, ltb, leb, length, get_or, pick}
 use Rattle.laws.specs.Search.{any_below}
 use Rattle.model.specs.declared.{Message.Message, Run.Run, Refusal.Refusal}
 use Rattle.model.specs.declared.Refusal.TheVariants.{CountOutsideRange, UnsoundState, ListTooShort, NoSuchProcess, SenderIsReceiver, NoSuchFailedProcess, NotUnderWay, TooManyUnderWay, MessageNumbersUsed, IntervalsUsed, NoFirstByte, LeftOverBytes, MalformedRecord, BlockCountOutsideRange, BlocksUsed, TooManyRecords, UnfitNamedList, NotKept, CausallyOrdered, BufferTooShort, TrialOutsideRange, HalvesMismatch, NeitherReady, Denied}

@@ -2,7 +2,8 @@
 -- What the set is, of any two vectors, whatever their lengths. proofs/Risen has the proof. The crate whole_runs says the same of a delivery by the
 -- history alone, in specs/Answers.
 -- Assumes nothing.
-use Rattle.laws.specs.Basics.{◌≡◌, false, not, List, ℕ, ◌≤◌, ◌<◌, eqb}
+use Rattle.std.specs.Prelude.{◌≡◌, ◌≤◌, ◌<◌}
+use Rattle.laws.specs.Basics.{false, not, List, ℕ, eqb}
 use Rattle.model.specs.declared.Interval.{Interval}
 use Rattle.model.specs.{Words.most_processes, Words.entry, Words.below, Words.in_set, Steps.newer, Steps.taken_vector, Steps.risen}
 

@@ -1,6 +1,7 @@
 -- Document 01, "A sound state", clause by clause, and after it the clauses of Note 5.
 -- Assumes nothing.
-use Rattle.laws.specs.Basics.{Bool, true, false, not, ◌&&◌, List, [], ◌∷◌, map, ℕ, suc, ◌+◌, eqb, ltb, leb, get_or, drop, pick}
+use Rattle.std.specs.Prelude.{◌&&◌, ◌∷◌, ◌+◌}
+use Rattle.laws.specs.Basics.{Bool, true, false, not, List, [], map, ℕ, suc, eqb, ltb, leb, get_or, drop, pick}
 use Rattle.laws.specs.{Lists.or_else, Lists.last_of, Search.all_below, Sums.sum_below, Tests.every, Tests.some_of}
 use Rattle.model.specs.declared.{Interval.Interval, Pin.Pin, Pin.TheVariants.Nothing, Pin.TheVariants.At, Checkpoint.Checkpoint, Message.Message}
 use Rattle.model.specs.declared.Run.{Run}

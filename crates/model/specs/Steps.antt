@@ -1,6 +1,7 @@
 -- Document 01, "Steps": what each accepted call does. Each definition stands under the sentence that it says.
 -- Assumes nothing.
-use Rattle.laws.specs.Basics.{Bool, true, false, not, ◌&&◌, ◌||◌, List, [], ◌∷◌, ◌++◌, map, Option, none, some, ℕ, zero, suc, ◌+◌, eqb, ltb, leb, get_or, set, pick}
+use Rattle.std.specs.Prelude.{◌&&◌, ◌||◌, ◌∷◌, ◌++◌, ◌+◌}
+use Rattle.laws.specs.Basics.{Bool, true, false, not, List, [], map, Option, none, some, ℕ, zero, suc, eqb, ltb, leb, get_or, set, pick}
 use Rattle.laws.specs.{Bits.bits_of, Lists.select, Lists.or_else, Lists.last_of, Lists.table, Lists.gather, Search.all_below, Search.any_below, Sums.sum_below}
 use Rattle.laws.specs.Tests.{count_below}
 use Rattle.model.specs.declared.{Interval.Interval, CheckpointIndex.CheckpointIndex, Pin.Pin, Pin.TheVariants.Nothing, Pin.TheVariants.At, Disk.Disk}

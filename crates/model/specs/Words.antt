@@ -1,6 +1,7 @@
 -- Document 01, "What the library covers" and "Words": limits, vectors, pins, kept checkpoints, the part of a state that is one process's.
 -- Assumes nothing.
-use Rattle.laws.specs.Basics.{Bool, false, List, [], ◌∷◌, ℕ, ◌+◌, ◌-◌, eqb, ltb, length, get_or, take, set, replicate}
+use Rattle.std.specs.Prelude.{◌∷◌, ◌+◌, ◌-◌}
+use Rattle.laws.specs.Basics.{Bool, false, List, [], ℕ, eqb, ltb, length, get_or, take, set, replicate}
 use Rattle.laws.specs.{Bits.bit, Lists.placed, Tests.some_of}
 use Rattle.model.specs.declared.{Interval.Interval, CheckpointIndex.CheckpointIndex, Pin.Pin, Pin.TheVariants.Nothing, Pin.TheVariants.At, Disk.Disk}
 use Rattle.model.specs.declared.{Checkpoint.Checkpoint, Message.Message, Run.Run}

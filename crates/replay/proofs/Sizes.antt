@@ -1,6 +1,7 @@
 -- Buffers that are large enough; they keep their sizes, so it is one machine all along.
 -- Assumes nothing.
-use Rattle.laws.specs.Basics.{◌≡◌, true, List, ℕ, ◌≤◌, eq-eqb, le-leb}
+use Rattle.std.specs.Prelude.{◌≡◌, ◌≤◌}
+use Rattle.laws.specs.Basics.{true, List, ℕ, eq-eqb, le-leb}
 use Rattle.listing.specs.Lines.{longest_line}
 use Rattle.words.specs.Layout.{state_size}
 use Rattle.machines.specs.{Machines.Answer, Machines.stepped, Forms.Asks}

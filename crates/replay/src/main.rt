@@ -3,7 +3,8 @@
 
 #![tactic(auto)]
 
-ghost use Rattle.laws.specs.Basics.{◌≡◌, ◌≤◌, length};
+ghost use Rattle.std.specs.Prelude.{◌≡◌, ◌≤◌};
+ghost use Rattle.laws.specs.Basics.{length};
 ghost use Rattle.listing.specs.Lines.{longest_line};
 ghost use Rattle.words.specs.Layout.{state_size};
 ghost use Rattle.machines.specs.Machines.{Ended};

@@ -1,7 +1,8 @@
 -- One accepted call, followed in the sub-run without checkpoint g of f and all that comes after it: it is taken over, becomes a loss or is left out.
 -- Process i, which never knows more than g of f, sees the same.
 -- Assumes nothing.
-use Rattle.laws.specs.Basics.{◌≡◌, refl, sym, ◌∙◌, ap, subst, true, false, ◌&&◌, List, [], ◌∷◌, ◌++◌, none, ◌⊎◌, inl, inr, ℕ, suc, ◌+◌, ◌≤◌, ◌<◌, arith, eqb, leb, length, ne_eqb, le-leb, leb-true, leb-false, pick, by_bool}
+use Rattle.std.specs.Prelude.{◌≡◌, ◌&&◌, ◌∷◌, ◌++◌, ◌⊎◌, ◌+◌, ◌≤◌, ◌<◌}
+use Rattle.laws.specs.Basics.{refl, sym, ◌∙◌, ap, subst, true, false, List, [], none, inl, inr, ℕ, suc, arith, eqb, leb, length, ne_eqb, le-leb, leb-true, leb-false, pick, by_bool}
 use Rattle.laws.specs.{Counting.count_mono, Tests.count_below, Truth.never_both, Truth.and_left}
 use Rattle.model.specs.Words.{basic, most_processes, most_under_way, most_interval, most_blocks}
 use Rattle.model.specs.declared.Named.{Named}

@@ -1,6 +1,7 @@
 -- Note 12, proved: a merge that comes to its end keeps both halves' orders, and each record stands in the half of its process.
 -- Assumes nothing.
-use Rattle.laws.specs.Basics.{◌≡◌, refl, sym, ◌∙◌, ap, fun_ext, Bool, true, false, not, ◌&&◌, ◌||◌, List, [], ◌∷◌, ◌++◌, map, append_assoc, Option, none, some, ◌⊎◌, inl, inr, ℕ, zero, suc, ◌+◌, ◌/◌, ◌%◌, ◌≤◌, ◌<◌, arith, eqb, leb, length, leb-true, not-true, not-false, by_bool}
+use Rattle.std.specs.Prelude.{◌≡◌, ◌&&◌, ◌||◌, ◌∷◌, ◌++◌, ◌⊎◌, ◌+◌, ◌/◌, ◌%◌, ◌≤◌, ◌<◌}
+use Rattle.laws.specs.Basics.{refl, sym, ◌∙◌, ap, fun_ext, Bool, true, false, not, List, [], map, append_assoc, Option, none, some, inl, inr, ℕ, zero, suc, arith, eqb, leb, length, leb-true, not-true, not-false, by_bool}
 use Rattle.laws.specs.{Tests.every, Truth.and_both}
 use Rattle.model.specs.declared.{Fields.Fields, Refusal.Refusal}
 use Rattle.model.specs.{Words.in_set, Trace.if_zero_of, laws.Refusals.no_rule}

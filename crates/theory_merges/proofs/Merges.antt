@@ -1,6 +1,7 @@
 -- The table of merges, by computation.
 -- Assumes nothing.
-use Rattle.laws.specs.Basics.{◌≡◌, refl, true}
+use Rattle.std.specs.Prelude.{◌≡◌}
+use Rattle.laws.specs.Basics.{refl, true}
 use Rattle.laws.specs.Tests.{every, same}
 use Rattle.model.specs.{Refusals.number, Refusals.first_of, Trace.word, Trace.fields, Trace.if_zero_of, Trace.fields_of, Trace.word_of_def, Trace.bytes_of_def}
 use Rattle.theory_merges.specs.Halves.{is_send, send_by, how_many, is_send_number, message_number, receives, receiver_of, plain_event, happens_at}

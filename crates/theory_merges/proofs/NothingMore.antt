@@ -2,7 +2,8 @@
 -- It is the run without checkpoint g of f and all that comes causally after it, where the process's pin for f names the checkpoint and g is the last interval of f that the
 -- process knows.
 -- Assumes nothing.
-use Rattle.laws.specs.Basics.{◌≡◌, refl, sym, ◌∙◌, ap, Bool, true, false, not, ◌&&◌, List, [], ◌∷◌, none, some, inl, inr, ℕ, suc, ◌≤◌, ◌<◌, arith, leb, eq-eqb, leb-true, leb-false, pick, by_bool}
+use Rattle.std.specs.Prelude.{◌≡◌, ◌&&◌, ◌∷◌, ◌≤◌, ◌<◌}
+use Rattle.laws.specs.Basics.{refl, sym, ◌∙◌, ap, Bool, true, false, not, List, [], none, some, inl, inr, ℕ, suc, arith, leb, eq-eqb, leb-true, leb-false, pick, by_bool}
 use Rattle.laws.specs.Truth.{never_both, and_left, and_right}
 use Rattle.model.specs.declared.{Run.Run, Refusal.Refusal}
 use Rattle.model.specs.{Words.basic, Words.forced, laws.Refusals.by_refusal}

@@ -1,6 +1,7 @@
 -- Note 12, proved: any two orders of two halves in which every record is accepted end with the same vectors, pins and kept checkpoints.
 -- Assumes nothing.
-use Rattle.laws.specs.Basics.{◌≡◌, refl, sym, ◌∙◌, ap, subst, Bool, true, false, not, ◌&&◌, List, [], ◌∷◌, ◌++◌, none, ◌⊎◌, ℕ, suc, ◌+◌, ◌≤◌, ◌<◌, arith, eqb, length, eqb-true, by_bool}
+use Rattle.std.specs.Prelude.{◌≡◌, ◌&&◌, ◌∷◌, ◌++◌, ◌⊎◌, ◌+◌, ◌≤◌, ◌<◌}
+use Rattle.laws.specs.Basics.{refl, sym, ◌∙◌, ap, subst, Bool, true, false, not, List, [], none, ℕ, suc, arith, eqb, length, eqb-true, by_bool}
 use Rattle.laws.specs.{Lists.select, Tests.every, Truth.never_both, Truth.and_left, Truth.and_right, Truth.and_both}
 use Rattle.model.specs.declared.Run.{Run}
 use Rattle.model.specs.{Words.in_set, Words.with_messages, Words.with_disk, Words.blank, Steps.with_processes, laws.Refusals.by_refusal}

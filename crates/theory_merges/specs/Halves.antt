@@ -1,6 +1,7 @@
 -- Document 02, Note 12, "Two halves of one run": the records of two halves, orders of them, and what any two orders have in common. Merge has the merge.
 -- Assumes nothing.
-use Rattle.laws.specs.Basics.{◌≡◌, Bool, true, false, not, ◌&&◌, List, [], ◌∷◌, ◌++◌, none, ◌⊎◌, ℕ, suc, eqb, leb, pick}
+use Rattle.std.specs.Prelude.{◌≡◌, ◌&&◌, ◌∷◌, ◌++◌, ◌⊎◌}
+use Rattle.laws.specs.Basics.{Bool, true, false, not, List, [], none, ℕ, suc, eqb, leb, pick}
 use Rattle.laws.specs.Tests.{every}
 use Rattle.model.specs.declared.{Run.Run, Event.Event}
 use Rattle.model.specs.declared.Event.TheVariants.{Checkpoint, Send, Deliver, Lose}

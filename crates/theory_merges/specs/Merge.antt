@@ -1,6 +1,7 @@
 -- Document 02, Note 12, "Two halves of one run": the merge of two halves.
 -- Assumes nothing.
-use Rattle.laws.specs.Basics.{◌≡◌, Bool, true, false, not, ◌&&◌, ◌||◌, List, [], ◌∷◌, ◌++◌, map, Option, none, some, ℕ, zero, suc, ◌+◌, ◌*◌, ◌/◌, ◌%◌, ◌^◌, ◌≤◌, ◌<◌, eqb, ltb, leb, length, pick}
+use Rattle.std.specs.Prelude.{◌≡◌, ◌&&◌, ◌||◌, ◌∷◌, ◌++◌, ◌+◌, ◌*◌, ◌/◌, ◌%◌, ◌^◌, ◌≤◌, ◌<◌}
+use Rattle.laws.specs.Basics.{Bool, true, false, not, List, [], map, Option, none, some, ℕ, zero, suc, eqb, ltb, leb, length, pick}
 use Rattle.model.specs.declared.{Run.Run, Fields.Fields, Refusal.Refusal, MergeAnswer.MergeAnswer}
 use Rattle.model.specs.declared.Refusal.TheVariants.{CountOutsideRange, ListTooShort, NoSuchProcess, SenderIsReceiver, NoSuchFailedProcess, NoFirstByte, LeftOverBytes, MalformedRecord, TooManyRecords, HalvesMismatch, NeitherReady}
 use Rattle.model.specs.{Words.most_processes, Words.in_set, Refusals.first_of, Trace.fields, Trace.if_zero_of, Trace.fields_of, Trace.word_of_def, Trace.bytes_of_def}

@@ -1,7 +1,8 @@
 -- A table of merges, for Note 12 of document 02: what is written of two halves, and for each number two halves that meet it and also the number that comes
 -- next. proofs/Merges has the theorem.
 -- Assumes nothing.
-use Rattle.laws.specs.Basics.{Bool, ◌&&◌, List, [], ◌∷◌, ℕ, eqb, replicate, pick}
+use Rattle.std.specs.Prelude.{◌&&◌, ◌∷◌}
+use Rattle.laws.specs.Basics.{Bool, List, [], ℕ, eqb, replicate, pick}
 use Rattle.laws.specs.Tests.{every, same}
 use Rattle.theory_merges.specs.Merge.{merge_outcome, merge_report}
 

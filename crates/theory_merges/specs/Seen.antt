@@ -1,6 +1,7 @@
 -- Note 14, "Nothing more could go": what a process sees of a run, and that no rule that goes by it could delete more. proofs/NothingMore has the theorems.
 -- Assumes nothing.
-use Rattle.laws.specs.Basics.{◌≡◌, Bool, true, false, not, ◌&&◌, List, [], ◌∷◌, ◌++◌, Option, none, some, ℕ, ◌^◌, ◌<◌, eqb, replicate, pick}
+use Rattle.std.specs.Prelude.{◌≡◌, ◌&&◌, ◌∷◌, ◌++◌, ◌^◌, ◌<◌}
+use Rattle.laws.specs.Basics.{Bool, true, false, not, List, [], Option, none, some, ℕ, eqb, replicate, pick}
 use Rattle.model.specs.declared.{Interval.Interval, Run.Run}
 use Rattle.model.specs.{Words.ones, Refusals.start_refusal}
 use Rattle.whole_runs.specs.{Outcomes.message, Outcomes.start_outcome, Survival.surviving, Best.InBestLine}

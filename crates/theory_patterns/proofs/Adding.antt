@@ -1,6 +1,7 @@
 -- One more event at the end of one list: what stands where then.
 -- Assumes nothing.
-use Rattle.laws.specs.Basics.{◌≡◌, refl, ◌∙◌, ap, List, [], ◌∷◌, ◌++◌, some, ◌⊎◌, inl, inr, ℕ, zero, suc, ◌≤◌, arith, length, by_eq}
+use Rattle.std.specs.Prelude.{◌≡◌, ◌∷◌, ◌++◌, ◌⊎◌, ◌≤◌}
+use Rattle.laws.specs.Basics.{refl, ◌∙◌, ap, List, [], some, inl, inr, ℕ, zero, suc, arith, length, by_eq}
 use Rattle.laws.specs.{Options.none≢some, Update.upd_same, Update.upd_other}
 use Rattle.histories.specs.History.{HistoryEvent, stored, sent, received, Lists, checkpoints}
 use Rattle.whole_runs.specs.Survival.{added}

@@ -1,6 +1,7 @@
 -- The table of traces, by computation.
 -- Assumes nothing.
-use Rattle.laws.specs.Basics.{◌≡◌, refl, true}
+use Rattle.std.specs.Prelude.{◌≡◌}
+use Rattle.laws.specs.Basics.{refl, true}
 use Rattle.laws.specs.{Search.any_below, Tests.count_below, Tests.every, Update.upd}
 use Rattle.model.specs.{Sound.is_block_count_of, Refusals.number, Refusals.first_of, Refusals.start_refusal}
 use Rattle.model.specs.Trace.{word, fields, if_zero_of, event_of_def, decoded}

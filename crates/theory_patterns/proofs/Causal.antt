@@ -1,6 +1,7 @@
 -- Source document 001, equation 2: state α of a causally precedes state β of b exactly if α is less than entry a of that state's vector.
 -- Assumes nothing.
-use Rattle.laws.specs.Basics.{◌≡◌, ap, some, inl, inr, ℕ, zero, suc, ◌≤◌, ◌<◌, arith, length, by_eq}
+use Rattle.std.specs.Prelude.{◌≡◌, ◌≤◌, ◌<◌}
+use Rattle.laws.specs.Basics.{ap, some, inl, inr, ℕ, zero, suc, arith, length, by_eq}
 use Rattle.histories.specs.History.{sent, received, Lists, checkpoints}
 use Rattle.theory_patterns.specs.Paths.{event_at, interval, place_of, Precedes, message, through, Before}
 use Rattle.theory_patterns.proofs.Core.{Vectors, higher}

@@ -2,7 +2,8 @@
 -- knows more of f than the state that ends its receiver's interval. Without a crossing message every zigzag path goes with precedence; the first near end
 -- that breaks is read off the crossing messages.
 -- Assumes nothing.
-use Rattle.laws.specs.Basics.{◌≡◌, ap, ◌⊎◌, inl, inr, ℕ, zero, suc, ◌-◌, ◌≤◌, ◌<◌, arith, ltb, ltb-true, ltb-false, by_bool, by_eq}
+use Rattle.std.specs.Prelude.{◌≡◌, ◌⊎◌, ◌-◌, ◌≤◌, ◌<◌}
+use Rattle.laws.specs.Basics.{ap, inl, inr, ℕ, zero, suc, arith, ltb, ltb-true, ltb-false, by_bool, by_eq}
 use Rattle.histories.specs.History.{sent, received, Lists, checkpoints}
 use Rattle.theory_patterns.specs.Paths.{StandsIn, Path, one, onward}
 use Rattle.theory_patterns.proofs.Placing.{stands_le}

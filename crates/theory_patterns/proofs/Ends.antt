@@ -1,6 +1,7 @@
 -- What ends a reading: the first record that is refused, whatever stands after it; and a trace of more than 4,096 records, of which no more bytes need to be read.
 -- Assumes nothing.
-use Rattle.laws.specs.Basics.{◌≡◌, refl, List, [], ◌∷◌, ◌++◌, Option, none, some, ℕ, zero, suc, ◌*◌, ◌/◌, ◌≤◌, ◌<◌, arith, length, length-append, lt-ltb, le-ltb}
+use Rattle.std.specs.Prelude.{◌≡◌, ◌∷◌, ◌++◌, ◌*◌, ◌/◌, ◌≤◌, ◌<◌}
+use Rattle.laws.specs.Basics.{refl, List, [], Option, none, some, ℕ, zero, suc, arith, length, length-append, lt-ltb, le-ltb}
 use Rattle.model.specs.declared.Refusal.{Refusal}
 use Rattle.model.specs.Trace.{decoded}
 use Rattle.whole_runs.specs.Outcomes.{judged}

@@ -1,6 +1,7 @@
 -- A trail gives what the verdict asks for: the vectors with their laws, and where knowledge comes from.
 -- Assumes nothing.
-use Rattle.laws.specs.Basics.{◌≡◌, refl, ◌∙◌, ap, List, [], ◌∷◌, some, ℕ, zero, suc, ◌-◌, ◌≤◌, ◌<◌, arith, eqb, eq-eqb, ne_eqb, pick, by_eq}
+use Rattle.std.specs.Prelude.{◌≡◌, ◌∷◌, ◌-◌, ◌≤◌, ◌<◌}
+use Rattle.laws.specs.Basics.{refl, ◌∙◌, ap, List, [], some, ℕ, zero, suc, arith, eqb, eq-eqb, ne_eqb, pick, by_eq}
 use Rattle.histories.specs.History.{HistoryEvent, stored, sent, received, checkpoints}
 use Rattle.theory_patterns.specs.Paths.{event_at, interval, Path, one, onward}
 use Rattle.theory_patterns.proofs.{Core.Vectors, Causal.Sources, Placing.first_event, Placing.stands_at, Placing.interval_before, Trail.Trail, Trail.own, Trail.Right}

@@ -1,7 +1,8 @@
 -- The verdict: without a crossing message a pattern is trackable; with one, the first pair that breaks is the least crossing and the least of what its
 -- closure reaches.
 -- Assumes nothing.
-use Rattle.laws.specs.Basics.{◌≡◌, ap, ◌⊎◌, inl, inr, ℕ, suc, ◌≤◌, ◌<◌, arith, ltb, ltb-true, ltb-false, by_bool}
+use Rattle.std.specs.Prelude.{◌≡◌, ◌⊎◌, ◌≤◌, ◌<◌}
+use Rattle.laws.specs.Basics.{ap, inl, inr, ℕ, suc, arith, ltb, ltb-true, ltb-false, by_bool}
 use Rattle.histories.specs.History.{sent, received, Lists, checkpoints}
 use Rattle.theory_patterns.specs.Paths.{StandsIn, Path, one, onward, Before, Breaking, Trackable, Earlier, FirstBreaking}
 use Rattle.theory_patterns.proofs.{Placing.stands_le, Core.Vectors, Core.Crossing, Core.higher, Core.known_or_crossing, Core.reached}

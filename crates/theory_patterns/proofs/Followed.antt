@@ -1,6 +1,7 @@
 -- Every trace that is read to its end leaves a pattern with a trail: so its lists have vectors with their laws.
 -- Assumes nothing.
-use Rattle.laws.specs.Basics.{◌≡◌, refl, sym, ◌∙◌, ap, Bool, true, false, not, false≢true, [], ◌∷◌, Option, none, some, ℕ, suc, ◌+◌, arith, length, by_eq}
+use Rattle.std.specs.Prelude.{◌≡◌, ◌∷◌, ◌+◌}
+use Rattle.laws.specs.Basics.{refl, sym, ◌∙◌, ap, Bool, true, false, not, false≢true, [], Option, none, some, ℕ, suc, arith, length, by_eq}
 use native.Mathlib.Numerals.{add-one}
 use Rattle.laws.specs.{Options.none≢some, Update.upd, Update.upd_same, Update.upd_other}
 use Rattle.model.specs.declared.{Event.Event, Refusal.Refusal}

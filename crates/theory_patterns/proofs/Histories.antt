@@ -1,6 +1,7 @@
 -- Every surviving history of the product is trackable, and its states' vectors say exactly which checkpoints come causally before them.
 -- Assumes nothing.
-use Rattle.laws.specs.Basics.{◌≡◌, sym, ◌∙◌, ap, Bool, true, false, List, [], ◌∷◌, ◌++◌, ◌⊎◌, inl, inr, ℕ, zero, suc, ◌≤◌, ◌<◌, arith, lt-ltb, ltb-true, pick}
+use Rattle.std.specs.Prelude.{◌≡◌, ◌∷◌, ◌++◌, ◌⊎◌, ◌≤◌, ◌<◌}
+use Rattle.laws.specs.Basics.{sym, ◌∙◌, ap, Bool, true, false, List, [], inl, inr, ℕ, zero, suc, arith, lt-ltb, ltb-true, pick}
 use mathlib.Core.List.Memᴰ
 use mathlib.Core.List.{Memᴰ}
 use Rattle.model.specs.declared.{Checkpoint.Checkpoint, Interval.Interval, Run.Run}

@@ -1,6 +1,7 @@
 -- A trace that is read to its end leaves a pattern whose processes are among n and whose messages have the numbers 1 to the number of sends.
 -- Assumes nothing.
-use Rattle.laws.specs.Basics.{◌≡◌, sym, ◌∙◌, ap, true, false, false≢true, List, [], ◌∷◌, Option, none, some, inl, inr, ℕ, suc, ◌+◌, ◌/◌, ◌<◌, arith, ltb, leb, length, leb-false, not-false, by_bool, by_eq}
+use Rattle.std.specs.Prelude.{◌≡◌, ◌∷◌, ◌+◌, ◌/◌, ◌<◌}
+use Rattle.laws.specs.Basics.{sym, ◌∙◌, ap, true, false, false≢true, List, [], Option, none, some, inl, inr, ℕ, suc, arith, ltb, leb, length, leb-false, not-false, by_bool, by_eq}
 use Rattle.laws.specs.{Options.none≢some, Truth.or_none, Update.upd, Update.upd_same, Update.upd_other}
 use Rattle.model.specs.declared.{Event.Event, Refusal.Refusal}
 use Rattle.model.specs.declared.Event.TheVariants.{Checkpoint, Send, Deliver, Lose, Recover}

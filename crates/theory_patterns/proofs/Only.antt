@@ -1,6 +1,7 @@
 -- At most one verdict on a trace is right, so a contract that promises a right one fixes it.
 -- Assumes nothing.
-use Rattle.laws.specs.Basics.{◌≡◌, refl, sym, ap, List, inl, inr, ℕ, ◌<◌, arith, ltb, ltb-true, ltb-false, by_bool, by_eq}
+use Rattle.std.specs.Prelude.{◌≡◌, ◌<◌}
+use Rattle.laws.specs.Basics.{refl, sym, ap, List, inl, inr, ℕ, arith, ltb, ltb-true, ltb-false, by_bool, by_eq}
 use Rattle.model.specs.declared.Refusal.{Refusal}
 use Rattle.histories.specs.History.{Lists}
 use Rattle.theory_patterns.specs.declared.{Verdict.Verdict, Verdict.TheVariants.Refused, Verdict.TheVariants.Trackable, Verdict.TheVariants.Breaks}

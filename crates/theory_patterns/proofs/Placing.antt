@@ -1,6 +1,7 @@
 -- Places in one list: which interval an event at a place stands in, and the places of its states.
 -- Assumes nothing.
-use Rattle.laws.specs.Basics.{◌≡◌, refl, sym, List, [], ◌∷◌, some, ℕ, zero, suc, ◌≤◌, ◌<◌, arith, ltb, length, ltb-true, ltb-false, by_bool, by_eq}
+use Rattle.std.specs.Prelude.{◌≡◌, ◌∷◌, ◌≤◌, ◌<◌}
+use Rattle.laws.specs.Basics.{refl, sym, List, [], some, ℕ, zero, suc, arith, ltb, length, ltb-true, ltb-false, by_bool, by_eq}
 use Rattle.laws.specs.Options.{some_same, none≢some}
 use Rattle.histories.specs.History.{HistoryEvent, stored, sent, received, Lists, checkpoints}
 use Rattle.theory_patterns.specs.Paths.{event_at, interval, StandsIn, place_of, Precedes, next, through}

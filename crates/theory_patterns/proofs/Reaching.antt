@@ -1,7 +1,8 @@
 -- What comes after a checkpoint of a process, the near end: later places of its list, and places after the receipt of a message that carries it.
 -- Which messages carry it is said by its two laws: those that the process sends after it, and those that are sent after such a receipt.
 -- Assumes nothing.
-use Rattle.laws.specs.Basics.{◌≡◌, refl, sym, ◌∙◌, some, ◌⊎◌, inl, inr, ℕ, ◌≤◌, ◌<◌, arith, by_eq}
+use Rattle.std.specs.Prelude.{◌≡◌, ◌⊎◌, ◌≤◌, ◌<◌}
+use Rattle.laws.specs.Basics.{refl, sym, ◌∙◌, some, inl, inr, ℕ, arith, by_eq}
 use Rattle.laws.specs.Options.{some_same}
 use Rattle.histories.specs.History.{sent, received, Lists, checkpoints}
 use Rattle.histories.proofs.Apart.{sent_stored, sent_received}

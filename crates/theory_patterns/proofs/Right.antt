@@ -1,6 +1,7 @@
 -- The verdict on a trace is right, and it is the only one that is.
 -- Assumes nothing.
-use Rattle.laws.specs.Basics.{◌≡◌, refl, sym, List, [], ◌∷◌, ℕ, arith}
+use Rattle.std.specs.Prelude.{◌≡◌, ◌∷◌}
+use Rattle.laws.specs.Basics.{refl, sym, List, [], ℕ, arith}
 use Rattle.theory_patterns.specs.declared.Verdict.{Verdict}
 use Rattle.theory_patterns.specs.{Patterns.Pattern, Patterns.Reading, Patterns.refused, Patterns.whole, Patterns.reading, Judging.first_pair}
 use Rattle.theory_patterns.specs.Verdicts.{count_of, verdict_on, verdict, RightVerdict, VerdictsAreRight}

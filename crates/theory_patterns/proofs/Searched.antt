@@ -1,6 +1,7 @@
 -- The search of specs/Judging finds the first pair that breaks a pattern, and none exactly where the pattern is trackable.
 -- Assumes nothing.
-use Rattle.laws.specs.Basics.{◌≡◌, refl, sym, ◌∙◌, Bool, true, false, not, false≢true, Option, none, some, inl, inr, ℕ, zero, suc, ◌≤◌, ◌<◌, arith, pick, by_bool, by_eq}
+use Rattle.std.specs.Prelude.{◌≡◌, ◌≤◌, ◌<◌}
+use Rattle.laws.specs.Basics.{refl, sym, ◌∙◌, Bool, true, false, not, false≢true, Option, none, some, inl, inr, ℕ, zero, suc, arith, pick, by_bool, by_eq}
 use Rattle.laws.specs.{Options.some_same, Options.none≢some, Truth.never_both, Truth.and_out}
 use Rattle.histories.specs.History.{Lists, checkpoints}
 use Rattle.theory_patterns.specs.declared.{Verdict.Verdict, Verdict.TheVariants.Breaks}

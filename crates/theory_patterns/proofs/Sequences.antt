@@ -1,7 +1,8 @@
 -- Sequences of messages with numbers below a bound: no more messages than the bound are needed. Each length either adds a last message or adds none at any later
 -- length, and there are no more last messages than numbers.
 -- Assumes nothing.
-use Rattle.laws.specs.Basics.{◌≡◌, sym, Bool, true, false, not, ◌&&◌, false≢true, ◌⊎◌, inl, inr, ℕ, zero, suc, ◌<◌, arith, by_bool}
+use Rattle.std.specs.Prelude.{◌≡◌, ◌&&◌, ◌⊎◌, ◌<◌}
+use Rattle.laws.specs.Basics.{sym, Bool, true, false, not, false≢true, inl, inr, ℕ, zero, suc, arith, by_bool}
 use Rattle.laws.specs.{Truth.and_out, Truth.and_both, Truth.or_left, Truth.or_in_right, Truth.or_right, Tests.count_below}
 use Rattle.laws.specs.{Search.any_below, Search.any_out, Search.any_in, Search.any_none, Counting.count_le, Counting.count_some, Counting.count_split}
 use Rattle.theory_patterns.specs.Judging.{is_last}

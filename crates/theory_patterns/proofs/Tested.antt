@@ -1,6 +1,7 @@
 -- The tests of specs/Judging find exactly what specs/Paths defines: zigzag paths and causal precedence.
 -- Assumes nothing.
-use Rattle.laws.specs.Basics.{◌≡◌, refl, sym, ◌∙◌, ap, Bool, true, ◌&&◌, false≢true, List, Option, none, some, inl, inr, ℕ, zero, suc, ◌≤◌, ◌<◌, arith, eqb, ltb, leb, length, eq-eqb, eqb-true, lt-ltb, ltb-true, ltb-false, le-leb, leb-true, by_bool, by_eq}
+use Rattle.std.specs.Prelude.{◌≡◌, ◌&&◌, ◌≤◌, ◌<◌}
+use Rattle.laws.specs.Basics.{refl, sym, ◌∙◌, ap, Bool, true, false≢true, List, Option, none, some, inl, inr, ℕ, zero, suc, arith, eqb, ltb, leb, length, eq-eqb, eqb-true, lt-ltb, ltb-true, ltb-false, le-leb, leb-true, by_bool, by_eq}
 use Rattle.laws.specs.{Options.some_same, Truth.and_out, Truth.and_both, Truth.or_left, Truth.or_in_right, Truth.or_right, Search.any_out, Search.any_in}
 use Rattle.histories.specs.History.{HistoryEvent, stored, sent, received, Lists, checkpoints}
 use Rattle.histories.proofs.Apart.{received_stored}

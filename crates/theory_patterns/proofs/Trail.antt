@@ -1,6 +1,7 @@
 -- The vectors of a run without forcing, state by state, and what holds of them after every record: what Core and Causal ask for.
 -- Assumes nothing.
-use Rattle.laws.specs.Basics.{◌≡◌, refl, sym, ◌∙◌, ap, [], ◌∷◌, some, ◌⊎◌, inl, inr, ℕ, zero, suc, ◌≤◌, ◌<◌, max, arith, ltb, length, length-append, ltb-true, ltb-false, by_bool, by_eq}
+use Rattle.std.specs.Prelude.{◌≡◌, ◌∷◌, ◌⊎◌, ◌≤◌, ◌<◌}
+use Rattle.laws.specs.Basics.{refl, sym, ◌∙◌, ap, [], some, inl, inr, ℕ, zero, suc, max, arith, ltb, length, length-append, ltb-true, ltb-false, by_bool, by_eq}
 use Rattle.laws.specs.Update.{upd, upd_same, upd_other}
 use Rattle.histories.specs.History.{HistoryEvent, stored, sent, received, Lists, checkpoints}
 use Rattle.whole_runs.specs.Survival.{added}

@@ -1,6 +1,7 @@
 -- A table of traces, for Note 7 of document 02: what each is judged to be, by the number and the pair of its verdict. proofs/Cases has the theorem.
 -- Assumes nothing.
-use Rattle.laws.specs.Basics.{Bool, true, false, ◌&&◌, List, [], ◌∷◌, Option, none, some, ℕ, eqb, replicate}
+use Rattle.std.specs.Prelude.{◌&&◌, ◌∷◌}
+use Rattle.laws.specs.Basics.{Bool, true, false, List, [], Option, none, some, ℕ, eqb, replicate}
 use Rattle.laws.specs.Tests.{every}
 use Rattle.theory_patterns.specs.Verdicts.{Pair, judge_report, verdict}
 

@@ -1,6 +1,7 @@
 -- What is claimed of the surviving histories of whole runs: each is trackable, and a state's vector says exactly which checkpoints come causally before it.
 -- Assumes nothing.
-use Rattle.laws.specs.Basics.{◌≡◌, List, none, ℕ, ◌≤◌, ◌<◌}
+use Rattle.std.specs.Prelude.{◌≡◌, ◌≤◌, ◌<◌}
+use Rattle.laws.specs.Basics.{List, none, ℕ}
 use mathlib.Core.List.{Memᴰ}
 use Rattle.model.specs.declared.{Checkpoint.Checkpoint, Run.Run}
 use Rattle.model.specs.{Words.entry, Words.process, Refusals.start_refusal}

@@ -1,7 +1,8 @@
 -- Document 02, Note 7: the search for the first pair that breaks a pattern, by tests that follow the words of source document 001. What each test finds is
 -- what Paths defines, no more and no less (proofs/Tested, proofs/Searched).
 -- Assumes nothing.
-use Rattle.laws.specs.Basics.{Bool, false, not, ◌&&◌, ◌||◌, List, Option, none, some, ℕ, zero, suc, eqb, ltb, leb, length, pick}
+use Rattle.std.specs.Prelude.{◌&&◌, ◌||◌}
+use Rattle.laws.specs.Basics.{Bool, false, not, List, Option, none, some, ℕ, zero, suc, eqb, ltb, leb, length, pick}
 use Rattle.laws.specs.Search.{any_below}
 use Rattle.histories.specs.History.{HistoryEvent, stored, sent, received, Lists, checkpoints}
 use Rattle.theory_patterns.specs.{declared.Verdict.Verdict, declared.Verdict.TheVariants.Breaks, Paths.event_at, Paths.interval}

@@ -1,6 +1,7 @@
 -- Source document 001, definitions 1, 3 and 4, over lists of events: causal precedence, zigzag paths, and what it is to be trackable.
 -- Assumes nothing.
-use Rattle.laws.specs.Basics.{◌≡◌, List, [], ◌∷◌, Option, none, some, ◌⊎◌, ℕ, zero, suc, ◌≤◌, ◌<◌, length}
+use Rattle.std.specs.Prelude.{◌≡◌, ◌∷◌, ◌⊎◌, ◌≤◌, ◌<◌}
+use Rattle.laws.specs.Basics.{List, [], Option, none, some, ℕ, zero, suc, length}
 use Rattle.histories.specs.History.{HistoryEvent, stored, sent, received, Lists, checkpoints}
 
 -- The event at a place of a list, places counted from 0.

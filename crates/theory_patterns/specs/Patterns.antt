@@ -1,7 +1,8 @@
 -- Document 02, Note 7: a trace of another run-time is read into lists of events, one for each process, as the surviving history has them.
 -- "No delivery forces here."
 -- Assumes nothing.
-use Rattle.laws.specs.Basics.{Bool, true, false, not, ◌||◌, List, [], ◌∷◌, Option, none, some, ℕ, suc, ◌+◌, ◌/◌, eqb, ltb, leb, length, pick}
+use Rattle.std.specs.Prelude.{◌||◌, ◌∷◌, ◌+◌, ◌/◌}
+use Rattle.laws.specs.Basics.{Bool, true, false, not, List, [], Option, none, some, ℕ, suc, eqb, ltb, leb, length, pick}
 use Rattle.laws.specs.{Tests.count_below, Update.upd}
 use Rattle.model.specs.declared.{Event.Event, Refusal.Refusal}
 use Rattle.model.specs.declared.Event.TheVariants.{Checkpoint, Send, Deliver, Lose, Recover}

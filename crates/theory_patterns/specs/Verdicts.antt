@@ -1,7 +1,8 @@
 -- The verdict on a trace, as a function of its bytes; the number and the values of each verdict; and what it is for a verdict to be right, by paths and precedence
 -- alone. The verdict is right (proofs/Right: `verdict_right`), and no other is (proofs/Only: `one_verdict`).
 -- Assumes nothing.
-use Rattle.laws.specs.Basics.{◌≡◌, List, [], ◌∷◌, ◌++◌, Option, none, some, ℕ, ◌*◌, ◌/◌, ◌≤◌, length}
+use Rattle.std.specs.Prelude.{◌≡◌, ◌∷◌, ◌++◌, ◌*◌, ◌/◌, ◌≤◌}
+use Rattle.laws.specs.Basics.{List, [], Option, none, some, ℕ, length}
 use Rattle.laws.specs.Lists.{or_else}
 use Rattle.model.specs.declared.Refusal.{Refusal}
 use Rattle.model.specs.{Words.ones, Refusals.number, Refusals.start_refusal}

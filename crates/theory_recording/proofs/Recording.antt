@@ -1,6 +1,7 @@
 -- Note 9, proved: what was recorded replays the same.
 -- Assumes nothing.
-use Rattle.laws.specs.Basics.{◌≡◌, refl, sym, ◌∙◌, ap, Bool, true, false, not, List, [], ◌∷◌, ◌++◌, map, append-nil, append_assoc, none, some, ◌⊎◌, inl, inr, ℕ, zero, suc, ◌+◌, ◌-◌, ◌*◌, ◌≤◌, ◌<◌, min, arith, eqb, ltb, length, get_or, take, drop, replicate, length-append, length-replicate, get_or-replicate, sets, length-take-le, lt-ltb, le-ltb, ltb-true, ltb-false, by_bool}
+use Rattle.std.specs.Prelude.{◌≡◌, ◌∷◌, ◌++◌, ◌⊎◌, ◌+◌, ◌-◌, ◌*◌, ◌≤◌, ◌<◌}
+use Rattle.laws.specs.Basics.{refl, sym, ◌∙◌, ap, Bool, true, false, not, List, [], map, append-nil, append_assoc, none, some, inl, inr, ℕ, zero, suc, min, arith, eqb, ltb, length, get_or, take, drop, replicate, length-append, length-replicate, get_or-replicate, sets, length-take-le, lt-ltb, le-ltb, ltb-true, ltb-false, by_bool}
 use Rattle.std.proofs.Common.{mul-le-mul, take-append-drop, take_all, drop-drop, take_at, drop_at}
 use lib.Seq.{sets-eq, length-sets}
 use Rattle.laws.specs.{Choice.pick_same, Front.written_front, Lists.gather, Tables.length_table, Tests.every, Elements.every_append, Truth.and_right}

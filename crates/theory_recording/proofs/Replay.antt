@@ -1,6 +1,7 @@
 -- Accepted events and the replay of their records: the same state, the same replies.
 -- Assumes nothing.
-use Rattle.laws.specs.Basics.{◌≡◌, refl, ◌∙◌, ap, Bool, true, List, [], ◌∷◌, ◌++◌, map, none, some, ℕ, zero, suc, ◌+◌, ◌*◌, ◌^◌, ◌≤◌, ◌<◌, arith, eqb, ltb, length, length-append, eqb-true, lt-ltb, by_bool}
+use Rattle.std.specs.Prelude.{◌≡◌, ◌∷◌, ◌++◌, ◌+◌, ◌*◌, ◌^◌, ◌≤◌, ◌<◌}
+use Rattle.laws.specs.Basics.{refl, ◌∙◌, ap, Bool, true, List, [], map, none, some, ℕ, zero, suc, arith, eqb, ltb, length, length-append, eqb-true, lt-ltb, by_bool}
 use native.Mathlib.Nat.{pow-le-pow_right}
 use Rattle.laws.specs.{Lists.select, Prefixes.every_select, Tests.every, Truth.and_left, Truth.and_right, Truth.and_both, Truth.or_in_right}
 use Rattle.model.specs.declared.{Message.Message, Run.Run, Event.Event}

@@ -1,6 +1,7 @@
 -- Document 02, Note 9: a recorder. "A writer takes a call, does it, and appends the record to a lent buffer whose first byte is the count".
 -- Assumes nothing.
-use Rattle.laws.specs.Basics.{◌≡◌, Bool, true, false, List, [], ◌∷◌, ◌++◌, map, Option, none, some, ◌⊎◌, ℕ, ◌+◌, ◌-◌, ◌*◌, ◌≤◌, ◌<◌, eqb, ltb, length, get_or, take, drop, sets, pick}
+use Rattle.std.specs.Prelude.{◌≡◌, ◌∷◌, ◌++◌, ◌⊎◌, ◌+◌, ◌-◌, ◌*◌, ◌≤◌, ◌<◌}
+use Rattle.laws.specs.Basics.{Bool, true, false, List, [], map, Option, none, some, ℕ, eqb, ltb, length, get_or, take, drop, sets, pick}
 use Rattle.laws.specs.Tests.{every}
 use Rattle.model.specs.declared.{Named.Named, Run.Run, Event.Event, Refusal.Refusal, Refusal.TheVariants.BufferTooShort, StartAnswer.StartAnswer}
 use Rattle.model.specs.declared.Event.TheVariants.{Checkpoint, Send, Deliver, Lose, Recover}

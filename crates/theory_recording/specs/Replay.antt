@@ -1,7 +1,8 @@
 -- Events with their records: the state after them and their replies, once as calls and once as a replay of the records. What Notes 9 and 10 of document 02 say of
 -- "the same events" is stated with these.
 -- Assumes nothing.
-use Rattle.laws.specs.Basics.{Bool, List, [], ◌∷◌, ◌++◌, ℕ, ◌+◌, ◌*◌, eqb, take}
+use Rattle.std.specs.Prelude.{◌∷◌, ◌++◌, ◌+◌, ◌*◌}
+use Rattle.laws.specs.Basics.{Bool, List, [], ℕ, eqb, take}
 use Rattle.laws.specs.{Lists.or_else, Tests.every}
 use Rattle.model.specs.declared.{Run.Run, Event.Event}
 use Rattle.model.specs.{Words.ones, Words.blank, Steps.start_state, Trace.encoded, Trace.decoded}

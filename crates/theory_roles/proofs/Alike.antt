@@ -1,7 +1,8 @@
 -- Two states that are alike to an owner: as many processes, and the same part for each of its own. What states that console calls reach have in common, and what a
 -- part that is put in leaves alike.
 -- Assumes nothing.
-use Rattle.laws.specs.Basics.{◌≡◌, refl, sym, ◌∙◌, ap, subst, true, false, ◌&&◌, List, [], ◌∷◌, ◌++◌, some, ℕ, suc, ◌≤◌, ◌<◌, arith, eqb, ltb, eq-eqb, ne_eqb, ltb-true, by_eq}
+use Rattle.std.specs.Prelude.{◌≡◌, ◌&&◌, ◌∷◌, ◌++◌, ◌≤◌, ◌<◌}
+use Rattle.laws.specs.Basics.{refl, sym, ◌∙◌, ap, subst, true, false, List, [], some, ℕ, suc, arith, eqb, ltb, eq-eqb, ne_eqb, ltb-true, by_eq}
 use mathlib.Core.Option.{map}
 use Rattle.laws.specs.{Lists.select, Lists.last_of, Search.latest, Search.latest_is, Search.latest_out}
 use Rattle.laws.specs.Truth.{and_left, and_both, and_no_right, never_both}

@@ -1,6 +1,7 @@
 -- 16 is real: two runs that differ in what another process stored, of which one leaves the tenant's checkpoint no room within the bound of blocks.
 -- Assumes nothing.
-use Rattle.laws.specs.Basics.{◌≡◌, refl, sym, ◌∙◌, ap, subst, false, not, List, [], ◌∷◌, ◌++◌, map, Option, none, some, ℕ, zero, suc, ◌+◌, ◌≤◌, ◌<◌, arith, eqb, ltb, replicate, lt-ltb, lt-leb, by_bool}
+use Rattle.std.specs.Prelude.{◌≡◌, ◌∷◌, ◌++◌, ◌+◌, ◌≤◌, ◌<◌}
+use Rattle.laws.specs.Basics.{refl, sym, ◌∙◌, ap, subst, false, not, List, [], map, Option, none, some, ℕ, zero, suc, arith, eqb, ltb, replicate, lt-ltb, lt-leb, by_bool}
 use Rattle.laws.specs.{Lists.last_of, Search.any_below, Select.map_append, Select.last_of_snoc, Sums.sum_below, Truth.and_no_right}
 use Rattle.model.specs.declared.{Refusal.Refusal, Refusal.TheVariants.BlocksUsed, Run.Run, StartAnswer.TheVariants.Started}
 use Rattle.model.specs.{Words.most_interval, Words.most_blocks, Words.block_count, Words.process, Words.own, Words.in_set, Sound.is_block_count_of}

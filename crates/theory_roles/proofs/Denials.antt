@@ -1,6 +1,7 @@
 -- What is denied, and that it is denied before anything else is looked at.
 -- Assumes nothing.
-use Rattle.laws.specs.Basics.{◌≡◌, refl, ap, Bool, true, false, not, ◌&&◌, ℕ, ◌≤◌, ◌<◌, ltb, lt-ltb, le-ltb}
+use Rattle.std.specs.Prelude.{◌≡◌, ◌&&◌, ◌≤◌, ◌<◌}
+use Rattle.laws.specs.Basics.{refl, ap, Bool, true, false, not, ℕ, ltb, lt-ltb, le-ltb}
 use Rattle.laws.specs.Truth.{and_both, and_no_right}
 use Rattle.model.specs.Words.{in_set}
 use Rattle.theory_roles.specs.declared.Role.TheVariants.{JobOwner}

@@ -1,6 +1,7 @@
 -- Runs that are too long to compute: rounds in which checkpoints are stored, rolled back and stored again, by the run as functions. How many blocks they write.
 -- Assumes nothing.
-use Rattle.laws.specs.Basics.{◌≡◌, refl, sym, ◌∙◌, ap, subst, Bool, true, false, List, [], ◌∷◌, none, ℕ, zero, suc, ◌+◌, ◌*◌, ◌≤◌, ◌<◌, arith, length, replicate, pick, by_bool, by_eq}
+use Rattle.std.specs.Prelude.{◌≡◌, ◌∷◌, ◌+◌, ◌*◌, ◌≤◌, ◌<◌}
+use Rattle.laws.specs.Basics.{refl, sym, ◌∙◌, ap, subst, Bool, true, false, List, [], none, ℕ, zero, suc, arith, length, replicate, pick, by_bool, by_eq}
 use Rattle.laws.specs.{Truth.never_both, Update.upd_same, Update.upd_other}
 use Rattle.model.specs.declared.Run.{Run}
 use Rattle.model.specs.{Words.basic, Words.forced, Words.most_messages, Words.most_interval, Words.most_blocks, Words.failed, Refusals.recover_refusal}

@@ -1,6 +1,7 @@
 -- What an owner's list, checkpoints, deliveries, losses, sends and lines depend on.
 -- Assumes nothing.
-use Rattle.laws.specs.Basics.{◌≡◌, refl, sym, ◌∙◌, ap, Bool, true, false, not, ◌&&◌, ◌||◌, List, [], ◌∷◌, Option, none, some, ℕ, ◌*◌, eqb, ltb, leb, length, not-false, pick, by_bool}
+use Rattle.std.specs.Prelude.{◌≡◌, ◌&&◌, ◌||◌, ◌∷◌, ◌*◌}
+use Rattle.laws.specs.Basics.{refl, sym, ◌∙◌, ap, Bool, true, false, not, List, [], Option, none, some, ℕ, eqb, ltb, leb, length, not-false, pick, by_bool}
 use Rattle.laws.specs.{Lists.gather, Tables.gather_same, Truth.never_both}
 use Rattle.model.specs.declared.{Run.Run, Interval.Interval, Message.Message, Refusal.Refusal}
 use Rattle.model.specs.declared.Refusal.TheVariants.{UnsoundState, ListTooShort, NoSuchProcess, SenderIsReceiver, NotUnderWay, TooManyUnderWay, MessageNumbersUsed, IntervalsUsed, BlocksUsed}

@@ -1,6 +1,7 @@
 -- What a list and the counts hold on a state that console calls reach: what the history keeps.
 -- Assumes nothing.
-use Rattle.laws.specs.Basics.{◌≡◌, refl, sym, ◌∙◌, ap, true, false, List, [], none, some, ℕ, ◌*◌, ◌≤◌, ◌<◌, arith, ltb, length, lt-ltb, le-ltb, pick, by_bool}
+use Rattle.std.specs.Prelude.{◌≡◌, ◌*◌, ◌≤◌, ◌<◌}
+use Rattle.laws.specs.Basics.{refl, sym, ◌∙◌, ap, true, false, List, [], none, some, ℕ, arith, ltb, length, lt-ltb, le-ltb, pick, by_bool}
 use Rattle.laws.specs.{Counting.count_same, Front.written_front, Lists.table, Lists.gather, Sums.sum_below, Sums.sum_same, Sums.length_gather}
 use Rattle.laws.specs.Tables.{gather_same, table_same, length_table}
 use Rattle.model.specs.declared.{Run.Run, Refusal.TheVariants.ListTooShort}

@@ -1,7 +1,8 @@
 -- An owner learns nothing but the leaks: by unwinding. A call either exposes nothing, and then leaves the owner's part as it was; or it exposes one thing, and then
 -- two calls that expose the same, on states that are alike, return the same to the owner and leave states that are alike.
 -- Assumes nothing.
-use Rattle.laws.specs.Basics.{◌≡◌, refl, sym, ◌∙◌, ap, subst, Bool, true, false, not, ◌&&◌, ◌||◌, List, [], ◌∷◌, Option, none, some, ◌⊎◌, inl, inr, ℕ, ◌≤◌, ◌<◌, arith, eqb, ltb, get_or, set, ltb-true, by_bool}
+use Rattle.std.specs.Prelude.{◌≡◌, ◌&&◌, ◌||◌, ◌∷◌, ◌⊎◌, ◌≤◌, ◌<◌}
+use Rattle.laws.specs.Basics.{refl, sym, ◌∙◌, ap, subst, Bool, true, false, not, List, [], Option, none, some, inl, inr, ℕ, arith, eqb, ltb, get_or, set, ltb-true, by_bool}
 use Rattle.laws.specs.{Lists.or_else, Loops.either, Search.all_out, Truth.never_both, Truth.and_left, Truth.and_right, Truth.and_both}
 use Rattle.model.specs.declared.{Message.Message, Named.Named, Refusal.TheVariants.Denied, Run.Run, Pin.TheVariants.At}
 use Rattle.model.specs.declared.StartAnswer.TheVariants.{Started}

@@ -1,6 +1,7 @@
 -- The owner of a set is its owner. Lists of console calls put together: the state after them, what they expose, what the tenant of specs/Real sees. And two lists of answers that differ in the last one.
 -- Assumes nothing.
-use Rattle.laws.specs.Basics.{◌≡◌, refl, sym, ◌∙◌, ap, true, List, [], ◌∷◌, ◌++◌, append_assoc, some, ℕ, by_bool}
+use Rattle.std.specs.Prelude.{◌≡◌, ◌∷◌, ◌++◌}
+use Rattle.laws.specs.Basics.{refl, sym, ◌∙◌, ap, true, List, [], append_assoc, some, ℕ, by_bool}
 use Rattle.laws.specs.{Lists.last_of, Options.some_same, Search.all_in}
 use Rattle.model.specs.declared.Run.{Run}
 use Rattle.model.specs.Words.{in_set}

@@ -1,6 +1,7 @@
 -- 10 is real: two runs of which one has used all numbers. They are too long to compute: by the run as functions.
 -- Assumes nothing.
-use Rattle.laws.specs.Basics.{◌≡◌, refl, sym, ◌∙◌, ap, subst, true, false, not, List, [], ◌∷◌, ◌++◌, map, Option, none, some, ℕ, zero, suc, ◌≤◌, ◌<◌, arith, eqb, ltb, leb, length, le-leb, by_bool, by_eq}
+use Rattle.std.specs.Prelude.{◌≡◌, ◌∷◌, ◌++◌, ◌≤◌, ◌<◌}
+use Rattle.laws.specs.Basics.{refl, sym, ◌∙◌, ap, subst, true, false, not, List, [], map, Option, none, some, ℕ, zero, suc, arith, eqb, ltb, leb, length, le-leb, by_bool, by_eq}
 use Rattle.laws.specs.{Lists.last_of, Search.any_below, Select.last_of_snoc, Truth.and_no_right, Update.upd_same, Update.upd_other}
 use Rattle.model.specs.declared.{Refusal.Refusal, Refusal.TheVariants.MessageNumbersUsed, Run.Run, StartAnswer.TheVariants.Started}
 use Rattle.model.specs.{Words.ones, Words.most_under_way, Words.most_messages, Words.in_set, Sound.is_block_count_of, laws.Refusals.refusal_in}

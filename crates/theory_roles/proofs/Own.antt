@@ -1,6 +1,7 @@
 -- An owner's call on two states that are alike to it, where it shows the same of others: it returns the same, and leaves two states that are alike.
 -- Assumes nothing.
-use Rattle.laws.specs.Basics.{◌≡◌, refl, sym, ◌∙◌, ap, Bool, true, false, not, ◌&&◌, ◌||◌, List, [], ◌∷◌, Option, none, some, ℕ, ◌+◌, ◌*◌, ◌^◌, ◌≤◌, arith, eqb, ltb, leb, length, get_or, ltb-false, pick, by_bool}
+use Rattle.std.specs.Prelude.{◌≡◌, ◌&&◌, ◌||◌, ◌∷◌, ◌+◌, ◌*◌, ◌^◌, ◌≤◌}
+use Rattle.laws.specs.Basics.{refl, sym, ◌∙◌, ap, Bool, true, false, not, List, [], Option, none, some, ℕ, arith, eqb, ltb, leb, length, get_or, ltb-false, pick, by_bool}
 use Rattle.laws.specs.{Front.get_d_written, Lists.table, Tables.length_table, Tables.get_d_table, Tables.table_same, Truth.never_both}
 use Rattle.model.specs.declared.{Interval.Interval, Message.Message, Run.Run, LineAnswer.TheVariants.Refused, LineAnswer.TheVariants.Written}
 use Rattle.model.specs.declared.Refusal.TheVariants.{UnsoundState, ListTooShort, NoSuchProcess, SenderIsReceiver, NoSuchFailedProcess, NotUnderWay, TooManyUnderWay, MessageNumbersUsed, IntervalsUsed, BlocksUsed}

@@ -1,6 +1,7 @@
 -- Each leak is real: by computation, but for 10 and 16, which take too many calls (Numbers, Bound).
 -- Assumes nothing.
-use Rattle.laws.specs.Basics.{◌≡◌, refl, sym, ◌∙◌, ap, Bool, true, false, List, [], ◌∷◌, none, ℕ, eqb, get_or, replicate, eqb-false}
+use Rattle.std.specs.Prelude.{◌≡◌, ◌∷◌}
+use Rattle.laws.specs.Basics.{refl, sym, ◌∙◌, ap, Bool, true, false, List, [], none, ℕ, eqb, get_or, replicate, eqb-false}
 use Rattle.laws.specs.{Bits.bits_of, Lists.select, Lists.or_else, Lists.last_of, Lists.table, Lists.gather, Lists.placed, Search.all_below, Search.any_below}
 use Rattle.laws.specs.{Sums.sum_below, Tests.count_below, Tests.every, Tests.some_of}
 use Rattle.model.specs.Words.{is_pinned, live, blocks_of, block_count, blank, process, with_process, own, under_way, with_messages, with_disk}

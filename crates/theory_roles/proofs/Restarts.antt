@@ -1,6 +1,7 @@
 -- A recovery or sweep, alike to an owner: what it leaves of a process follows from the process's part, its member's index, and which of its pins then name a checkpoint.
 -- Assumes nothing.
-use Rattle.laws.specs.Basics.{◌≡◌, refl, sym, ◌∙◌, ap, Bool, true, false, not, ◌&&◌, List, [], Option, some, ℕ, ◌<◌, eqb, ltb, leb, get_or, eqb-true, pick, by_bool}
+use Rattle.std.specs.Prelude.{◌≡◌, ◌&&◌, ◌<◌}
+use Rattle.laws.specs.Basics.{refl, sym, ◌∙◌, ap, Bool, true, false, not, List, [], Option, some, ℕ, eqb, ltb, leb, get_or, eqb-true, pick, by_bool}
 use Rattle.laws.specs.{Lists.select, Lists.last_of, Lists.table, Tables.get_d_table, Tables.table_same, Truth.never_both}
 use Rattle.model.specs.declared.{Checkpoint.Checkpoint, Interval.Interval, Pin.Pin, Pin.TheVariants.Nothing, Run.Run}
 use Rattle.model.specs.Words.{most_processes, entry, below, live_index_of, is_pinned, Process, process, own, with_messages, with_disk}

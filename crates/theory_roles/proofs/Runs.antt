@@ -1,6 +1,7 @@
 -- States that console calls reach are states that the library's calls reach, and the console's history is theirs: demand 3 holds there.
 -- Assumes nothing.
-use Rattle.laws.specs.Basics.{◌≡◌, refl, sym, subst, List, [], ◌∷◌, ◌++◌, none, ◌⊎◌, inl, inr, ℕ, arith, by_bool}
+use Rattle.std.specs.Prelude.{◌≡◌, ◌∷◌, ◌++◌, ◌⊎◌}
+use Rattle.laws.specs.Basics.{refl, sym, subst, List, [], none, inl, inr, ℕ, arith, by_bool}
 use Rattle.laws.specs.Loops.{either}
 use Rattle.model.specs.declared.{Run.Run, Refusal.Refusal, StartAnswer.TheVariants.Started}
 use Rattle.model.specs.{Refusals.number, Refusals.start_refusal, Refusals.line_refusal, laws.Refusals.by_refusal}

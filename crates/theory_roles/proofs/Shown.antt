@@ -1,6 +1,7 @@
 -- An owner's line: its own members, the other places as lent.
 -- Assumes nothing.
-use Rattle.laws.specs.Basics.{◌≡◌, refl, sym, ◌∙◌, true, false, List, ℕ, ◌<◌, ltb, length, get_or, ltb-true, ltb-false, by_bool}
+use Rattle.std.specs.Prelude.{◌≡◌, ◌<◌}
+use Rattle.laws.specs.Basics.{refl, sym, ◌∙◌, true, false, List, ℕ, ltb, length, get_or, ltb-true, ltb-false, by_bool}
 use lib.ListN.{get_or-eq_default}
 use Rattle.laws.specs.{Choice.pick_same, Tables.length_table, Tables.get_d_table, Tables.get_d_table_past, Tables.table_is}
 use Rattle.whole_runs.specs.Outcomes.{line_outcome}

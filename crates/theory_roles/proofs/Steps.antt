@@ -1,6 +1,7 @@
 -- What the step of an accepted call leaves alike to an owner: done alike to one of its processes it keeps two states alike, and done to another's it leaves its own.
 -- Assumes nothing.
-use Rattle.laws.specs.Basics.{◌≡◌, refl, ap, subst, true, false, List, ℕ}
+use Rattle.std.specs.Prelude.{◌≡◌}
+use Rattle.laws.specs.Basics.{refl, ap, subst, true, false, List, ℕ}
 use Rattle.model.specs.declared.{Disk.Disk, Message.Message, Run.Run}
 use Rattle.model.specs.Words.{basic, Process, process, with_process, with_messages, with_disk}
 use Rattle.model.specs.Steps.{settled, checkpointed, checkpoint_state, marked, send_state, delivered, deliver_state, lose_state}

@@ -1,6 +1,7 @@
 -- The table of console calls and the named leaks hold of the definitions: by computation.
 -- Assumes nothing.
-use Rattle.laws.specs.Basics.{◌≡◌, refl, true}
+use Rattle.std.specs.Prelude.{◌≡◌}
+use Rattle.laws.specs.Basics.{refl, true}
 use Rattle.laws.specs.{Bits.bits_of, Lists.select, Lists.last_of, Lists.table, Lists.gather, Lists.placed, Search.all_below, Search.any_below, Sums.sum_below}
 use Rattle.laws.specs.Tests.{count_below, every, some_of, same}
 use Rattle.model.specs.Words.{is_pinned, live, blocks_of, block_count, blank, process, with_process, own, under_way, with_messages, with_disk}

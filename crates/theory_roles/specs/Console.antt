@@ -1,6 +1,7 @@
 -- Document 02, Note 13, "A console for shared clusters": who may do what, and the outcome of each console call, by the library's own outcomes.
 -- Assumes nothing.
-use Rattle.laws.specs.Basics.{Bool, true, false, not, ◌&&◌, List, [], ◌∷◌, Option, none, some, ℕ, ltb, length, get_or, pick}
+use Rattle.std.specs.Prelude.{◌&&◌, ◌∷◌}
+use Rattle.laws.specs.Basics.{Bool, true, false, not, List, [], Option, none, some, ℕ, ltb, length, get_or, pick}
 use Rattle.laws.specs.Lists.{table, gather}
 use Rattle.model.specs.declared.{Run.Run, Named.Named, Message.Message, Refusal.Refusal, Refusal.TheVariants.ListTooShort, Refusal.TheVariants.Denied}
 use Rattle.model.specs.declared.{StartAnswer.StartAnswer, CheckpointAnswer.CheckpointAnswer, SendAnswer.SendAnswer, DeliverAnswer.DeliverAnswer}

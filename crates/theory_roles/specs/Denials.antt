@@ -1,6 +1,7 @@
 -- Document 02, Note 13: what is denied, and that 25 comes "before every other". On every state, sound or not, and for all arguments.
 -- Assumes nothing.
-use Rattle.laws.specs.Basics.{◌≡◌, true, false, List, [], none, some, ℕ, ◌≤◌, ◌<◌}
+use Rattle.std.specs.Prelude.{◌≡◌, ◌≤◌, ◌<◌}
+use Rattle.laws.specs.Basics.{true, false, List, [], none, some, ℕ}
 use Rattle.model.specs.declared.{Run.Run, Named.Named, Message.Message, Refusal.TheVariants.Denied}
 use Rattle.model.specs.{Words.blank, Words.in_set, Steps.found}
 use Rattle.whole_runs.specs.Outcomes.{Outcome}

@@ -1,6 +1,7 @@
 -- Document 02, Note 13: on what of a run the answers to an owner depend. "these and line members are the named leaks".
 -- Assumes nothing.
-use Rattle.laws.specs.Basics.{◌≡◌, true, List, ℕ, ◌^◌, ltb, leb, length, pick}
+use Rattle.std.specs.Prelude.{◌≡◌, ◌^◌}
+use Rattle.laws.specs.Basics.{true, List, ℕ, ltb, leb, length, pick}
 use Rattle.model.specs.declared.{Run.Run, LineAnswer.LineAnswer}
 use Rattle.model.specs.declared.Refusal.TheVariants.{UnsoundState, ListTooShort, NoSuchFailedProcess, TooManyUnderWay, MessageNumbersUsed, BlocksUsed}
 use Rattle.model.specs.{Words.process, Steps.found, Sound.sound}

@@ -1,7 +1,8 @@
 -- What an owner can learn of others over lists of console calls: nothing but the named leaks (document 02, Note 13). This file is the whole statement; the
 -- console's calls are those of roles/specs, and `LearnsNoMore` at the end is proved in proofs/Learned.
 -- Assumes nothing.
-use Rattle.laws.specs.Basics.{◌≡◌, Bool, true, false, not, ◌&&◌, ◌||◌, List, [], ◌∷◌, ◌++◌, map, Option, none, some, ℕ, eqb, leb, get_or, pick}
+use Rattle.std.specs.Prelude.{◌≡◌, ◌&&◌, ◌||◌, ◌∷◌, ◌++◌}
+use Rattle.laws.specs.Basics.{Bool, true, false, not, List, [], map, Option, none, some, ℕ, eqb, leb, get_or, pick}
 use Rattle.laws.specs.{Lists.table, Search.all_below}
 use Rattle.model.specs.declared.{Interval.Interval, Message.Message, Run.Run, StartAnswer.TheVariants.Started}
 use Rattle.model.specs.{Words.most_processes, Words.most_under_way, Words.in_set, Steps.found, Steps.member, Steps.pin_after, Sound.is_nothing_of}

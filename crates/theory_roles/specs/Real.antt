@@ -1,7 +1,8 @@
 -- Each leak is real: for each, two lists of console calls by a tenant and its neighbours that expose the same to the tenant but for this one leak, and of which it sees
 -- different answers. So no leak could be left out of `exposed`. `EveryLeakIsReal` is proved in proofs/Real.
 -- Assumes nothing.
-use Rattle.laws.specs.Basics.{◌≡◌, false, List, [], ◌∷◌, ◌++◌, map, ℕ, zero, suc, eqb, replicate, pick}
+use Rattle.std.specs.Prelude.{◌≡◌, ◌∷◌, ◌++◌}
+use Rattle.laws.specs.Basics.{false, List, [], map, ℕ, zero, suc, eqb, replicate, pick}
 use Rattle.model.specs.{declared.Run.Run, declared.StartAnswer.TheVariants.Started, Words.ones}
 use Rattle.whole_runs.specs.Calls.{Call, checkpoint, send, deliver, lose, recover, line}
 use Rattle.theory_tables.specs.Exam.{deletion_list, line_list}

@@ -1,7 +1,8 @@
 -- Document 02, Note 13: "The console works on states reached by its own calls." Lists of console calls, the surviving history of one, and what is claimed of
 -- the states that they reach.
 -- Assumes nothing.
-use Rattle.laws.specs.Basics.{◌≡◌, List, [], ◌∷◌, ◌++◌, ℕ, ◌^◌, ◌<◌}
+use Rattle.std.specs.Prelude.{◌≡◌, ◌∷◌, ◌++◌, ◌^◌, ◌<◌}
+use Rattle.laws.specs.Basics.{List, [], ℕ}
 use Rattle.model.specs.declared.{Run.Run, StartAnswer.TheVariants.Started}
 use Rattle.whole_runs.specs.Outcomes.{checkpoint_report, send_report, deliver_report, lose_report, line_report, recover_report}
 use Rattle.whole_runs.specs.Calls.{Call, checkpoint, send, deliver, lose, recover, line, earliest, Answered, answered, call, Exchange}

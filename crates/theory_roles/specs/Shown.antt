@@ -1,6 +1,7 @@
 -- Document 02, Note 13: what a list, the counts and a line show, by the history and by the library's line.
 -- Assumes nothing.
-use Rattle.laws.specs.Basics.{◌≡◌, true, false, List, [], ◌∷◌, ℕ, ◌*◌, ◌≤◌, ◌<◌, length, get_or, pick}
+use Rattle.std.specs.Prelude.{◌≡◌, ◌∷◌, ◌*◌, ◌≤◌, ◌<◌}
+use Rattle.laws.specs.Basics.{true, false, List, [], ℕ, length, get_or, pick}
 use Rattle.laws.specs.{Lists.table, Lists.gather, Sums.sum_below, Tests.count_below}
 use Rattle.model.specs.declared.{Run.Run, Refusal.TheVariants.ListTooShort, StartAnswer.TheVariants.Started}
 use Rattle.whole_runs.specs.{Outcomes.line_outcome, Survival.Surviving, Answers.live_of, Answers.at_front}

@@ -1,7 +1,8 @@
 -- Note 13: a table of console calls, each with the number that it meets, 0 if it is accepted, and what it shows; and the named leaks, each by two runs that differ in
 -- what others did. proofs/Table has the theorem.
 -- Assumes nothing.
-use Rattle.laws.specs.Basics.{Bool, ◌&&◌, List, [], ◌∷◌, ℕ, eqb, length, take, drop, replicate}
+use Rattle.std.specs.Prelude.{◌&&◌, ◌∷◌}
+use Rattle.laws.specs.Basics.{Bool, List, [], ℕ, eqb, length, take, drop, replicate}
 use Rattle.laws.specs.Tests.{every, same}
 use Rattle.model.specs.declared.Run.{Run}
 use Rattle.model.specs.{Words.ones, Words.blank, Steps.start_state}

@@ -3,7 +3,7 @@
 
 #![tactic(auto)]
 
-ghost use Rattle.laws.specs.Basics.{◌≡◌};
+ghost use Rattle.std.specs.Prelude.{◌≡◌};
 ghost use Rattle.theory_roles.specs.Console.{may, role_place, operation_place};
 
 use model::Refusal;

@@ -1,7 +1,8 @@
 -- The exam table: cases 1 to 9 hold of the definitions, and the example trace gives the listing that document 01 prints, both ways. The disks of Note 5, step by
 -- step. The table of the numbers, and Note 8's. All by computation.
 -- Assumes nothing.
-use Rattle.laws.specs.Basics.{◌≡◌, refl, true, false, ◌&&◌}
+use Rattle.std.specs.Prelude.{◌≡◌, ◌&&◌}
+use Rattle.laws.specs.Basics.{refl, true, false}
 use Rattle.laws.specs.{Bits.bits_of, Lists.select, Lists.last_of, Lists.table, Lists.gather, Lists.placed, Search.all_below, Search.any_below, Sums.sum_below}
 use Rattle.laws.specs.Tests.{count_below, every, some_of, same}
 use Rattle.model.specs.Words.{is_pinned, live, blocks_of, block_count, blank, process, with_process, own, under_way, with_messages, with_disk}

@@ -1,7 +1,8 @@
 -- Note 8: a table of lists of named checkpoints on one state of three processes: the number that the call meets, 0 if it is accepted, and the line list after it.
 -- proofs/Exam has the theorem.
 -- Assumes nothing.
-use Rattle.laws.specs.Basics.{Bool, ◌&&◌, List, [], ◌∷◌, ℕ, eqb}
+use Rattle.std.specs.Prelude.{◌&&◌, ◌∷◌}
+use Rattle.laws.specs.Basics.{Bool, List, [], ℕ, eqb}
 use Rattle.laws.specs.Tests.{every, same}
 use Rattle.model.specs.declared.{Named.Named, Run.Run}
 use Rattle.model.specs.{Words.ones, Steps.start_state}

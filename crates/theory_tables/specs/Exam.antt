@@ -1,6 +1,7 @@
 -- Document 01, "Exam sheet": the cases that P marks, as data, and the tests that compare them with the definitions. proofs/Exam has the theorem.
 -- Assumes nothing.
-use Rattle.laws.specs.Basics.{Bool, true, false, ◌&&◌, List, [], ◌∷◌, ◌++◌, map, Option, none, some, ℕ, suc, ◌*◌, eqb, length, get_or, take, drop, replicate}
+use Rattle.std.specs.Prelude.{◌&&◌, ◌∷◌, ◌++◌, ◌*◌}
+use Rattle.laws.specs.Basics.{Bool, true, false, List, [], map, Option, none, some, ℕ, suc, eqb, length, get_or, take, drop, replicate}
 use Rattle.laws.specs.{Lists.table, Tests.every, Tests.same}
 use Rattle.model.specs.declared.{Pin.Pin, Pin.TheVariants.Nothing, Pin.TheVariants.At, Checkpoint.Checkpoint, Run.Run}
 use Rattle.model.specs.Words.{ones, entry, process}

@@ -2,7 +2,8 @@
 -- limit that does not. What a refused start returns, and under which record number 13 prints. Note 11 of document 02: what is printed where a replay
 -- stops, and which words ask for all. proofs/Exam has the theorem.
 -- Assumes nothing.
-use Rattle.laws.specs.Basics.{Bool, true, false, not, ◌&&◌, List, [], ◌∷◌, ℕ, ◌-◌, eqb, length, set, replicate, pick}
+use Rattle.std.specs.Prelude.{◌&&◌, ◌∷◌, ◌-◌}
+use Rattle.laws.specs.Basics.{Bool, true, false, not, List, [], ℕ, eqb, length, set, replicate, pick}
 use Rattle.laws.specs.Tests.{every, same}
 use Rattle.model.specs.declared.{Interval.Interval, Pin.TheVariants.At, Run.Run}
 use Rattle.model.specs.Words.{most_processes, most_under_way, initial, basic, ones, zero_vector, no_pins_of, blank, with_process, with_messages, with_disk}

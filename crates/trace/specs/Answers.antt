@@ -1,7 +1,8 @@
 -- What the functions of this crate answer, in the words of the model: the part of a trace that a record is, the event that a part stands
 -- for, and the record of an event.
 -- Assumes nothing.
-use Rattle.laws.specs.Basics.{List, [], Option, none, some, ℕ, ◌+◌, eqb, leb, length, take, drop, replicate, pick}
+use Rattle.std.specs.Prelude.{◌+◌}
+use Rattle.laws.specs.Basics.{List, [], Option, none, some, ℕ, eqb, leb, length, take, drop, replicate, pick}
 use Rattle.laws.specs.Lists.{or_else}
 use Rattle.model.specs.{declared.Event.Event, declared.Fields.Fields, Trace.fields, Trace.decoded, Trace.fits, Trace.encoded}
 use Rattle.trace.specs.declared.{Decoded.Decoded, Decoded.TheVariants.Malformed, Decoded.TheVariants.StandsFor, Encoded.Encoded}

@@ -2,7 +2,8 @@
 
 #![tactic(auto)]
 
-ghost use Rattle.laws.specs.Basics.{◌≡◌, ◌≤◌, ◌<◌, length};
+ghost use Rattle.std.specs.Prelude.{◌≡◌, ◌≤◌, ◌<◌};
+ghost use Rattle.laws.specs.Basics.{length};
 ghost use Rattle.model.specs.Trace.{word, fields, if_zero_of, event_of_def, fields_of, word_of_def, bytes_of_def};
 ghost use Rattle.trace.specs.Answers.{record_at, fields_read, event_in, event_read, record_of_def};
 

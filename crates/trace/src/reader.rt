@@ -1,6 +1,6 @@
 // A reader of a trace: "A reader of a trace carries the lent trace together with the count of records taken. It hands a record on as the part
 // of the trace with its four bytes, not as a copy." The functions over `Reader` are thin, over others with plain parameters. Every trace and every count will do.
-ghost use Rattle.laws.specs.Basics.{◌≡◌};
+ghost use Rattle.std.specs.Prelude.{◌≡◌};
 ghost use Rattle.trace.specs.reader.Reading.{record_after_of, record_left_of, taken_after, new_reader, reader_after};
 
 // The whole trace, first byte included, and how many of its records were taken.

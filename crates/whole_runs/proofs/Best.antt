@@ -1,6 +1,7 @@
 -- The best line for a failed set: there is one only, the reported line is it, and what is in it is kept.
 -- Assumes nothing.
-use Rattle.laws.specs.Basics.{◌≡◌, ◌∙◌, true, inl, inr, ℕ, suc, ◌^◌, ◌≤◌, ◌<◌, arith}
+use Rattle.std.specs.Prelude.{◌≡◌, ◌^◌, ◌≤◌, ◌<◌}
+use Rattle.laws.specs.Basics.{◌∙◌, true, inl, inr, ℕ, suc, arith}
 use Rattle.laws.specs.{Bits.pow_less, Bits.bit_one, Bits.bit_alone, Tables.get_d_table, Truth.never_both}
 use Rattle.model.specs.declared.Run.{Run}
 use Rattle.model.specs.Words.{failed}

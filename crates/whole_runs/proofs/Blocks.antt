@@ -1,7 +1,8 @@
 -- Replaying block by block prints what replaying the whole prints. A block is a whole number of records; where the limit of records falls
 -- inside a block, its later records and all that follows print nothing. Where the replay stops at a record, nothing after it is printed.
 -- Assumes nothing.
-use Rattle.laws.specs.Basics.{◌≡◌, refl, sym, ◌∙◌, ap, Bool, true, ◌&&◌, List, [], ◌∷◌, ◌++◌, append-nil, append_assoc, ℕ, zero, suc, ◌+◌, ◌*◌, ◌≤◌, ◌<◌, arith, ltb, length, take, drop, length-drop, length-take-le, lt-ltb, le-ltb, ltb-false, pick, by_bool}
+use Rattle.std.specs.Prelude.{◌≡◌, ◌&&◌, ◌∷◌, ◌++◌, ◌+◌, ◌*◌, ◌≤◌, ◌<◌}
+use Rattle.laws.specs.Basics.{refl, sym, ◌∙◌, ap, Bool, true, List, [], append-nil, append_assoc, ℕ, zero, suc, arith, ltb, length, take, drop, length-drop, length-take-le, lt-ltb, le-ltb, ltb-false, pick, by_bool}
 use lib.Seq.{take-add}
 use Rattle.laws.specs.Choice.{pick_same}
 use Rattle.model.specs.declared.Run.{Run}

@@ -1,6 +1,7 @@
 -- Note 6, proved: straight after an accepted recovery or sweep a checkpoint is kept exactly if some failure would use it.
 -- Assumes nothing.
-use Rattle.laws.specs.Basics.{◌≡◌, refl, sym, ◌∙◌, List, [], ◌∷◌, ◌++◌, none, ℕ, ◌^◌, ◌<◌, arith}
+use Rattle.std.specs.Prelude.{◌≡◌, ◌∷◌, ◌++◌, ◌^◌, ◌<◌}
+use Rattle.laws.specs.Basics.{refl, sym, ◌∙◌, List, [], none, ℕ, arith}
 use lib.Pow.{pow_pos}
 use Rattle.laws.specs.Bits.{pow_less}
 use Rattle.model.specs.declared.Run.{Run}

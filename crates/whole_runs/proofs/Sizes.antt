@@ -1,7 +1,8 @@
 -- How large the numbers of a reply can be, whatever the state: a call that is refused reports no value and no deletion, and one that is accepted
 -- found the state sound and the limits kept. The length of a printed line rests on this.
 -- Assumes nothing.
-use Rattle.laws.specs.Basics.{◌≡◌, Bool, true, not, ◌&&◌, List, [], ◌∷◌, Option, none, some, ℕ, ◌+◌, ◌≤◌, ◌<◌, arith, eqb, leb, length, get_or, length-append, by_bool}
+use Rattle.std.specs.Prelude.{◌≡◌, ◌&&◌, ◌∷◌, ◌+◌, ◌≤◌, ◌<◌}
+use Rattle.laws.specs.Basics.{Bool, true, not, List, [], Option, none, some, ℕ, arith, eqb, leb, length, get_or, length-append, by_bool}
 use lib.ListN.{length-take}
 use Rattle.laws.specs.{Counting.count_le, Lists.select, Lists.last_of, Options.some_same, Options.none≢some, Prefixes.every_select, Prefixes.every_last, Select.select_length}
 use Rattle.laws.specs.{Tests.every, Truth.and_left, Truth.and_right}

@@ -1,7 +1,8 @@
 -- Note 4: a sweep. Nobody rolls back, of any state; the messages under way stay, of a sound one; the lines stay, of a state that calls from a start reach. And that no
 -- call is refused with 6.
 -- Assumes nothing.
-use Rattle.laws.specs.Basics.{◌≡◌, refl, sym, ◌∙◌, ap, fun_ext, true, false, not, ◌&&◌, List, [], Option, none, some, ℕ, zero, suc, ◌<◌, arith, eqb, ltb, length, get_or, le-ltb, leb-true, pick, by_bool}
+use Rattle.std.specs.Prelude.{◌≡◌, ◌&&◌, ◌<◌}
+use Rattle.laws.specs.Basics.{refl, sym, ◌∙◌, ap, fun_ext, true, false, not, List, [], Option, none, some, ℕ, zero, suc, arith, eqb, ltb, length, get_or, le-ltb, leb-true, pick, by_bool}
 use native.Mathlib.Nat.{div-eq_of_lt, one-le-pow}
 use lib.Seq.{set-get_or}
 use Rattle.laws.specs.{Counting.count_none, Rows.and_true, Rows.every_at, Rows.every_by, Search.any_below, Search.any_out, Search.all_in, Search.all_out, Tables.table_same}

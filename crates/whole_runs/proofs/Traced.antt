@@ -1,7 +1,8 @@
 -- States of a trace run. Note 5: "a trace run uses 1". Every kept checkpoint has block count 1. And no more is written than one block for each process and each
 -- record, so no record of a trace meets 16.
 -- Assumes nothing.
-use Rattle.laws.specs.Basics.{◌≡◌, refl, sym, ◌∙◌, ap, Bool, true, false, ◌&&◌, List, [], ◌∷◌, ◌++◌, Option, none, some, ℕ, suc, ◌+◌, ◌*◌, ◌≤◌, ◌<◌, arith, eqb, leb, length, get_or, length-append, get_or-replicate, eq-eqb, le-ltb, leb-true, leb-false, by_bool}
+use Rattle.std.specs.Prelude.{◌≡◌, ◌&&◌, ◌∷◌, ◌++◌, ◌+◌, ◌*◌, ◌≤◌, ◌<◌}
+use Rattle.laws.specs.Basics.{refl, sym, ◌∙◌, ap, Bool, true, false, List, [], Option, none, some, ℕ, suc, arith, eqb, leb, length, get_or, length-append, get_or-replicate, eq-eqb, le-ltb, leb-true, leb-false, by_bool}
 use lib.ListN.{get_or-eq_default}
 use Rattle.laws.specs.{Sums.sum_le, Tests.every, Truth.never_both}
 use Rattle.model.specs.declared.{Run.Run, Event.Event}

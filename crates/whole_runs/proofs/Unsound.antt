@@ -1,6 +1,7 @@
 -- A state that is not sound is refused with 2 by every call, before any other number: the state, the answer and the lent lists then.
 -- Assumes nothing.
-use Rattle.laws.specs.Basics.{◌≡◌, refl, sym, ◌∙◌, Bool, true, false, not, List, ℕ, not-true, not-false}
+use Rattle.std.specs.Prelude.{◌≡◌}
+use Rattle.laws.specs.Basics.{refl, sym, ◌∙◌, Bool, true, false, not, List, ℕ, not-true, not-false}
 use Rattle.model.specs.{declared.Named.Named, declared.Run.Run, declared.Refusal.TheVariants.UnsoundState, Sound.sound}
 use Rattle.model.specs.Refusals.{first_of, checkpoint_refusal, send_refusal, deliver_refusal, lose_refusal, line_refusal, recover_refusal}
 use Rattle.whole_runs.specs.Earliest.{earliest_refusal, earliest_outcome}

@@ -1,6 +1,7 @@
 -- Demand 3, proved: right over whole runs. And what later work cites of states that calls from a start reach.
 -- Assumes nothing.
-use Rattle.laws.specs.Basics.{◌≡◌, refl, sym, ◌∙◌, ap, subst, Bool, true, not, ◌&&◌, List, [], ◌∷◌, ◌++◌, none, some, ℕ, ◌^◌, ◌<◌, arith, eqb, leb, get_or, eq-eqb, eqb-true, by_eq}
+use Rattle.std.specs.Prelude.{◌≡◌, ◌&&◌, ◌∷◌, ◌++◌, ◌^◌, ◌<◌}
+use Rattle.laws.specs.Basics.{refl, sym, ◌∙◌, ap, subst, Bool, true, not, List, [], none, some, ℕ, arith, eqb, leb, get_or, eq-eqb, eqb-true, by_eq}
 use Rattle.laws.specs.{Counting.count_mono, Elements.same_test, Options.some_same, Options.none≢some, Ranges.any_same, Sums.sum_same}
 use Rattle.model.specs.declared.{Named.Named, Run.Run, StartAnswer.TheVariants.Started}
 use Rattle.model.specs.declared.Refusal.TheVariants.{CountOutsideRange, BlockCountOutsideRange}

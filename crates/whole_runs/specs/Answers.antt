@@ -1,7 +1,8 @@
 -- What every answer of a list of calls is, by the surviving history before the call and the call's arguments, and by nothing in a state.
 -- Document 01: the surviving history "is built from the calls and their answers, and from nothing in the state".
 -- Assumes nothing.
-use Rattle.laws.specs.Basics.{◌≡◌, Bool, true, false, not, ◌&&◌, ◌||◌, List, [], ◌∷◌, ◌++◌, Option, none, some, ◌⊎◌, ℕ, suc, ◌+◌, ◌-◌, ◌*◌, ◌^◌, ◌≤◌, ◌<◌, eqb, ltb, leb, length, get_or, drop, pick}
+use Rattle.std.specs.Prelude.{◌≡◌, ◌&&◌, ◌||◌, ◌∷◌, ◌++◌, ◌⊎◌, ◌+◌, ◌-◌, ◌*◌, ◌^◌, ◌≤◌, ◌<◌}
+use Rattle.laws.specs.Basics.{Bool, true, false, not, List, [], Option, none, some, ℕ, suc, eqb, ltb, leb, length, get_or, drop, pick}
 use mathlib.Core.List.{Memᴰ}
 use Rattle.laws.specs.{Lists.table, Lists.gather, Search.any_below, Tests.count_below, Tests.some_of}
 use Rattle.model.specs.declared.Named.{Named}

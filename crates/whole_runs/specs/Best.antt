@@ -1,7 +1,8 @@
 -- The best line for a failed set, by the messages of the surviving history alone: no vector, pin, pair or state is in it. Document 01 has its sentences, and
 -- document 02 its name: Note 6, "its best line, by the message definition over the surviving history".
 -- Assumes nothing.
-use Rattle.laws.specs.Basics.{◌≡◌, true, ℕ, ◌≤◌, ◌<◌}
+use Rattle.std.specs.Prelude.{◌≡◌, ◌≤◌, ◌<◌}
+use Rattle.laws.specs.Basics.{true, ℕ}
 use Rattle.model.specs.Words.{failed}
 use Rattle.histories.specs.History.{Lists, Line, checkpoints, Consistent}
 

@@ -1,7 +1,8 @@
 -- Lists of calls and their answers: document 01, "Demand 3 is one claim about the whole list of calls".
 -- "an answer is all that a call returns beside the state, and its lent lists as they then stand."
 -- Assumes nothing.
-use Rattle.laws.specs.Basics.{List, [], ◌∷◌, ℕ}
+use Rattle.std.specs.Prelude.{◌∷◌}
+use Rattle.laws.specs.Basics.{List, [], ℕ}
 use Rattle.model.specs.declared.{Named.Named, Run.Run}
 use Rattle.whole_runs.specs.Outcomes.{Outcome, Report, checkpoint_outcome, checkpoint_report, send_outcome, send_report, deliver_outcome, deliver_report, lose_outcome, lose_report, line_outcome, line_report, recover_outcome, recover_report}
 use Rattle.whole_runs.specs.Earliest.{earliest_outcome}

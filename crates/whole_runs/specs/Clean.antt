@@ -1,6 +1,7 @@
 -- Note 6, "Nothing kept in vain after a restart": "The handbook says that a recovery cleans the disks fully. Prove it". proofs/Clean has the theorems.
 -- Assumes nothing.
-use Rattle.laws.specs.Basics.{◌≡◌, Bool, true, List, [], ◌∷◌, ◌++◌, none, ℕ, ◌^◌, ◌≤◌, ◌<◌}
+use Rattle.std.specs.Prelude.{◌≡◌, ◌∷◌, ◌++◌, ◌^◌, ◌≤◌, ◌<◌}
+use Rattle.laws.specs.Basics.{Bool, true, List, [], none, ℕ}
 use Rattle.model.specs.declared.Run.{Run}
 use Rattle.histories.specs.History.{Lists}
 use Rattle.model.specs.{Refusals.start_refusal, Refusals.recover_refusal, Words.keeps_in}

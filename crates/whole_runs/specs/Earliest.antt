@@ -1,7 +1,8 @@
 -- Document 02, Note 8, "The earliest state to show in a debugger": "Developers pick some kept checkpoints and want the earliest consistent line through all of
 -- them." The line, the refusals and the outcome of the call. What is promised of the line is in Answers and WholeRuns.
 -- Assumes nothing.
-use Rattle.laws.specs.Basics.{Bool, false, not, ◌||◌, List, [], ◌∷◌, Option, ℕ, max, eqb, ltb, leb, length}
+use Rattle.std.specs.Prelude.{◌||◌, ◌∷◌}
+use Rattle.laws.specs.Basics.{Bool, false, not, List, [], Option, ℕ, max, eqb, ltb, leb, length}
 use Rattle.laws.specs.{Lists.select, Lists.or_else, Lists.last_of, Lists.table, Tests.some_of}
 use Rattle.model.specs.declared.{Interval.Interval, Checkpoint.Checkpoint, Named.Named, Run.Run, Refusal.Refusal, LineAnswer.LineAnswer}
 use Rattle.model.specs.declared.Refusal.TheVariants.{ListTooShort, NoSuchProcess, UnfitNamedList, NotKept, CausallyOrdered}

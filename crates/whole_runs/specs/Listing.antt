@@ -1,6 +1,7 @@
 -- Document 01, "The trace": what the replay program prints, byte by byte, and Note 11 of document 02: where it stops.
 -- Assumes nothing.
-use Rattle.laws.specs.Basics.{Bool, true, ◌&&◌, ◌||◌, List, [], ◌∷◌, ◌++◌, Option, none, some, ℕ, zero, suc, ◌+◌, ◌/◌, ◌%◌, eqb, ltb, replicate, pick}
+use Rattle.std.specs.Prelude.{◌&&◌, ◌||◌, ◌∷◌, ◌++◌, ◌+◌, ◌/◌, ◌%◌}
+use Rattle.laws.specs.Basics.{Bool, true, List, [], Option, none, some, ℕ, zero, suc, eqb, ltb, replicate, pick}
 use Rattle.laws.specs.Tests.{same}
 use Rattle.model.specs.declared.{Run.Run, Event.Event, Refusal.Refusal}
 use Rattle.model.specs.declared.Event.TheVariants.{Checkpoint, Send, Deliver, Lose, Recover}

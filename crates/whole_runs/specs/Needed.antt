@@ -1,7 +1,8 @@
 -- Which checkpoints are kept, by the places in the lists alone: what the pins of document 01 name, defined without a pin, a vector or a pair handed out.
 -- "A pin of i for f names one kept checkpoint of i, or none. A checkpoint is kept exactly while a pin names it."
 -- Assumes nothing.
-use Rattle.laws.specs.Basics.{◌⊎◌, ℕ, ◌-◌, ◌<◌}
+use Rattle.std.specs.Prelude.{◌⊎◌, ◌-◌, ◌<◌}
+use Rattle.laws.specs.Basics.{ℕ}
 use Rattle.histories.specs.History.{Lists, checkpoints, before_checkpoint, ComesBefore}
 use Rattle.whole_runs.specs.Survival.{Surviving}
 

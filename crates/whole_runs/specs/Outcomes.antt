@@ -1,7 +1,8 @@
 -- The outcome of each call, refused or accepted: the state, the answer, and every lent list as it then stands.
 -- "A refusal returns its number and the state as it came; lent lists and buffers keep every entry. A refused start returns a state of zeros with every pin none."
 -- Assumes nothing.
-use Rattle.laws.specs.Basics.{List, [], ◌∷◌, Option, none, some, ℕ, ◌+◌, length, sets, pick}
+use Rattle.std.specs.Prelude.{◌∷◌, ◌+◌}
+use Rattle.laws.specs.Basics.{List, [], Option, none, some, ℕ, length, sets, pick}
 use Rattle.laws.specs.Lists.{or_else}
 use Rattle.model.specs.declared.{Message.Message, Run.Run, Refusal.Refusal, StartAnswer.StartAnswer, CheckpointAnswer.CheckpointAnswer, SendAnswer.SendAnswer}
 use Rattle.model.specs.declared.{DeliverAnswer.DeliverAnswer, LoseAnswer.LoseAnswer, LineAnswer.LineAnswer, RecoverAnswer.RecoverAnswer}

@@ -1,6 +1,7 @@
 -- Document 01, "The surviving history": "It is built from the calls and their answers, and from nothing in the state".
 -- Assumes nothing.
-use Rattle.laws.specs.Basics.{Bool, true, false, not, ◌&&◌, ◌||◌, List, [], ◌∷◌, ◌++◌, Option, none, some, ℕ, ◌+◌, ◌*◌, eqb, ltb, leb, get_or, pick}
+use Rattle.std.specs.Prelude.{◌&&◌, ◌||◌, ◌∷◌, ◌++◌, ◌+◌, ◌*◌}
+use Rattle.laws.specs.Basics.{Bool, true, false, not, List, [], Option, none, some, ℕ, eqb, ltb, leb, get_or, pick}
 use Rattle.laws.specs.{Search.any_below, Sums.sum_below, Update.upd}
 use Rattle.model.specs.Words.{initial, basic, forced}
 use Rattle.histories.specs.History.{HistoryEvent, stored, sent, received, Lists, checkpoints, up_to, still_sent}

@@ -1,7 +1,8 @@
 -- Note 4, "Nobody failed": "An empty failed set now means a sweep". A sweep is a recover call for the failed set 0, and what it does is what Steps says of
 -- every failed set. Here is what that comes to; proofs/Sweep has the theorems.
 -- Assumes nothing.
-use Rattle.laws.specs.Basics.{◌≡◌, true, false, List, none, ℕ, ◌*◌, ◌≤◌, eqb, length, get_or, pick}
+use Rattle.std.specs.Prelude.{◌≡◌, ◌*◌, ◌≤◌}
+use Rattle.laws.specs.Basics.{true, false, List, none, ℕ, eqb, length, get_or, pick}
 use Rattle.laws.specs.Lists.{table}
 use Rattle.model.specs.declared.{Pin.TheVariants.Nothing, Run.Run, LineAnswer.LineAnswer, RecoverAnswer.RecoverAnswer}
 use Rattle.model.specs.{Words.entry, Words.live_index_of, Words.process, Words.own, Words.under_way, Sound.sound}

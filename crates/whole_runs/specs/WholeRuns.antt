@@ -1,6 +1,7 @@
 -- Demand 3, "Right over whole runs", as one type. Its proof is in proofs/.
 -- Assumes nothing.
-use Rattle.laws.specs.Basics.{◌≡◌, true, not, ◌&&◌, List, [], ◌∷◌, ◌++◌, Option, none, some, ◌⊎◌, ℕ, ◌+◌, ◌*◌, ◌^◌, ◌≤◌, ◌<◌, eqb, length, get_or}
+use Rattle.std.specs.Prelude.{◌≡◌, ◌&&◌, ◌∷◌, ◌++◌, ◌⊎◌, ◌+◌, ◌*◌, ◌^◌, ◌≤◌, ◌<◌}
+use Rattle.laws.specs.Basics.{true, not, List, [], Option, none, some, ℕ, eqb, length, get_or}
 use Rattle.laws.specs.{Search.all_below, Sums.sum_below, Tests.count_below, Tests.every, Tests.some_of}
 use Rattle.model.specs.declared.{Checkpoint.Checkpoint, Named.Named, Run.Run, Event.Event, StartAnswer.TheVariants.Started}
 use Rattle.model.specs.declared.Refusal.TheVariants.{ListTooShort, CausallyOrdered}

@@ -1,6 +1,7 @@
 -- Numbers that ascend along a list, and along the elements of a list that pass a test: by index.
 -- Assumes nothing.
-use Rattle.laws.specs.Basics.{◌≡◌, refl, ◌∙◌, ap, Bool, true, List, [], ◌∷◌, map, ℕ, zero, suc, ◌≤◌, ◌<◌, arith, leb, length, get_or, leb-true, pick, by_bool}
+use Rattle.std.specs.Prelude.{◌≡◌, ◌∷◌, ◌≤◌, ◌<◌}
+use Rattle.laws.specs.Basics.{refl, ◌∙◌, ap, Bool, true, List, [], map, ℕ, zero, suc, arith, leb, length, get_or, leb-true, pick, by_bool}
 use Rattle.laws.specs.{Lists.select, Tests.every, Truth.and_left, Truth.and_right}
 use Rattle.model.specs.Sound.{ascending}
 

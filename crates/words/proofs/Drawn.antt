@@ -1,6 +1,7 @@
 -- The layout, tried on words that are written out: the run that they stand for is computed.
 -- Assumes nothing.
-use Rattle.laws.specs.Basics.{◌≡◌, refl, List, [], ◌∷◌, ◌++◌, ℕ, replicate}
+use Rattle.std.specs.Prelude.{◌≡◌, ◌∷◌, ◌++◌}
+use Rattle.laws.specs.Basics.{refl, List, [], ℕ, replicate}
 use Rattle.laws.specs.{Lists.select, Lists.table, Lists.placed, Sums.sum_below, Tests.some_of}
 use Rattle.model.specs.Words.{is_pinned, blank, blocks_of, block_count, process, with_process, under_way, with_messages, with_disk}
 use Rattle.model.specs.Steps.{settled, gone, billed, with_processes, start_state, started, checkpoint_zero, opening, checkpoint_state, checkpointed, advanced, storing, send_state, sent_message, marked}

@@ -1,6 +1,7 @@
 -- Changes one after the other, and what they leave of the words that frames speak of.
 -- Assumes nothing.
-use Rattle.laws.specs.Basics.{◌≡◌, refl, ◌∙◌, List, ℕ, ◌+◌, ◌≤◌, ◌<◌, arith}
+use Rattle.std.specs.Prelude.{◌≡◌, ◌+◌, ◌≤◌, ◌<◌}
+use Rattle.laws.specs.Basics.{refl, ◌∙◌, List, ℕ, arith}
 use Rattle.laws.specs.Rows.{by_lt}
 use Rattle.words.specs.{Layout.word, Layout.kept_count_at_of, Layout.mark_at, Layout.blocks_at_of, Layout.part_at, Frames.OnlyProcess, Frames.OnlyDisk}
 

@@ -1,6 +1,7 @@
 -- Reading after puts: what was put, and what was not touched.
 -- Assumes nothing.
-use Rattle.laws.specs.Basics.{◌≡◌, refl, sym, ◌∙◌, ap, true, List, [], ◌∷◌, ℕ, zero, suc, ◌+◌, ◌-◌, ◌*◌, ◌/◌, ◌%◌, ◌≤◌, ◌<◌, arith, eqb, length, get_or, drop, set, length-set, get_or-set_same, get_or-set_other, eq-eqb, ne_eqb, eqb-true, by_eq}
+use Rattle.std.specs.Prelude.{◌≡◌, ◌∷◌, ◌+◌, ◌-◌, ◌*◌, ◌/◌, ◌%◌, ◌≤◌, ◌<◌}
+use Rattle.laws.specs.Basics.{refl, sym, ◌∙◌, ap, true, List, [], ℕ, zero, suc, arith, eqb, length, get_or, drop, set, length-set, get_or-set_same, get_or-set_other, eq-eqb, ne_eqb, eqb-true, by_eq}
 use native.Mathlib.Nat.{add-zero, div-add-mod}
 use native.Mathlib.Numerals.{add-one}
 use Rattle.model.specs.{Words.names, declared.Pin.TheVariants.At, declared.CheckpointIndex.CheckpointIndex}

@@ -1,6 +1,7 @@
 -- What the run that words stand for holds: its count, each process's part, own entries, the messages under way; and the sizes of its parts.
 -- Assumes nothing.
-use Rattle.laws.specs.Basics.{◌≡◌, sym, ◌∙◌, ap, true, false, List, [], ◌++◌, ℕ, ◌+◌, ◌-◌, ◌≤◌, ◌<◌, arith, eqb, ltb, leb, length, get_or, take, replicate, get_or-replicate, length-take-le, eq-eqb, ne_eqb, eqb-true, lt-ltb, le-ltb, leb-true, pick, by_bool}
+use Rattle.std.specs.Prelude.{◌≡◌, ◌++◌, ◌+◌, ◌-◌, ◌≤◌, ◌<◌}
+use Rattle.laws.specs.Basics.{sym, ◌∙◌, ap, true, false, List, [], ℕ, arith, eqb, ltb, leb, length, get_or, take, replicate, get_or-replicate, length-take-le, eq-eqb, ne_eqb, eqb-true, lt-ltb, le-ltb, leb-true, pick, by_bool}
 use lib.ListN.{get_or-append}
 use lib.Seq.{get_or-take, get_or-append-add, ext_get_or}
 use Rattle.laws.specs.{Lists.table, Lists.placed, Prefixes.placed_length, Rows.by_lt, Select.select_length, Truth.and_out}

@@ -1,6 +1,7 @@
 -- Words of zeros but for n and for block counts: "a state of zeros with every pin none", with its count. A start goes on from here, process by process.
 -- Assumes nothing.
-use Rattle.laws.specs.Basics.{◌≡◌, refl, sym, ◌∙◌, ap, true, false, List, [], ℕ, ◌+◌, ◌≤◌, ◌<◌, arith, ltb, length, replicate, get_or-replicate, le-ltb, pick}
+use Rattle.std.specs.Prelude.{◌≡◌, ◌+◌, ◌≤◌, ◌<◌}
+use Rattle.laws.specs.Basics.{refl, sym, ◌∙◌, ap, true, false, List, [], ℕ, arith, ltb, length, replicate, get_or-replicate, le-ltb, pick}
 use Rattle.laws.specs.{Choice.pick_same, Lists.select, Lists.table, Prefixes.placed_none, Tables.table_same, Tables.table_replicate}
 use Rattle.model.specs.declared.{Interval.Interval, Pin.TheVariants.Nothing}
 use Rattle.model.specs.Words.{most_processes, most_under_way, zero_vector, no_pins_of, no_checkpoint, no_message, blank}

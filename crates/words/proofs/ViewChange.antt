@@ -1,6 +1,7 @@
 -- Words that agree outside of one process, outside of the messages, or outside of the two numbers of blocks stand for runs that differ there alone.
 -- Assumes nothing.
-use Rattle.laws.specs.Basics.{◌≡◌, refl, sym, ◌∙◌, ap, true, false, List, ℕ, ◌+◌, ◌-◌, ◌≤◌, ◌<◌, arith, ltb, length, set, replicate, lt-ltb, pick, by_eq}
+use Rattle.std.specs.Prelude.{◌≡◌, ◌+◌, ◌-◌, ◌≤◌, ◌<◌}
+use Rattle.laws.specs.Basics.{refl, sym, ◌∙◌, ap, true, false, List, ℕ, arith, ltb, length, set, replicate, lt-ltb, pick, by_eq}
 use Rattle.laws.specs.{Lists.select, Tables.table_same, Tables.table_set, Update.upd, Update.upd_same, Update.upd_other}
 use Rattle.model.specs.declared.Run.{Run}
 use Rattle.model.specs.Words.{most_processes, zero_vector, no_pins_of, no_checkpoint, with_process, with_messages, with_disk}

@@ -1,6 +1,7 @@
 -- What keeps unused places zero: for each of the three changes, what has to be shown of the places that it touches.
 -- Assumes nothing.
-use Rattle.laws.specs.Basics.{◌≡◌, sym, ◌∙◌, List, ℕ, ◌+◌, ◌≤◌, ◌<◌, arith, by_eq}
+use Rattle.std.specs.Prelude.{◌≡◌, ◌+◌, ◌≤◌, ◌<◌}
+use Rattle.laws.specs.Basics.{sym, ◌∙◌, List, ℕ, arith, by_eq}
 use Rattle.words.specs.Layout.{word, count_of, end_of, kept_count_at_of, mark_at, blocks_at_of, part_at, index_at_of, cause_at_of, stored_at, low_at, high_at, sender_at_of, receiver_at_of, carried_at}
 use Rattle.words.specs.{Parts.is_used_in, Frames.OnlyProcess, Frames.OnlyMessages, Frames.OnlyDisk, Clean.CleanKept, Clean.CleanMessages, Clean.Clean}
 use Rattle.words.proofs.Frames.{process_head, process_blocks, process_kept_count, process_mark, process_part, process_message_words}

@@ -1,6 +1,7 @@
 -- A process's part put together from its rows, what each of the three changes leaves as it was, and process after process changed.
 -- Assumes nothing.
-use Rattle.laws.specs.Basics.{◌≡◌, ◌∙◌, true, List, ℕ, ◌+◌, ◌≤◌, ◌<◌, take}
+use Rattle.std.specs.Prelude.{◌≡◌, ◌+◌, ◌≤◌, ◌<◌}
+use Rattle.laws.specs.Basics.{◌∙◌, true, List, ℕ, take}
 use native.Mathlib.Numerals.{add-one}
 use Rattle.model.specs.declared.Run.{Run}
 use Rattle.model.specs.{Words.Process, Steps.with_processes}

@@ -1,7 +1,8 @@
 -- What the rows of words hold whose run is sound: no entry above the own entry that it is of, zeros at n and above, each pin at a kept checkpoint and each kept
 -- checkpoint pinned.
 -- Assumes nothing.
-use Rattle.laws.specs.Basics.{◌≡◌, ap, Bool, true, List, ℕ, ◌+◌, ◌≤◌, ◌<◌, arith, eqb, leb, get_or, eqb-true, leb-true}
+use Rattle.std.specs.Prelude.{◌≡◌, ◌+◌, ◌≤◌, ◌<◌}
+use Rattle.laws.specs.Basics.{ap, Bool, true, List, ℕ, arith, eqb, leb, get_or, eqb-true, leb-true}
 use Rattle.laws.specs.{Lists.table, Rows.every_at, Rows.every_beyond, Rows.some_where, Search.all_out, Tables.length_table, Tables.get_d_table, Tests.every}
 use Rattle.model.specs.declared.{Interval.Interval, Pin.Pin, Pin.TheVariants.Nothing, Checkpoint.Checkpoint}
 use Rattle.model.specs.{Words.entry, Words.names, Words.is_pinned, Words.no_checkpoint, Words.process, Words.own, Sound.within, Sound.zero_from, Sound.sound}

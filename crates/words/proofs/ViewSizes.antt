@@ -1,6 +1,7 @@
 -- The sizes of the arrays of the run that words stand for: 16 rows of 16 places, 64 messages, each vector of 16. They hold of all words.
 -- Assumes nothing.
-use Rattle.laws.specs.Basics.{◌≡◌, refl, ◌∙◌, ap, true, List, [], ℕ, ◌<◌, arith, length, get_or, replicate, get_or-replicate, pick, by_bool}
+use Rattle.std.specs.Prelude.{◌≡◌, ◌<◌}
+use Rattle.laws.specs.Basics.{refl, ◌∙◌, ap, true, List, [], ℕ, arith, length, get_or, replicate, get_or-replicate, pick, by_bool}
 use Rattle.laws.specs.{Lists.table, Prefixes.placed_length, Rows.by_lt, Tables.length_table, Tables.get_d_table}
 use Rattle.model.specs.declared.{Checkpoint.Checkpoint, Message.Message, Run.Run}
 use Rattle.model.specs.Words.{most_processes, most_under_way, zero_vector, no_pins_of, no_checkpoint, no_message, blank}

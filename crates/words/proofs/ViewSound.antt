@@ -1,6 +1,7 @@
 -- What words hold whose run is sound: each clause of document 01's "A sound state", place by place.
 -- Assumes nothing.
-use Rattle.laws.specs.Basics.{◌≡◌, sym, ◌∙◌, ap, true, ◌&&◌, List, map, some, ℕ, suc, ◌+◌, ◌-◌, ◌≤◌, ◌<◌, arith, eqb, leb, length, get_or, take, length-take-le, eqb-true, eqb-false, leb-true, not-true, by_bool, by_eq}
+use Rattle.std.specs.Prelude.{◌≡◌, ◌&&◌, ◌+◌, ◌-◌, ◌≤◌, ◌<◌}
+use Rattle.laws.specs.Basics.{sym, ◌∙◌, ap, true, List, map, some, ℕ, suc, arith, eqb, leb, length, get_or, take, length-take-le, eqb-true, eqb-false, leb-true, not-true, by_bool, by_eq}
 use lib.Seq.{get_or-take}
 use Rattle.laws.specs.{Lists.select, Lists.last_of, Lists.table, Lists.placed, Prefixes.placed_length, Rows.by_lt, Rows.every_at, Rows.every_beyond, Tests.every}
 use Rattle.laws.specs.{Select.last_of_snoc, Tables.length_table, Tables.get_d_table, Truth.and_out}

@@ -1,6 +1,7 @@
 -- Every place that is not in use is zero: so words that are stored hold nothing of what was deleted. No call relies on it.
 -- Assumes nothing.
-use Rattle.laws.specs.Basics.{◌≡◌, false, List, ℕ, ◌+◌, ◌≤◌, ◌<◌}
+use Rattle.std.specs.Prelude.{◌≡◌, ◌+◌, ◌≤◌, ◌<◌}
+use Rattle.laws.specs.Basics.{false, List, ℕ}
 use Rattle.model.specs.Words.{most_processes, most_under_way}
 use Rattle.words.specs.Layout.{word, count_of, kept_count_at_of, mark_at, blocks_at_of, part_at, index_at_of, cause_at_of, stored_at, low_at, high_at, sender_at_of, receiver_at_of, carried_at}
 use Rattle.words.specs.Parts.{is_used_in}

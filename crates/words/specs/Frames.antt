@@ -1,6 +1,7 @@
 -- What stays of words when a call changes one thing in them: v is what it leaves of w. Each word that is not named here is as it was.
 -- Assumes nothing.
-use Rattle.laws.specs.Basics.{◌≡◌, List, ℕ, ◌+◌, ◌≤◌, ◌<◌, length}
+use Rattle.std.specs.Prelude.{◌≡◌, ◌+◌, ◌≤◌, ◌<◌}
+use Rattle.laws.specs.Basics.{List, ℕ, length}
 use Rattle.words.specs.Layout.{word, kept_count_at_of, mark_at, part_at}
 
 -- Only process p has changed: how many checkpoints it keeps, its mark, the 320 words of its part. Its block count stays.

@@ -1,7 +1,8 @@
 -- Which run the words stand for that a caller lends: 6,464 words of 16 bits, each thing at a fixed place. The decoder is total: every list of words is a state.
 -- What stands in a place that is not in use counts for nothing: it is read as zero. A row that is in use is read whole, all its 16 entries.
 -- Assumes nothing.
-use Rattle.laws.specs.Basics.{Bool, false, not, ◌&&◌, ◌||◌, List, ℕ, zero, suc, ◌+◌, ◌-◌, ◌*◌, eqb, ltb, leb, length, get_or, replicate, pick}
+use Rattle.std.specs.Prelude.{◌&&◌, ◌||◌, ◌+◌, ◌-◌, ◌*◌}
+use Rattle.laws.specs.Basics.{Bool, false, not, List, ℕ, zero, suc, eqb, ltb, leb, length, get_or, replicate, pick}
 use Rattle.laws.specs.Lists.{select, table, placed}
 use Rattle.model.specs.declared.{Interval.Interval, CheckpointIndex.CheckpointIndex, Pin.Pin, Pin.TheVariants.Nothing, Pin.TheVariants.At, Message.Message}
 use Rattle.model.specs.declared.{Checkpoint.Checkpoint, Run.Run}

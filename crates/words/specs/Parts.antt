@@ -1,6 +1,7 @@
 -- The part of the words that is one process's.
 -- Assumes nothing.
-use Rattle.laws.specs.Basics.{Bool, ◌&&◌, List, ℕ, ltb, take}
+use Rattle.std.specs.Prelude.{◌&&◌}
+use Rattle.laws.specs.Basics.{Bool, List, ℕ, ltb, take}
 use Rattle.model.specs.Words.{Process}
 use Rattle.words.specs.Layout.{word, end_of, kept_count_at_of, part_at, pins_at_of, vector_in, pins_in, mark_in, kept_in, message_in, is_message}
 

@@ -1,6 +1,7 @@
 -- Words put in place. A put fills a section, given by its place and its size; what a call leaves of the words is a list of puts, done one after the other.
 -- Assumes nothing.
-use Rattle.laws.specs.Basics.{List, [], ◌∷◌, ℕ, zero, suc, ◌+◌, ◌/◌, ◌%◌, get_or, set}
+use Rattle.std.specs.Prelude.{◌∷◌, ◌+◌, ◌/◌, ◌%◌}
+use Rattle.laws.specs.Basics.{List, [], ℕ, zero, suc, get_or, set}
 use Rattle.model.specs.declared.Interval.{Interval}
 use Rattle.model.specs.Words.{most_processes, entry}
 

@@ -3,7 +3,8 @@
 
 #![tactic(auto)]
 
-ghost use Rattle.laws.specs.Basics.{◌≡◌, [], ◌∷◌, ◌+◌, ◌≤◌, ◌<◌, length};
+ghost use Rattle.std.specs.Prelude.{◌≡◌, ◌∷◌, ◌+◌, ◌≤◌, ◌<◌};
+ghost use Rattle.laws.specs.Basics.{[], length};
 ghost use Rattle.model.specs.declared.Pin.TheVariants.{At};
 ghost use Rattle.model.specs.Words.{most_interval, most_processes};
 ghost use Rattle.words.specs.Layout.{interval_of, index_of_def, pin_of_def, row_in, vector_in, wide2, wide4};

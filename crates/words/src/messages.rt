@@ -1,6 +1,7 @@
 // The messages under way, in 64 places of the words. A place is in use before the end of those in use, and where its number is not 0; what another place holds changes
 // no answer. A message that is received or lost leaves its place unused and no other moves, until a send finds the last place taken: then the messages close up.
-ghost use Rattle.laws.specs.Basics.{◌≡◌, ◌+◌, ◌-◌, ◌≤◌, ◌<◌, eqb, length, pick};
+ghost use Rattle.std.specs.Prelude.{◌≡◌, ◌+◌, ◌-◌, ◌≤◌, ◌<◌};
+ghost use Rattle.laws.specs.Basics.{eqb, length, pick};
 ghost use Rattle.model.specs.Words.{most_under_way, most_processes};
 ghost use Rattle.words.specs.{Layout.word, Layout.end_of, Layout.message_in, Layout.is_message, Layout.state_size, Puts.puts};
 ghost use Rattle.words.specs.messages.Places.{place_below, lows_below, place_of, found_at, end_below, message_puts, cleared, taken_out, moved_to, closing, cleared_from, closed_up, with_room, put_last_of};

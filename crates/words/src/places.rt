@@ -1,5 +1,5 @@
 // Where each thing stands, as specs/Layout has it: the number of its first word. The functions say so, and a wrong number here would fail them.
-ghost use Rattle.laws.specs.Basics.{◌≡◌, ◌<◌};
+ghost use Rattle.std.specs.Prelude.{◌≡◌, ◌<◌};
 ghost use Rattle.model.specs.Words.{most_processes, most_under_way};
 ghost use Rattle.words.specs.Layout.{kept_count_at_of, mark_at, blocks_at_of, part_at, pins_at_of, index_at_of, cause_at_of, stored_at, low_at, high_at, sender_at_of, receiver_at_of, carried_at};
 

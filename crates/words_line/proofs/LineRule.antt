@@ -1,6 +1,7 @@
 -- The line rule on the words says what Steps says of the run that sound words stand for.
 -- Assumes nothing.
-use Rattle.laws.specs.Basics.{◌≡◌, refl, sym, ◌∙◌, ap, Bool, true, false, not, ◌||◌, List, [], ◌∷◌, ◌++◌, append-nil, none, some, ℕ, zero, suc, ◌+◌, ◌-◌, ◌≤◌, ◌<◌, arith, eqb, ltb, leb, length, get_or, replicate, length-replicate, get_or-replicate, eq-eqb, ne_eqb, eqb-false, lt-ltb, le-ltb, le-leb, lt-leb, pick, by_bool, by_eq}
+use Rattle.std.specs.Prelude.{◌≡◌, ◌||◌, ◌∷◌, ◌++◌, ◌+◌, ◌-◌, ◌≤◌, ◌<◌}
+use Rattle.laws.specs.Basics.{refl, sym, ◌∙◌, ap, Bool, true, false, not, List, [], append-nil, none, some, ℕ, zero, suc, arith, eqb, ltb, leb, length, get_or, replicate, length-replicate, get_or-replicate, eq-eqb, ne_eqb, eqb-false, lt-ltb, le-ltb, le-leb, lt-leb, pick, by_bool, by_eq}
 use Rattle.laws.specs.{Lists.select, Lists.last_of, Lists.or_else, Lists.table, Loops.below_length, Loops.below_at, Loops.below_above, Rows.by_lt}
 use Rattle.laws.specs.{Ranges.all_same, Below.all_not_any, Search.all_below, Search.any_below, Search.any_none, Select.select_append, Select.last_of_snoc}
 use Rattle.laws.specs.Tables.{table_same}

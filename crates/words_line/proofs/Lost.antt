@@ -1,6 +1,7 @@
 -- Where the words stand for a sound state and the indexes are those of the line for a failed set, the messages that are lost are those of Steps.
 -- Assumes nothing.
-use Rattle.laws.specs.Basics.{◌≡◌, sym, ◌∙◌, ap, true, false, not, List, ℕ, ◌<◌, arith, ltb}
+use Rattle.std.specs.Prelude.{◌≡◌, ◌<◌}
+use Rattle.laws.specs.Basics.{sym, ◌∙◌, ap, true, false, not, List, ℕ, arith, ltb}
 use Rattle.laws.specs.{Lists.select, Prefixes.select_same_on}
 use Rattle.model.specs.{declared.CheckpointIndex.CheckpointIndex, declared.Message.Message, declared.Run.Run, laws.Sound.sound_state, laws.Sound.sound_message}
 use Rattle.model.specs.{Words.entry, Words.under_way, Sound.message_sound, Sound.sound, Steps.lost_by, Steps.still_under_way, Refusals.no_member_of}

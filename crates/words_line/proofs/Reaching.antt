@@ -1,6 +1,7 @@
 -- What the functions find of named checkpoints in the words is what Earliest says of the run that sound words stand for.
 -- Assumes nothing.
-use Rattle.laws.specs.Basics.{◌≡◌, refl, sym, ◌∙◌, ap, Bool, true, false, not, ◌||◌, List, [], ◌∷◌, ◌++◌, ℕ, zero, suc, ◌+◌, ◌-◌, ◌*◌, ◌%◌, ◌≤◌, ◌<◌, max, arith, eqb, ltb, leb, length, get_or, replicate, length-replicate, eq-eqb, ne_eqb, eqb-true, eqb-false, leb-false, by_bool}
+use Rattle.std.specs.Prelude.{◌≡◌, ◌||◌, ◌∷◌, ◌++◌, ◌+◌, ◌-◌, ◌*◌, ◌%◌, ◌≤◌, ◌<◌}
+use Rattle.laws.specs.Basics.{refl, sym, ◌∙◌, ap, Bool, true, false, not, List, [], ℕ, zero, suc, max, arith, eqb, ltb, leb, length, get_or, replicate, length-replicate, eq-eqb, ne_eqb, eqb-true, eqb-false, leb-false, by_bool}
 use Rattle.laws.specs.{Below.not_out, Below.all_not_any, Elements.same_test, Lists.select, Lists.last_of, Lists.or_else, Lists.table, Loops.below_at}
 use Rattle.laws.specs.{Ranges.any_same, Search.all_below, Search.any_below, Search.any_none, Search.all_out, Tables.length_table, Tables.table_same}
 use Rattle.laws.specs.{Select.some_append, Select.some_one, Select.some_table, Select.or_swap, Tests.some_of}

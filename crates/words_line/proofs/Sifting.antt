@@ -1,6 +1,7 @@
 -- What is left of the messages under way where the lost ones leave their places.
 -- Assumes nothing.
-use Rattle.laws.specs.Basics.{◌≡◌, refl, sym, ◌∙◌, ap, true, false, not, ◌&&◌, ◌||◌, List, [], ◌∷◌, ℕ, zero, suc, ◌+◌, ◌-◌, ◌≤◌, ◌<◌, arith, eqb, leb, length, le-leb, by_bool, by_eq}
+use Rattle.std.specs.Prelude.{◌≡◌, ◌&&◌, ◌||◌, ◌∷◌, ◌+◌, ◌-◌, ◌≤◌, ◌<◌}
+use Rattle.laws.specs.Basics.{refl, sym, ◌∙◌, ap, true, false, not, List, [], ℕ, zero, suc, arith, eqb, leb, length, le-leb, by_bool, by_eq}
 use Rattle.laws.specs.{Lists.select, Lists.table, Rows.by_lt, Select.select_select, Tables.table_same}
 use Rattle.laws.specs.Truth.{never_both, and_out, and_both, or_in_right}
 use Rattle.model.specs.declared.{CheckpointIndex.CheckpointIndex, Message.Message}

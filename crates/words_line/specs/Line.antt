@@ -1,7 +1,8 @@
 -- The line rule on the words: which states of a process are within the limits that a failed set puts on the entries, and where the latest of them stands.
 -- proofs/LineRule has that they say what Steps says of the run.
 -- Assumes nothing.
-use Rattle.laws.specs.Basics.{Bool, not, List, Option, none, some, ℕ, zero, suc, ◌+◌, ◌-◌, ◌≤◌, ◌<◌, eqb, ltb, leb, length, get_or, replicate, pick}
+use Rattle.std.specs.Prelude.{◌+◌, ◌-◌, ◌≤◌, ◌<◌}
+use Rattle.laws.specs.Basics.{Bool, not, List, Option, none, some, ℕ, zero, suc, eqb, ltb, leb, length, get_or, replicate, pick}
 use Rattle.laws.specs.{Loops.set_below, Search.all_below}
 use Rattle.model.specs.declared.{Interval.Interval, CheckpointIndex.CheckpointIndex, Checkpoint.Checkpoint}
 use Rattle.model.specs.Words.{most_processes, entry, live_index_of, live, zero_vector, failed}

@@ -1,6 +1,7 @@
 -- The messages that are lost where the line has given indexes, and words without them. proofs/Lost has that they are those that Steps says are lost.
 -- Assumes nothing.
-use Rattle.laws.specs.Basics.{◌≡◌, Bool, true, not, ◌&&◌, List, ℕ, zero, suc, ◌<◌, ltb, length, get_or, pick}
+use Rattle.std.specs.Prelude.{◌≡◌, ◌&&◌, ◌<◌}
+use Rattle.laws.specs.Basics.{Bool, true, not, List, ℕ, zero, suc, ltb, length, get_or, pick}
 use Rattle.laws.specs.Lists.{select}
 use Rattle.model.specs.{declared.CheckpointIndex.CheckpointIndex, declared.Message.Message, Words.entry, Words.most_processes}
 use Rattle.words.specs.{Layout.word, Layout.wide2, Layout.sender_at_of, Layout.message_in, Layout.is_message, Layout.messages_in, Layout.end_fits_of, Frames.OnlyMessages}

@@ -1,7 +1,8 @@
 -- The earliest consistent line through named checkpoints (document 02, Note 8), which are pairs of numbers in a lent slice.
 -- proofs/Reaching has that they say what Earliest says of the run.
 -- Assumes nothing.
-use Rattle.laws.specs.Basics.{Bool, not, ◌||◌, List, ℕ, zero, suc, ◌+◌, ◌-◌, ◌*◌, ◌/◌, ◌%◌, ◌≤◌, ◌<◌, max, eqb, ltb, length, get_or, replicate, pick}
+use Rattle.std.specs.Prelude.{◌||◌, ◌+◌, ◌-◌, ◌*◌, ◌/◌, ◌%◌, ◌≤◌, ◌<◌}
+use Rattle.laws.specs.Basics.{Bool, not, List, ℕ, zero, suc, max, eqb, ltb, length, get_or, replicate, pick}
 use Rattle.laws.specs.{Lists.table, Loops.set_below, Search.all_below, Search.any_below}
 use Rattle.model.specs.declared.Named.{Named}
 use Rattle.model.specs.Words.{most_processes}

@@ -1,5 +1,6 @@
 // The line's member of a process. Its states are the checkpoints that it keeps, in their places, and after them the live state.
-ghost use Rattle.laws.specs.Basics.{◌≡◌, ◌+◌, ◌-◌, ◌≤◌, ◌<◌, length, replicate, pick};
+ghost use Rattle.std.specs.Prelude.{◌≡◌, ◌+◌, ◌-◌, ◌≤◌, ◌<◌};
+ghost use Rattle.laws.specs.Basics.{length, replicate, pick};
 ghost use Rattle.model.specs.Words.{most_processes};
 ghost use Rattle.words.specs.Layout.{word, kept_count_at_of, part_at, state_size};
 ghost use Rattle.words_line.specs.Line.{limits_in, past_kept, past_latest, has_members, pasts_in, index_in_of, indexes_in, OwnSome, KeptCountMost, KeptUsed, AllUsed, AllFound};

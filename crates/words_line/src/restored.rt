@@ -1,5 +1,6 @@
 // A process goes back to a stored checkpoint; its pins once all processes have gone back.
-ghost use Rattle.laws.specs.Basics.{◌≡◌, [], ◌∷◌, ◌+◌, ◌≤◌, ◌<◌, eqb, length, pick};
+ghost use Rattle.std.specs.Prelude.{◌≡◌, ◌∷◌, ◌+◌, ◌≤◌, ◌<◌};
+ghost use Rattle.laws.specs.Basics.{[], eqb, length, pick};
 ghost use Rattle.model.specs.{Words.below, Words.most_processes, Words.most_interval, Steps.advanced};
 ghost use Rattle.words.specs.Layout.{word, mark_at, part_at, stored_at, vector_in, state_size};
 ghost use Rattle.words.specs.Puts.{puts, one, vector_put};

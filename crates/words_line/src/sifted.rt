@@ -1,5 +1,6 @@
 // The messages that a recovery loses. They leave their places unused, and no other message moves.
-ghost use Rattle.laws.specs.Basics.{◌≡◌, true, ◌≤◌, ◌<◌, length, pick};
+ghost use Rattle.std.specs.Prelude.{◌≡◌, ◌≤◌, ◌<◌};
+ghost use Rattle.laws.specs.Basics.{true, length, pick};
 ghost use Rattle.laws.specs.Lists.{select, table};
 ghost use Rattle.model.specs.Words.{most_processes, most_under_way};
 ghost use Rattle.words.specs.Layout.{word, end_of, sender_at_of, message_in, is_message, state_size};

@@ -1,6 +1,7 @@
 // The earliest consistent line through named checkpoints (document 02, Note 8), of which each process keeps one at most. They are pairs of numbers in a lent slice:
 // process, index, process, index, and so on. Numbers of which one is left over are no pairs, and name nothing.
-ghost use Rattle.laws.specs.Basics.{◌≡◌, ◌||◌, ◌+◌, ◌-◌, ◌*◌, ◌≤◌, ◌<◌, eqb, ltb, leb, length, sets};
+ghost use Rattle.std.specs.Prelude.{◌≡◌, ◌||◌, ◌+◌, ◌-◌, ◌*◌, ◌≤◌, ◌<◌};
+ghost use Rattle.laws.specs.Basics.{eqb, ltb, leb, length, sets};
 ghost use Rattle.laws.specs.{Lists.table, Search.any_below};
 ghost use Rattle.model.specs.Words.{most_processes};
 ghost use Rattle.words.specs.Layout.{word, kept_count_at_of, state_size};

@@ -1,6 +1,7 @@
 -- The blocks written and deleted after a bill.
 -- Assumes nothing.
-use Rattle.laws.specs.Basics.{◌≡◌, List, ℕ, arith, length}
+use Rattle.std.specs.Prelude.{◌≡◌}
+use Rattle.laws.specs.Basics.{List, ℕ, arith, length}
 use Rattle.words.specs.{Frames.OnlyDisk, Layout.wide4, Puts.puts, Puts.puts4}
 use Rattle.words.proofs.Reading.{puts_length, untouched, touched, wide4_back}
 

@@ -1,6 +1,7 @@
 -- What collecting leaves of the places of kept checkpoints: those that a pin names close up, in their order, and the places after them are unused.
 -- Assumes nothing.
-use Rattle.laws.specs.Basics.{◌≡◌, refl, sym, ◌∙◌, ap, Bool, true, false, not, List, [], ◌∷◌, ◌++◌, append-nil, ℕ, zero, ◌+◌, ◌-◌, ◌*◌, ◌≤◌, ◌<◌, arith, length, set, length-append, sets, by_eq}
+use Rattle.std.specs.Prelude.{◌≡◌, ◌∷◌, ◌++◌, ◌+◌, ◌-◌, ◌*◌, ◌≤◌, ◌<◌}
+use Rattle.laws.specs.Basics.{refl, sym, ◌∙◌, ap, Bool, true, false, not, List, [], append-nil, ℕ, zero, arith, length, set, length-append, sets, by_eq}
 use native.Mathlib.Numerals.{add-one}
 use Rattle.laws.specs.{Elements.every_table, Lists.select, Lists.table, Rows.by_lt, Tables.table_same, Tests.some_of, Written.sets_two}
 use Rattle.laws.specs.Select.{select_append, select_one, all_chosen, none_chosen}

@@ -1,6 +1,7 @@
 -- Rows of pins as words: which checkpoints they name, and the pins after a checkpoint and a receipt.
 -- Assumes nothing.
-use Rattle.laws.specs.Basics.{◌≡◌, refl, sym, ◌∙◌, ap, Bool, true, false, ◌||◌, List, ℕ, zero, suc, ◌+◌, ◌-◌, ◌≤◌, ◌<◌, arith, eqb, length, get_or, set, get_or-set_same, get_or-set_other, eq-eqb, ne_eqb, eqb-true, pick, by_bool, by_eq}
+use Rattle.std.specs.Prelude.{◌≡◌, ◌||◌, ◌+◌, ◌-◌, ◌≤◌, ◌<◌}
+use Rattle.laws.specs.Basics.{refl, sym, ◌∙◌, ap, Bool, true, false, List, ℕ, zero, suc, arith, eqb, length, get_or, set, get_or-set_same, get_or-set_other, eq-eqb, ne_eqb, eqb-true, pick, by_bool, by_eq}
 use lib.Pow.{pow_pos}
 use Rattle.laws.specs.{Bits.bits_of, Bits.bit_past, Bits.bits_at, Elements.same_test, Search.any_below, Select.some_table, Tests.some_of}
 use Rattle.laws.specs.{Tables.length_table, Tables.get_d_table, Tables.table_same, Tables.table_set, Update.upd, Update.upd_same, Update.upd_other}

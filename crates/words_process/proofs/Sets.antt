@@ -1,6 +1,7 @@
 -- Sets as numbers: a bit tested, and one more bit that comes to a set.
 -- Assumes nothing.
-use Rattle.laws.specs.Basics.{◌≡◌, refl, sym, ◌∙◌, ap, Bool, true, false, ◌||◌, ℕ, zero, suc, ◌+◌, ◌*◌, ◌/◌, ◌%◌, ◌^◌, ◌<◌, arith, eqb, eq-eqb, ne_eqb, eqb-true, by_eq}
+use Rattle.std.specs.Prelude.{◌≡◌, ◌||◌, ◌+◌, ◌*◌, ◌/◌, ◌%◌, ◌^◌, ◌<◌}
+use Rattle.laws.specs.Basics.{refl, sym, ◌∙◌, ap, Bool, true, false, ℕ, zero, suc, arith, eqb, eq-eqb, ne_eqb, eqb-true, by_eq}
 use native.Mathlib.Nat.{one-mul, zero-mul, mod-lt}
 use lib.Bits.{bit_and, bit_or, and_block, and_zero_r, and_mask, or_shr, or_mod, or_shifted_r}
 use lib.Pow.{pow_pos, split}

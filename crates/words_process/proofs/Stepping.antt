@@ -1,7 +1,8 @@
 -- A checkpoint and a receipt of a process of a sound state: the pins move first, then what no pin names is deleted, then the new checkpoint is stored. The definitions
 -- store first and delete then; both leave the same.
 -- Assumes nothing.
-use Rattle.laws.specs.Basics.{◌≡◌, refl, sym, ◌∙◌, ap, Bool, true, false, not, List, [], ◌∷◌, ◌++◌, ℕ, ◌+◌, ◌-◌, ◌*◌, ◌≤◌, ◌<◌, arith, length, get_or, set, length-set, sets, get_or-set_other, eqb-true, pick}
+use Rattle.std.specs.Prelude.{◌≡◌, ◌∷◌, ◌++◌, ◌+◌, ◌-◌, ◌*◌, ◌≤◌, ◌<◌}
+use Rattle.laws.specs.Basics.{refl, sym, ◌∙◌, ap, Bool, true, false, not, List, [], ℕ, arith, length, get_or, set, length-set, sets, get_or-set_other, eqb-true, pick}
 use native.Mathlib.Nat.{mul-le-mul_left}
 use lib.Seq.{ext_get_or}
 use Rattle.laws.specs.{Lists.select, Lists.table, Lists.last_of, Lists.or_else, Rows.by_lt, Rows.every_at, Rows.some_at, Rows.some_where}

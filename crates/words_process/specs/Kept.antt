@@ -1,6 +1,7 @@
 -- The checkpoints that one process keeps, in their 16 places of the words: one stored, one moved, places made unused, and what collecting leaves.
 -- Assumes nothing.
-use Rattle.laws.specs.Basics.{◌≡◌, true, List, [], ◌∷◌, ℕ, ◌+◌, ◌*◌, ◌≤◌, ◌<◌, length}
+use Rattle.std.specs.Prelude.{◌≡◌, ◌∷◌, ◌+◌, ◌*◌, ◌≤◌, ◌<◌}
+use Rattle.laws.specs.Basics.{true, List, [], ℕ, length}
 use Rattle.laws.specs.Lists.{select, table}
 use Rattle.model.specs.{declared.Interval.Interval, declared.CheckpointIndex.CheckpointIndex, declared.Pin.Pin, Words.is_pinned, Words.most_processes}
 use Rattle.words.specs.Layout.{word, index_at_of, cause_at_of, stored_at, row_in, checkpoint_in}

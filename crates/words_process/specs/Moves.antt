@@ -1,6 +1,7 @@
 -- What a checkpoint or a receipt leaves of the words: another part for its process, and other blocks written and deleted.
 -- Assumes nothing.
-use Rattle.laws.specs.Basics.{◌≡◌, List, ℕ, ◌≤◌}
+use Rattle.std.specs.Prelude.{◌≡◌, ◌≤◌}
+use Rattle.laws.specs.Basics.{List, ℕ}
 use Rattle.model.specs.declared.Disk.{Disk}
 use Rattle.model.specs.Words.{Process, most_processes}
 use Rattle.words.specs.{Clean.CleanKept, Frames.OnlyProcess, Frames.OnlyDisk, Layout.word, Layout.wide4, Layout.kept_count_at_of, Parts.process_in}

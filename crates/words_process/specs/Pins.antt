@@ -1,6 +1,7 @@
 -- The pins of one process as a row of words.
 -- Assumes nothing.
-use Rattle.laws.specs.Basics.{Bool, ◌||◌, List, ℕ, eqb, get_or, pick}
+use Rattle.std.specs.Prelude.{◌||◌}
+use Rattle.laws.specs.Basics.{Bool, List, ℕ, eqb, get_or, pick}
 use Rattle.laws.specs.Lists.{table}
 use Rattle.model.specs.declared.Pin.{Pin}
 use Rattle.model.specs.Words.{most_processes, in_set}

@@ -1,6 +1,7 @@
 -- The step for one entry of taking a carried vector in, where the vector stands in the words.
 -- Assumes nothing.
-use Rattle.laws.specs.Basics.{List, ℕ, ◌+◌, ◌^◌, pick}
+use Rattle.std.specs.Prelude.{◌+◌, ◌^◌}
+use Rattle.laws.specs.Basics.{List, ℕ, pick}
 use Rattle.model.specs.declared.Interval.{Interval}
 use Rattle.model.specs.Words.{entry, below}
 use Rattle.words.specs.Layout.{word, interval_of}

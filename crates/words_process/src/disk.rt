@@ -1,5 +1,6 @@
 // The blocks written and deleted, in four words each.
-ghost use Rattle.laws.specs.Basics.{◌≡◌, ◌+◌, ◌*◌, ◌≤◌, length, pick};
+ghost use Rattle.std.specs.Prelude.{◌≡◌, ◌+◌, ◌*◌, ◌≤◌};
+ghost use Rattle.laws.specs.Basics.{length, pick};
 ghost use Rattle.model.specs.Words.{most_blocks, kept_places};
 ghost use Rattle.words.specs.{Frames.OnlyDisk, Layout.wide4, Layout.state_size};
 

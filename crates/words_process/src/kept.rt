@@ -1,5 +1,6 @@
 // The checkpoints that one process keeps, in 16 places: those that a pin names stay, the others are deleted and handed out as pairs.
-ghost use Rattle.laws.specs.Basics.{◌≡◌, not, ◌+◌, ◌*◌, ◌≤◌, ◌<◌, length, set, sets};
+ghost use Rattle.std.specs.Prelude.{◌≡◌, ◌+◌, ◌*◌, ◌≤◌, ◌<◌};
+ghost use Rattle.laws.specs.Basics.{not, length, set, sets};
 ghost use Rattle.laws.specs.Lists.{select, table};
 ghost use Rattle.model.specs.{Words.is_pinned, Words.most_processes, Words.most_interval, Words.kept_places, Words.most_deletions, Steps.listed};
 ghost use Rattle.whole_runs.specs.Outcomes.{pairs};

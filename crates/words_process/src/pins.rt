@@ -1,5 +1,6 @@
 // The pins of one process, as a row of words: 0 names nothing, any other word is one above the index of the checkpoint that it names.
-ghost use Rattle.laws.specs.Basics.{◌≡◌, ◌^◌, ◌≤◌, ◌<◌, pick};
+ghost use Rattle.std.specs.Prelude.{◌≡◌, ◌^◌, ◌≤◌, ◌<◌};
+ghost use Rattle.laws.specs.Basics.{pick};
 ghost use Rattle.laws.specs.Tests.{some_of};
 ghost use Rattle.model.specs.Words.{names, in_set, most_processes};
 ghost use Rattle.words.specs.Layout.{index_of_def};

@@ -1,5 +1,6 @@
 // A checkpoint of a process, and a receipt at it. The caller has refused what is to be refused.
-ghost use Rattle.laws.specs.Basics.{◌≡◌, true, [], ◌∷◌, ◌++◌, ◌+◌, ◌*◌, ◌≤◌, ◌<◌, length, sets, pick};
+ghost use Rattle.std.specs.Prelude.{◌≡◌, ◌∷◌, ◌++◌, ◌+◌, ◌*◌, ◌≤◌, ◌<◌};
+ghost use Rattle.laws.specs.Basics.{true, [], length, sets, pick};
 ghost use Rattle.laws.specs.Lists.{select, table};
 ghost use Rattle.model.specs.{Words.basic, Words.entry, Words.is_pinned, Words.blocks_of, Words.most_processes, Words.most_interval, Words.most_blocks, Sound.sound};
 ghost use Rattle.model.specs.Steps.{listed, settled, gone, deletions, billed, advanced, checkpointed, taken_vector, risen};

@@ -1,5 +1,6 @@
 // Taking a carried vector in (document 02, Notes 1 and 3): a step for each entry, ascending.
-ghost use Rattle.laws.specs.Basics.{◌≡◌, [], ◌∷◌, ◌+◌, ◌^◌, ◌≤◌, ◌<◌, length, pick};
+ghost use Rattle.std.specs.Prelude.{◌≡◌, ◌∷◌, ◌+◌, ◌^◌, ◌≤◌, ◌<◌};
+ghost use Rattle.laws.specs.Basics.{[], length, pick};
 ghost use Rattle.model.specs.{Words.below, Words.most_processes, Steps.taken_vector, Steps.risen};
 ghost use Rattle.words.specs.{Layout.vector_in, Puts.puts, Puts.one, Puts.vector_put};
 ghost use Rattle.words_process.specs.TakingIn.{taken_word, risen_bit};

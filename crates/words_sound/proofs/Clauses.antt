@@ -1,6 +1,7 @@
 -- The clauses of document 01 about one process, over the checkpoints and pins that the words hold, as tests of the words.
 -- Assumes nothing.
-use Rattle.laws.specs.Basics.{◌≡◌, refl, sym, ◌∙◌, ap, Bool, not, ◌&&◌, ◌||◌, List, [], ◌∷◌, ◌++◌, map, ℕ, zero, suc, ◌+◌, ◌-◌, ◌*◌, ◌≤◌, ◌<◌, arith, eqb, ltb, leb, eq-eqb, ne_eqb, eqb-true, lt-ltb, ltb-true, le-leb, leb-true, pick, by_bool}
+use Rattle.std.specs.Prelude.{◌≡◌, ◌&&◌, ◌||◌, ◌∷◌, ◌++◌, ◌+◌, ◌-◌, ◌*◌, ◌≤◌, ◌<◌}
+use Rattle.laws.specs.Basics.{refl, sym, ◌∙◌, ap, Bool, not, List, [], map, ℕ, zero, suc, arith, eqb, ltb, leb, eq-eqb, ne_eqb, eqb-true, lt-ltb, ltb-true, le-leb, leb-true, pick, by_bool}
 use Rattle.laws.specs.{Elements.same_test, Lists.or_else, Lists.last_of, Lists.table, Ranges.all_same, Ranges.any_same, Tests.every}
 use Rattle.laws.specs.{Rows.all_both, Rows.and_swap, Rows.and_true, Search.all_below, Search.any_below, Search.all_in, Search.all_out}
 use Rattle.laws.specs.Select.{map_append, last_of_snoc, some_table}

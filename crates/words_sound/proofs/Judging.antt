@@ -1,6 +1,7 @@
 -- What the functions find, part by part, as the tests of specs/Test.
 -- Assumes nothing.
-use Rattle.laws.specs.Basics.{◌≡◌, refl, sym, ◌∙◌, ap, Bool, true, false, not, ◌&&◌, ◌||◌, List, ◌∷◌, ℕ, suc, ◌+◌, ◌-◌, ◌*◌, ◌≤◌, ◌<◌, arith, eqb, ltb, leb, length, get_or, replicate, length-replicate, get_or-replicate, eq-eqb, ne_eqb, eqb-true, lt-ltb, le-ltb, le-leb, lt-leb, leb-true, not-true, not-false, pick, by_bool}
+use Rattle.std.specs.Prelude.{◌≡◌, ◌&&◌, ◌||◌, ◌∷◌, ◌+◌, ◌-◌, ◌*◌, ◌≤◌, ◌<◌}
+use Rattle.laws.specs.Basics.{refl, sym, ◌∙◌, ap, Bool, true, false, not, List, ℕ, suc, arith, eqb, ltb, leb, length, get_or, replicate, length-replicate, get_or-replicate, eq-eqb, ne_eqb, eqb-true, lt-ltb, le-ltb, le-leb, lt-leb, leb-true, not-true, not-false, pick, by_bool}
 use native.Mathlib.Nat.{mul-le-mul}
 use native.Mathlib.Numerals.{add-one}
 use lib.Bits.{bit_or}

@@ -1,7 +1,8 @@
 -- Tests of a list that is laid out by index, as tests of the indexes: of all its entries, of those from a place on, of the chosen ones; and numbers that ascend,
 -- one more at a time.
 -- Assumes nothing.
-use Rattle.laws.specs.Basics.{◌≡◌, refl, sym, ◌∙◌, Bool, true, false, not, ◌&&◌, ◌||◌, List, [], ◌∷◌, ◌++◌, ℕ, zero, suc, ◌+◌, ◌≤◌, ◌<◌, arith, ltb, leb, length, take, drop, length-append, length-take-le, lt-ltb, le-ltb, ltb-true, pick, by_bool}
+use Rattle.std.specs.Prelude.{◌≡◌, ◌&&◌, ◌||◌, ◌∷◌, ◌++◌, ◌+◌, ◌≤◌, ◌<◌}
+use Rattle.laws.specs.Basics.{refl, sym, ◌∙◌, Bool, true, false, not, List, [], ℕ, zero, suc, arith, ltb, leb, length, take, drop, length-append, length-take-le, lt-ltb, le-ltb, ltb-true, pick, by_bool}
 use lib.Seq.{get_or-take, ext_get_or}
 use Rattle.laws.specs.{Elements.same_test, Elements.every_from, Lists.select, Lists.table, Search.all_below, Search.all_in, Search.all_out, Select.select_append}
 use Rattle.laws.specs.{Rows.and_group, Rows.and_swap, Rows.and_true, Rows.every_beyond, Rows.by_lt, Tables.length_table, Tables.get_d_table}

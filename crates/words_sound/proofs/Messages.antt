@@ -1,6 +1,7 @@
 -- All that document 01 asks of the messages under way is what is tested of their words.
 -- Assumes nothing.
-use Rattle.laws.specs.Basics.{◌≡◌, refl, sym, ◌∙◌, ap, Bool, true, false, not, ◌&&◌, ◌||◌, List, [], ◌∷◌, ◌++◌, map, append-nil, ℕ, zero, suc, ◌+◌, ◌-◌, ◌≤◌, ◌<◌, arith, eqb, ltb, leb, length, get_or, take, drop, replicate, get_or-replicate, length-take-le, eq-eqb, ne_eqb, eqb-true, lt-ltb, ltb-true, le-leb, leb-true, not-true, pick, by_bool, by_eq}
+use Rattle.std.specs.Prelude.{◌≡◌, ◌&&◌, ◌||◌, ◌∷◌, ◌++◌, ◌+◌, ◌-◌, ◌≤◌, ◌<◌}
+use Rattle.laws.specs.Basics.{refl, sym, ◌∙◌, ap, Bool, true, false, not, List, [], map, append-nil, ℕ, zero, suc, arith, eqb, ltb, leb, length, get_or, take, drop, replicate, get_or-replicate, length-take-le, eq-eqb, ne_eqb, eqb-true, lt-ltb, ltb-true, le-leb, leb-true, not-true, pick, by_bool, by_eq}
 use lib.ListN.{length-map, get_or-append, get_or-map}
 use lib.Seq.{get_or-take, drop-append_seam, get_or-append-add}
 use Rattle.laws.specs.Conjunctions.{none, test, ◌and◌, holds, asks, same_tests, part_fails}

@@ -1,6 +1,7 @@
 -- All that document 01 asks of one process is what is tested of its words.
 -- Assumes nothing.
-use Rattle.laws.specs.Basics.{◌≡◌, refl, sym, ◌∙◌, ap, Bool, true, false, not, ◌&&◌, List, [], ◌∷◌, map, ℕ, ◌+◌, ◌-◌, ◌≤◌, ◌<◌, arith, eqb, ltb, leb, get_or, drop, eqb-true, eqb-false, le-ltb, leb-true, not-true, not-false, pick, by_bool}
+use Rattle.std.specs.Prelude.{◌≡◌, ◌&&◌, ◌∷◌, ◌+◌, ◌-◌, ◌≤◌, ◌<◌}
+use Rattle.laws.specs.Basics.{refl, sym, ◌∙◌, ap, Bool, true, false, not, List, [], map, ℕ, arith, eqb, ltb, leb, get_or, drop, eqb-true, eqb-false, le-ltb, leb-true, not-true, not-false, pick, by_bool}
 use Rattle.laws.specs.Conjunctions.{Conjunction, none, test, ◌and◌, each, holds, asks, same_tests, part_fails}
 use Rattle.laws.specs.{Lists.or_else, Lists.last_of, Lists.table, Ranges.all_same, Rows.every_both, Rows.all_both, Rows.all_stop, Rows.and_true}
 use Rattle.laws.specs.{Search.all_below, Search.any_below, Search.all_out, Search.all_fails, Tables.get_d_table, Tests.every, Tests.all_of}

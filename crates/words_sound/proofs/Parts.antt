@@ -1,6 +1,7 @@
 -- The run that the words stand for, part by part: what its definitions read is at a place of the words.
 -- Assumes nothing.
-use Rattle.laws.specs.Basics.{◌≡◌, refl, sym, ◌∙◌, ap, Bool, true, not, ◌&&◌, ◌||◌, List, [], ℕ, ◌+◌, ◌-◌, ◌≤◌, ◌<◌, arith, eqb, ltb, leb, get_or, take, drop, replicate, eq-eqb, eqb-true, lt-ltb, le-ltb, le-leb, leb-true, pick, by_bool}
+use Rattle.std.specs.Prelude.{◌≡◌, ◌&&◌, ◌||◌, ◌+◌, ◌-◌, ◌≤◌, ◌<◌}
+use Rattle.laws.specs.Basics.{refl, sym, ◌∙◌, ap, Bool, true, not, List, [], ℕ, arith, eqb, ltb, leb, get_or, take, drop, replicate, eq-eqb, eqb-true, lt-ltb, le-ltb, le-leb, leb-true, pick, by_bool}
 use Rattle.laws.specs.{Elements.same_test, Elements.every_from, Lists.table, Ranges.all_same, Search.all_below, Search.all_out, Tests.every}
 use Rattle.laws.specs.Tables.{length_table, get_d_table, table_same}
 use Rattle.model.specs.{declared.Interval.Interval, declared.Checkpoint.Checkpoint, Sound.within, Sound.zero_from, Sound.unused_checkpoint}

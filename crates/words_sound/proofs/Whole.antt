@@ -1,6 +1,7 @@
 -- The theorem: the test of the words is `sound` of the run that they stand for.
 -- Assumes nothing.
-use Rattle.laws.specs.Basics.{◌≡◌, refl, sym, ◌∙◌, ap, Bool, true, false, not, ◌&&◌, ◌||◌, List, [], ◌∷◌, map, ℕ, ◌+◌, ◌-◌, ◌*◌, ◌≤◌, ◌<◌, arith, eqb, ltb, leb, length, drop, replicate, ne_eqb, ltb-true, le-leb, leb-true, by_bool}
+use Rattle.std.specs.Prelude.{◌≡◌, ◌&&◌, ◌||◌, ◌∷◌, ◌+◌, ◌-◌, ◌*◌, ◌≤◌, ◌<◌}
+use Rattle.laws.specs.Basics.{refl, sym, ◌∙◌, ap, Bool, true, false, not, List, [], map, ℕ, arith, eqb, ltb, leb, length, drop, replicate, ne_eqb, ltb-true, le-leb, leb-true, by_bool}
 use Rattle.laws.specs.Conjunctions.{none, test, ◌and◌, each, holds, asks, same_tests, part_fails}
 use Rattle.laws.specs.{Elements.every_replicate, Ranges.all_same, Rows.all_both, Rows.all_stop, Rows.and_true, Rows.every_at, Sums.sum_same}
 use Rattle.laws.specs.{Search.all_below, Search.all_in, Search.all_out, Search.all_fails, Tests.every, Tests.all_of, Tests.count_below}

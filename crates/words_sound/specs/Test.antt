@@ -1,7 +1,8 @@
 -- Document 01, "A sound state", as it is tested on the words themselves. Only places in use are looked at: a row that is in use whole, all its 16 words.
 -- proofs/Whole has the theorem that the test is `sound` of the run that the words stand for.
 -- Assumes nothing.
-use Rattle.laws.specs.Basics.{◌≡◌, Bool, not, ◌&&◌, ◌||◌, List, [], ◌∷◌, ℕ, zero, suc, ◌+◌, ◌-◌, ◌*◌, ◌≤◌, eqb, ltb, leb, length, pick}
+use Rattle.std.specs.Prelude.{◌≡◌, ◌&&◌, ◌||◌, ◌∷◌, ◌+◌, ◌-◌, ◌*◌, ◌≤◌}
+use Rattle.laws.specs.Basics.{Bool, not, List, [], ℕ, zero, suc, eqb, ltb, leb, length, pick}
 use Rattle.laws.specs.{Lists.table, Search.all_below, Search.any_below, Sums.sum_below, Tests.all_of, Tests.count_below}
 use Rattle.model.specs.declared.Interval.{Interval}
 use Rattle.model.specs.{Words.most_processes, Words.most_under_way, Words.most_messages, Words.most_blocks, Sound.cause_sound}

@@ -3,7 +3,8 @@
 
 #![tactic(auto)]
 
-ghost use Rattle.laws.specs.Basics.{◌≡◌, ◌&&◌, ◌+◌, ◌*◌, ◌≤◌, ◌<◌, eqb, leb, length};
+ghost use Rattle.std.specs.Prelude.{◌≡◌, ◌&&◌, ◌+◌, ◌*◌, ◌≤◌, ◌<◌};
+ghost use Rattle.laws.specs.Basics.{eqb, leb, length};
 ghost use Rattle.laws.specs.Search.{all_below};
 ghost use Rattle.model.specs.{Sound.sound, Words.most_processes, Words.most_blocks};
 ghost use Rattle.words.specs.Layout.{word, wide4, count_of, kept_count_at_of, blocks_at_of, run_of, state_size};

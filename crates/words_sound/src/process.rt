@@ -1,5 +1,6 @@
 // What a sound state asks of one process.
-ghost use Rattle.laws.specs.Basics.{◌≡◌, ◌&&◌, ◌+◌, ◌-◌, ◌≤◌, ◌<◌, eqb, ltb, leb, length, get_or, pick};
+ghost use Rattle.std.specs.Prelude.{◌≡◌, ◌&&◌, ◌+◌, ◌-◌, ◌≤◌, ◌<◌};
+ghost use Rattle.laws.specs.Basics.{eqb, ltb, leb, length, get_or, pick};
 ghost use Rattle.laws.specs.{Lists.table, Search.all_below};
 ghost use Rattle.model.specs.{Words.entry, Words.most_processes, Sound.cause_sound};
 ghost use Rattle.words.specs.Layout.{word, count_of, part_at, pins_at_of, cause_at_of, stored_at, row_in, state_size};

@@ -1,6 +1,7 @@
 // Tests of rows of 16 words, as a sound state asks for them. What has to be zero is gathered with `|` in one word, and there is no exit within a row: a
 // processor then tests several words at a time.
-ghost use Rattle.laws.specs.Basics.{◌≡◌, ◌&&◌, ◌-◌, eqb, leb, get_or, pick};
+ghost use Rattle.std.specs.Prelude.{◌≡◌, ◌&&◌, ◌-◌};
+ghost use Rattle.laws.specs.Basics.{eqb, leb, get_or, pick};
 ghost use Rattle.std.specs.Int.Bits.{bit_or};
 ghost use Rattle.laws.specs.{Lists.table, Search.all_below, Search.any_below};
 ghost use Rattle.model.specs.Words.{entry, most_processes};

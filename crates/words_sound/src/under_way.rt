@@ -1,5 +1,6 @@
 // What a sound state asks of the messages under way. A place before the end whose number is 0 is not in use.
-ghost use Rattle.laws.specs.Basics.{◌≡◌, not, ◌&&◌, ◌||◌, ◌-◌, ◌≤◌, ◌<◌, eqb, ltb, leb, length};
+ghost use Rattle.std.specs.Prelude.{◌≡◌, ◌&&◌, ◌||◌, ◌-◌, ◌≤◌, ◌<◌};
+ghost use Rattle.laws.specs.Basics.{not, eqb, ltb, leb, length};
 ghost use Rattle.laws.specs.{Search.all_below, Tests.all_of, Tests.count_below};
 ghost use Rattle.model.specs.Words.{most_under_way};
 ghost use Rattle.words.specs.Layout.{word, wide2, count_of, sender_at_of, receiver_at_of, state_size};

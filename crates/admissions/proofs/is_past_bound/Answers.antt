@@ -1,6 +1,7 @@
 -- `admissions::is_past_bound` meets its contract: a block count is far below the bound.
 -- Assumes nothing.
-use Rattle.laws.specs.Basics.{◌≡◌, ℕ, ◌+◌, ◌-◌, ◌<◌, arith, ltb, rules, lt-ltb, ltb-true}
+use Rattle.std.specs.Prelude.{◌≡◌, ◌+◌, ◌-◌, ◌<◌}
+use Rattle.laws.specs.Basics.{ℕ, arith, ltb, rules, lt-ltb, ltb-true}
 use Rattle.laws.specs.Elements.{same_test}
 use Rattle.model.specs.Words.{most_blocks}
 use Rattle.admissions.specs.Admissions.{past_most}

@@ -1,5 +1,6 @@
 -- `bench_by_value::apply_by_value` meets its contract. Assumes nothing.
-use Rattle.laws.specs.Basics.{◌-◌, ◌*◌, length}
+use Rattle.std.specs.Prelude.{◌-◌, ◌*◌}
+use Rattle.laws.specs.Basics.{length}
 use Rattle.bench_by_value.proofs.Counting.{SoFar}
 use Rattle.bench_by_value.proofs.apply_by_value.Given as goal
 

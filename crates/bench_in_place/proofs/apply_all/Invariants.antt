@@ -1,5 +1,6 @@
 -- `bench_in_place::apply_all` meets its contract. Assumes nothing.
-use Rattle.laws.specs.Basics.{◌≡◌, ◌-◌, ◌*◌, length}
+use Rattle.std.specs.Prelude.{◌≡◌, ◌-◌, ◌*◌}
+use Rattle.laws.specs.Basics.{length}
 use Rattle.model.specs.Sound.{sound}
 use Rattle.whole_runs.specs.{WholeRuns.Reachable}
 use Rattle.words.specs.Layout.{run_of}

@@ -1,5 +1,6 @@
 -- `bench_in_place::timing_untested` meets its contract. Assumes nothing.
-use Rattle.laws.specs.Basics.{◌≡◌, ◌∙◌, ap, none, length, rules}
+use Rattle.std.specs.Prelude.{◌≡◌}
+use Rattle.laws.specs.Basics.{◌∙◌, ap, none, length, rules}
 use Rattle.model.specs.{Words.ones, Steps.start_state}
 use Rattle.in_place.specs.Starting.{start_refusal_in, start_outcome_in}
 use Rattle.in_place.proofs.Leaving.{same_words}

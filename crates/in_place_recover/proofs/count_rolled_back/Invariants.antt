@@ -1,6 +1,7 @@
 -- `in_place_recover::count_rolled_back` meets its contract. The loop's invariant: those of the processes passed so far that go back are counted.
 -- Assumes nothing.
-use Rattle.laws.specs.Basics.{◌≡◌, refl, Bool, true, false, ℕ, ◌+◌, ◌-◌, ◌≤◌, arith, get_or, rules, pick}
+use Rattle.std.specs.Prelude.{◌≡◌, ◌+◌, ◌-◌, ◌≤◌}
+use Rattle.laws.specs.Basics.{refl, Bool, true, false, ℕ, arith, get_or, rules, pick}
 use native.Mathlib.Numerals.{add-one}
 use Rattle.laws.specs.{Counting.count_le, Tests.count_below}
 use Rattle.in_place_recover.specs.Restored.{goes_back}

@@ -1,5 +1,6 @@
 -- `in_place_recover::recover_on` meets its contract: the lengths of the lists, the verdict on the failed set, then the recovery. Assumes nothing.
-use Rattle.laws.specs.Basics.{◌≡◌, refl, sym, ◌∙◌, false, ◌||◌, ◌*◌, arith, ltb, length, rules, ltb-false}
+use Rattle.std.specs.Prelude.{◌≡◌, ◌||◌, ◌*◌}
+use Rattle.laws.specs.Basics.{refl, sym, ◌∙◌, false, arith, ltb, length, rules, ltb-false}
 use Rattle.laws.specs.Truth.{or_none}
 use Rattle.admissions.specs.declared.Admission.TheVariants.{Accepted}
 use Rattle.words.specs.Layout.{count_of}

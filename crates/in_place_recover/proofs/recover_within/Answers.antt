@@ -1,5 +1,6 @@
 -- `in_place_recover::recover_within` meets its contract: the members, by which each process is restored, then the messages. Assumes nothing.
-use Rattle.laws.specs.Basics.{◌≡◌, refl, sym, ◌∙◌, ap, false, ◌||◌, ℕ, ◌*◌, ◌≤◌, ◌<◌, arith, ltb, length, rules, le-ltb, not-true, not-false}
+use Rattle.std.specs.Prelude.{◌≡◌, ◌||◌, ◌*◌, ◌≤◌, ◌<◌}
+use Rattle.laws.specs.Basics.{refl, sym, ◌∙◌, ap, false, ℕ, arith, ltb, length, rules, le-ltb, not-true, not-false}
 use Rattle.model.specs.Refusals.{no_member_of}
 use Rattle.admissions.specs.declared.Admission.TheVariants.{Accepted}
 use Rattle.admissions.specs.Admissions.{recovery_admission_of}

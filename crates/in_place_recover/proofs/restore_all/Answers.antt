@@ -1,7 +1,8 @@
 -- `in_place_recover::restore_all` meets its contract. The loop's invariant: the processes passed so far are as they are after the recovery, the others as they were, and
 -- the lent list has the pairs of what is deleted.
 -- Assumes nothing.
-use Rattle.laws.specs.Basics.{◌≡◌, refl, sym, ◌∙◌, ◌+◌, ◌-◌, ◌≤◌, ◌<◌, arith, length, sets, rules}
+use Rattle.std.specs.Prelude.{◌≡◌, ◌+◌, ◌-◌, ◌≤◌, ◌<◌}
+use Rattle.laws.specs.Basics.{refl, sym, ◌∙◌, arith, length, sets, rules}
 use Rattle.whole_runs.specs.Outcomes.{pairs}
 use Rattle.words.specs.Layout.{count_of}
 use Rattle.words.proofs.{View.fits_size, ViewSound.sound_words}

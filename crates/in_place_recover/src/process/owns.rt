@@ -1,5 +1,6 @@
 // "Then let own(f) be the own entries after this": of each process, by the place of its member in the line.
-ghost use Rattle.laws.specs.Basics.{◌≡◌, ◌≤◌, ◌<◌, length};
+ghost use Rattle.std.specs.Prelude.{◌≡◌, ◌≤◌, ◌<◌};
+ghost use Rattle.laws.specs.Basics.{length};
 ghost use Rattle.words.specs.Layout.{state_size};
 ghost use Rattle.model.specs.Words.{most_processes};
 ghost use Rattle.in_place_recover.specs.Restored.{restored_own, owns_after_of, Returns, AllReturn};

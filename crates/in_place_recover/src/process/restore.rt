@@ -1,5 +1,6 @@
 // One process after a recovery.
-ghost use Rattle.laws.specs.Basics.{◌≡◌, ◌+◌, ◌*◌, ◌≤◌, ◌<◌, length, sets};
+ghost use Rattle.std.specs.Prelude.{◌≡◌, ◌+◌, ◌*◌, ◌≤◌, ◌<◌};
+ghost use Rattle.laws.specs.Basics.{length, sets};
 ghost use Rattle.model.specs.{Steps.listed, Steps.billed, Words.most_processes, Words.most_blocks, Words.kept_places};
 ghost use Rattle.whole_runs.specs.Outcomes.{pairs};
 ghost use Rattle.words.specs.Layout.{word, kept_count_at_of, blocks_at_of, state_size};

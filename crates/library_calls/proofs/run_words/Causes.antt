@@ -1,6 +1,7 @@
 -- The causes of a state are numbers of 8 bits, and stay so where a call changes the state: so the words that it leaves are readable.
 -- Assumes nothing.
-use Rattle.laws.specs.Basics.{◌≡◌, ◌∙◌, List, [], ◌∷◌, ℕ, zero, suc, ◌≤◌, ◌<◌, arith, length, get_or, take, length-set, get_or-set_same, get_or-set_other, by_eq}
+use Rattle.std.specs.Prelude.{◌≡◌, ◌∷◌, ◌≤◌, ◌<◌}
+use Rattle.laws.specs.Basics.{◌∙◌, List, [], ℕ, zero, suc, arith, length, get_or, take, length-set, get_or-set_same, get_or-set_other, by_eq}
 use lib.Seq.{get_or-take}
 use Rattle.laws.specs.{Lists.placed, Rows.by_lt}
 use Rattle.model.specs.declared.{Message.Message, Disk.Disk, Run.Run}

@@ -1,6 +1,7 @@
 -- What `fill` returns and leaves, put together from its parts.
 -- Assumes nothing.
-use Rattle.laws.specs.Basics.{◌≡◌, refl, sym, ◌∙◌, ap, Bool, true, false, ◌&&◌, false≢true, List, ℕ, ◌≤◌, arith, length, le-leb, pick, by_bool}
+use Rattle.std.specs.Prelude.{◌≡◌, ◌&&◌, ◌≤◌}
+use Rattle.laws.specs.Basics.{refl, sym, ◌∙◌, ap, Bool, true, false, false≢true, List, ℕ, arith, length, le-leb, pick, by_bool}
 use Rattle.laws.specs.Loops.{iter}
 use Rattle.model.specs.{declared.Interval.Interval, declared.Pin.Pin, declared.Checkpoint.Checkpoint, declared.Run.Run, Sound.sound, Words.blank, laws.Sound.sound_state}
 use Rattle.words.specs.{Layout.word, Layout.decoded, Layout.fits, Layout.run_of, Puts.puts}

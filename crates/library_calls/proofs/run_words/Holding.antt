@@ -1,6 +1,7 @@
 -- What words hold that a state fills, thing by thing, where the state fits them.
 -- Assumes nothing.
-use Rattle.laws.specs.Basics.{◌≡◌, ◌∙◌, ap, Bool, true, false, ◌&&◌, List, [], ◌∷◌, ℕ, ◌+◌, ◌*◌, ◌/◌, ◌%◌, ◌≤◌, ◌<◌, arith, ltb, leb, length, get_or, lt-ltb, le-leb, by_bool}
+use Rattle.std.specs.Prelude.{◌≡◌, ◌&&◌, ◌∷◌, ◌+◌, ◌*◌, ◌/◌, ◌%◌, ◌≤◌, ◌<◌}
+use Rattle.laws.specs.Basics.{◌∙◌, ap, Bool, true, false, List, [], ℕ, arith, ltb, leb, length, get_or, lt-ltb, le-leb, by_bool}
 use Rattle.laws.specs.Loops.{iter}
 use Rattle.model.specs.declared.{Interval.Interval, Pin.Pin, Pin.TheVariants.Nothing, Checkpoint.Checkpoint, Message.Message, Run.Run}
 use Rattle.model.specs.Words.{entry, past_end}

@@ -1,6 +1,7 @@
 -- Words that numbered steps leave, where no step changes how many they are: a word that no step touches, and one that a step sets and none after it touches.
 -- Assumes nothing.
-use Rattle.laws.specs.Basics.{◌≡◌, refl, ◌∙◌, List, ℕ, zero, suc, ◌<◌, arith, length, by_eq}
+use Rattle.std.specs.Prelude.{◌≡◌, ◌<◌}
+use Rattle.laws.specs.Basics.{refl, ◌∙◌, List, ℕ, zero, suc, arith, length, by_eq}
 use Rattle.laws.specs.Loops.{iter}
 use Rattle.words.specs.Layout.{word}
 

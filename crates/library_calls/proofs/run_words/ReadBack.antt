@@ -1,6 +1,7 @@
 -- A state that fits its words is read back from words that hold it.
 -- Assumes nothing.
-use Rattle.laws.specs.Basics.{◌≡◌, refl, sym, ◌∙◌, ap, Bool, true, false, not, ◌&&◌, List, [], ◌∷◌, ℕ, zero, suc, ◌+◌, ◌-◌, ◌*◌, ◌/◌, ◌%◌, ◌≤◌, ◌<◌, arith, eqb, ltb, leb, length, get_or, replicate, ne_eqb, eqb-true, lt-ltb, le-ltb, le-leb, leb-true, not-true, pick, by_eq}
+use Rattle.std.specs.Prelude.{◌≡◌, ◌&&◌, ◌∷◌, ◌+◌, ◌-◌, ◌*◌, ◌/◌, ◌%◌, ◌≤◌, ◌<◌}
+use Rattle.laws.specs.Basics.{refl, sym, ◌∙◌, ap, Bool, true, false, not, List, [], ℕ, zero, suc, arith, eqb, ltb, leb, length, get_or, replicate, ne_eqb, eqb-true, lt-ltb, le-ltb, le-leb, leb-true, not-true, pick, by_eq}
 use lib.Seq.{ext_get_or}
 use Rattle.laws.specs.{Elements.every_table, Lists.table, Lists.placed, Lists.select, Prefixes.placed_length, Rows.by_lt, Rows.every_at, Select.all_chosen}
 use Rattle.laws.specs.{Search.all_below, Search.all_out, Tables.length_table, Tables.get_d_table, Tables.table_is, Tables.table_replicate}

@@ -1,6 +1,7 @@
 -- What `read` returns, put together from its parts; and when words are readable.
 -- Assumes nothing.
-use Rattle.laws.specs.Basics.{◌≡◌, sym, ◌∙◌, ap, Bool, true, false, List, [], ℕ, ◌≤◌, ◌<◌, arith, get_or, replicate, pick, by_bool}
+use Rattle.std.specs.Prelude.{◌≡◌, ◌≤◌, ◌<◌}
+use Rattle.laws.specs.Basics.{sym, ◌∙◌, ap, Bool, true, false, List, [], ℕ, arith, get_or, replicate, pick, by_bool}
 use Rattle.laws.specs.{Lists.placed, Tables.get_d_table}
 use Rattle.model.specs.declared.{Checkpoint.Checkpoint, Message.Message, Disk.Disk, Vectors.Vectors, Pins.Pins, Kept.Kept, Run.Run}
 use Rattle.model.specs.Words.{most_processes, most_under_way, zero_vector, no_pins_of, no_checkpoint, no_message, blank}

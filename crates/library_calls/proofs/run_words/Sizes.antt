@@ -1,6 +1,7 @@
 -- A state that a function holds has the sizes that its type fixes. What the function knows of the state's memory says it.
 -- Assumes nothing.
-use Rattle.laws.specs.Basics.{◌≡◌, List, [], ◌∷◌, ℕ, zero, suc, ◌<◌, arith, length, get_or}
+use Rattle.std.specs.Prelude.{◌≡◌, ◌∷◌, ◌<◌}
+use Rattle.laws.specs.Basics.{List, [], ℕ, zero, suc, arith, length, get_or}
 use mir.Val.{Val}
 use base.Fml.{Fml}
 use denote.Shadow.{shadow}

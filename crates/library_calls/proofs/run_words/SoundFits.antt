@@ -1,6 +1,7 @@
 -- A sound state fits its words.
 -- Assumes nothing.
-use Rattle.laws.specs.Basics.{◌≡◌, refl, sym, ◌∙◌, ap, true, false, not, ◌&&◌, List, [], Option, some, ℕ, suc, ◌-◌, ◌/◌, ◌%◌, ◌≤◌, ◌<◌, arith, eqb, length, get_or, take, length-take-le, ne_eqb, eqb-true, lt-ltb, le-ltb, le-leb, by_eq}
+use Rattle.std.specs.Prelude.{◌≡◌, ◌&&◌, ◌-◌, ◌/◌, ◌%◌, ◌≤◌, ◌<◌}
+use Rattle.laws.specs.Basics.{refl, sym, ◌∙◌, ap, true, false, not, List, [], Option, some, ℕ, suc, arith, eqb, length, get_or, take, length-take-le, ne_eqb, eqb-true, lt-ltb, le-ltb, le-leb, by_eq}
 use lib.Seq.{get_or-take}
 use Rattle.laws.specs.{Lists.or_else, Lists.last_of, Rows.by_lt, Rows.every_at, Rows.every_beyond, Rows.some_where, Rows.last_take, Search.all_in, Tests.every}
 use Rattle.laws.specs.Truth.{and_out, and_both}

@@ -1,6 +1,7 @@
 -- One step of the filling, in its cases: what a function returns and leaves of the words is what the definitions say.
 -- Assumes nothing.
-use Rattle.laws.specs.Basics.{◌≡◌, refl, ◌∙◌, ap, Bool, true, false, not, ◌&&◌, List, [], ◌∷◌, ℕ, ◌+◌, ◌/◌, ◌%◌, ◌≤◌, ◌<◌, arith, eqb, get_or, set, lt-ltb, le-ltb, le-leb, lt-leb}
+use Rattle.std.specs.Prelude.{◌≡◌, ◌&&◌, ◌∷◌, ◌+◌, ◌/◌, ◌%◌, ◌≤◌, ◌<◌}
+use Rattle.laws.specs.Basics.{refl, ◌∙◌, ap, Bool, true, false, not, List, [], ℕ, arith, eqb, get_or, set, lt-ltb, le-ltb, le-leb, lt-leb}
 use Rattle.laws.specs.Search.{all_below}
 use Rattle.model.specs.declared.{Interval.Interval, Pin.Pin, Pin.TheVariants.Nothing, Checkpoint.Checkpoint, Message.Message, Disk.Disk}
 use Rattle.model.specs.{Words.past_end, Sound.zero_from, Sound.nothing_from, Sound.unused_checkpoint, Sound.unused_message}

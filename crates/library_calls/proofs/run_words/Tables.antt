@@ -1,6 +1,7 @@
 -- The tables of the state that words stand for, as loops fill them.
 -- Assumes nothing.
-use Rattle.laws.specs.Basics.{◌≡◌, refl, sym, ◌∙◌, ap, Bool, true, false, not, ◌&&◌, false≢true, List, [], ◌∷◌, ◌++◌, append-nil, ℕ, ◌+◌, ◌*◌, ◌/◌, ◌%◌, ◌≤◌, ◌<◌, arith, eqb, ltb, length, get_or, set, replicate, length-append, length-replicate, get_or-replicate, ne_eqb, lt-ltb, le-ltb, pick, by_eq}
+use Rattle.std.specs.Prelude.{◌≡◌, ◌&&◌, ◌∷◌, ◌++◌, ◌+◌, ◌*◌, ◌/◌, ◌%◌, ◌≤◌, ◌<◌}
+use Rattle.laws.specs.Basics.{refl, sym, ◌∙◌, ap, Bool, true, false, not, false≢true, List, [], append-nil, ℕ, arith, eqb, ltb, length, get_or, set, replicate, length-append, length-replicate, get_or-replicate, ne_eqb, lt-ltb, le-ltb, pick, by_eq}
 use native.Mathlib.Numerals.{add-one}
 use lib.Seq.{set-get_or}
 use Rattle.laws.specs.{Lists.select, Lists.table, Lists.placed, Loops.set_below, Loops.below_length, Loops.below_above, Loops.below_at, Prefixes.placed_more}

@@ -1,6 +1,7 @@
 -- Tests of a row, by its entries.
 -- Assumes nothing.
-use Rattle.laws.specs.Basics.{◌≡◌, true, not, false≢true, List, ◌<◌, arith, eqb, ltb, length, eq-eqb, ltb-true, by_eq}
+use Rattle.std.specs.Prelude.{◌≡◌, ◌<◌}
+use Rattle.laws.specs.Basics.{true, not, false≢true, List, arith, eqb, ltb, length, eq-eqb, ltb-true, by_eq}
 use Rattle.laws.specs.{Truth.and_out, Elements.same_test, Rows.every_at, Rows.every_by, Search.all_below, Search.all_in, Search.all_out}
 use Rattle.model.specs.declared.{Message.Message, Interval.Interval, CheckpointIndex.CheckpointIndex}
 use Rattle.model.specs.{Words.entry, Sound.zero_from}

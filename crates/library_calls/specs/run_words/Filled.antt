@@ -1,6 +1,7 @@
 -- The words of a state that fits, thing by thing: what is put where, in the order in which it is put.
 -- Assumes nothing.
-use Rattle.laws.specs.Basics.{◌≡◌, Bool, true, false, ◌&&◌, List, [], ◌∷◌, ◌++◌, ℕ, ◌+◌, ◌/◌, ◌%◌, ltb, leb, get_or, pick}
+use Rattle.std.specs.Prelude.{◌≡◌, ◌&&◌, ◌∷◌, ◌++◌, ◌+◌, ◌/◌, ◌%◌}
+use Rattle.laws.specs.Basics.{Bool, true, false, List, [], ℕ, ltb, leb, get_or, pick}
 use Rattle.laws.specs.Loops.{iter}
 use Rattle.model.specs.declared.{Interval.Interval, Pin.Pin, Pin.TheVariants.Nothing, Pin.TheVariants.At, Checkpoint.Checkpoint, Message.Message, Disk.Disk}
 use Rattle.model.specs.declared.Run.{Run}

@@ -1,6 +1,7 @@
 -- "A state fits its words if, read back, it is the same `Run`; one that does not is not sound (numbers that are too wide, unequal block counts, anything in unused places)".
 -- Assumes nothing.
-use Rattle.laws.specs.Basics.{Bool, true, false, not, ◌&&◌, List, [], ℕ, ◌/◌, ◌%◌, eqb, ltb, leb, get_or, pick}
+use Rattle.std.specs.Prelude.{◌&&◌, ◌/◌, ◌%◌}
+use Rattle.laws.specs.Basics.{Bool, true, false, not, List, [], ℕ, eqb, ltb, leb, get_or, pick}
 use Rattle.laws.specs.Search.{all_below}
 use Rattle.model.specs.declared.{Interval.Interval, CheckpointIndex.CheckpointIndex, Pin.Pin, Pin.TheVariants.Nothing, Pin.TheVariants.At, Message.Message}
 use Rattle.model.specs.{declared.Checkpoint.Checkpoint, declared.Run.Run, Sound.zero_from, Sound.nothing_from, Sound.unused_checkpoint, Sound.unused_message}

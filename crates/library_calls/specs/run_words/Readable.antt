@@ -1,6 +1,7 @@
 -- Words that stand for a state of the declared type: what a call in place leaves of words that stand for a sound one.
 -- Assumes nothing.
-use Rattle.laws.specs.Basics.{◌≡◌, true, List, ℕ, ◌≤◌, ◌<◌}
+use Rattle.std.specs.Prelude.{◌≡◌, ◌≤◌, ◌<◌}
+use Rattle.laws.specs.Basics.{true, List, ℕ}
 use Rattle.model.specs.declared.Run.{Run}
 use Rattle.model.specs.Words.{most_processes}
 use Rattle.words.specs.Layout.{word, count_of, cause_at_of, is_kept_in, fits}

@@ -1,6 +1,7 @@
 // Words filled from a state. A state fits its words if, read back, it is the same: specs/Fits says when, and a sound one does. Where it does not fit, the words stand for no
 // sound state either, so that a call in place refuses them as it would the state. One pass puts each thing and tests it, so that each is read once.
-ghost use Rattle.laws.specs.Basics.{◌≡◌, true, ◌&&◌, [], ◌∷◌, ◌+◌, ◌≤◌, ◌<◌, leb, length, get_or, pick};
+ghost use Rattle.std.specs.Prelude.{◌≡◌, ◌&&◌, ◌∷◌, ◌+◌, ◌≤◌, ◌<◌};
+ghost use Rattle.laws.specs.Basics.{true, [], leb, length, get_or, pick};
 ghost use Rattle.laws.specs.{Loops.iter, Search.all_below};
 ghost use Rattle.model.specs.declared.Pin.TheVariants.{Nothing};
 ghost use Rattle.model.specs.Sound.{zero_from, is_nothing_of, nothing_from, unused_checkpoint, unused_message};

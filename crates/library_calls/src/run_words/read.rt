@@ -1,5 +1,6 @@
 // The state that words stand for, by value.
-ghost use Rattle.laws.specs.Basics.{◌≡◌, false, ◌+◌, ◌≤◌, ◌<◌, length};
+ghost use Rattle.std.specs.Prelude.{◌≡◌, ◌+◌, ◌≤◌, ◌<◌};
+ghost use Rattle.laws.specs.Basics.{false, length};
 ghost use Rattle.laws.specs.Lists.{placed};
 ghost use Rattle.model.specs.Words.{most_under_way, zero_vector, no_pins_of, no_message, most_processes};
 ghost use Rattle.words.specs.Layout.{word, wide4, count_of, end_of, kept_count_at_of, part_at, pins_at_of, index_at_of, cause_at_of, vector_in, pins_in, mark_in, checkpoint_in, is_kept_in, message_in, messages_in, of_processes, run_of, state_size};

@@ -1,6 +1,7 @@
 -- `library_halves::merge` meets its contract. After the first `match` both halves are such that no rule refuses them before any record (`fine`).
 -- Assumes nothing.
-use Rattle.laws.specs.Basics.{◌≡◌, refl, sym, ◌∙◌, List, none, ℕ, length, arith, length-set}
+use Rattle.std.specs.Prelude.{◌≡◌}
+use Rattle.laws.specs.Basics.{refl, sym, ◌∙◌, List, none, ℕ, length, arith, length-set}
 use Rattle.theory_merges.specs.{Merge.merge_refusal}
 use Rattle.theory_merges.proofs.{Orders.orders_agree, Replaying.Fine, Replaying.fine, Replaying.merge_promise}
 use Rattle.admissions.specs.declared.Admission.{Admission}

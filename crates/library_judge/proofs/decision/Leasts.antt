@@ -1,6 +1,7 @@
 -- What the least crossing says of all messages.
 -- Assumes nothing.
-use Rattle.laws.specs.Basics.{◌≡◌, refl, sym, ◌∙◌, ap, true, false, false≢true, List, ℕ, zero, suc, ◌≤◌, ◌<◌, arith, ltb, lt-ltb, le-ltb, ltb-true, ltb-false, by_bool, by_eq}
+use Rattle.std.specs.Prelude.{◌≡◌, ◌≤◌, ◌<◌}
+use Rattle.laws.specs.Basics.{refl, sym, ◌∙◌, ap, true, false, false≢true, List, ℕ, zero, suc, arith, ltb, lt-ltb, le-ltb, ltb-true, ltb-false, by_bool, by_eq}
 use Rattle.laws.specs.Loops.{iter}
 use Rattle.library_judge.specs.declared.decision.crossing.Least.{Least}
 use Rattle.library_judge.specs.decision.Crossings.{crosses_at, known_at, crossing_of, lesser_of, least_crossing_of, no_least}

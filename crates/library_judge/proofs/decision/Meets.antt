@@ -1,6 +1,7 @@
 -- What the functions over the tables ask for, from tables that hold a trail, and the verdict from what they answer.
 -- Assumes nothing.
-use Rattle.laws.specs.Basics.{◌≡◌, ◌∙◌, true, false, List, ℕ, ◌-◌, ◌≤◌, ◌<◌, arith, length, get_or, set, replicate, length-set, length-replicate, get_or-replicate, get_or-set_same, get_or-set_other}
+use Rattle.std.specs.Prelude.{◌≡◌, ◌-◌, ◌≤◌, ◌<◌}
+use Rattle.laws.specs.Basics.{◌∙◌, true, false, List, ℕ, arith, length, get_or, set, replicate, length-set, length-replicate, get_or-replicate, get_or-set_same, get_or-set_other}
 use Rattle.histories.specs.History.{checkpoints}
 use Rattle.theory_patterns.specs.Paths.{FirstBreaking}
 use Rattle.theory_patterns.proofs.{Trail.Trail, Trail.Right, Facts.vectors, Facts.sources}

@@ -1,7 +1,8 @@
 -- What a pass over the messages does to what is reached: entries only fall, each is the end of a way from the start, and a pass that changes nothing has
 -- found what is closed.
 -- Assumes nothing.
-use Rattle.laws.specs.Basics.{◌≡◌, refl, sym, ◌∙◌, ap, Bool, true, false, false≢true, List, [], ◌∷◌, ◌⊎◌, inl, inr, ℕ, zero, suc, ◌+◌, ◌-◌, ◌≤◌, ◌<◌, arith, eqb, ltb, leb, length, get_or, set, length-set, get_or-set_same, get_or-set_other, eqb-true, eqb-false, ltb-true, ltb-false, leb-true, leb-false, by_bool, by_eq}
+use Rattle.std.specs.Prelude.{◌≡◌, ◌∷◌, ◌⊎◌, ◌+◌, ◌-◌, ◌≤◌, ◌<◌}
+use Rattle.laws.specs.Basics.{refl, sym, ◌∙◌, ap, Bool, true, false, false≢true, List, [], inl, inr, ℕ, zero, suc, arith, eqb, ltb, leb, length, get_or, set, length-set, get_or-set_same, get_or-set_other, eqb-true, eqb-false, ltb-true, ltb-false, leb-true, leb-false, by_bool, by_eq}
 use Rattle.laws.specs.Loops.{either}
 use Rattle.library_judge.specs.declared.decision.reach.Pass.{Pass}
 use Rattle.library_judge.specs.decision.Reach.{Linked, sender_of, receiver_of, lowered_by, relaxed_by, passed, ReachedRow, begins, leads}

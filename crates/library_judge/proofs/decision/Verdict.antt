@@ -1,6 +1,7 @@
 -- The tables give the verdict: what the near end, the closure and the far end say of the tables is what the mathematics of `patterns` asks for.
 -- Assumes nothing.
-use Rattle.laws.specs.Basics.{◌≡◌, refl, sym, ◌∙◌, ap, true, false, not, ◌&&◌, false≢true, List, ◌⊎◌, inl, inr, ℕ, suc, ◌-◌, ◌≤◌, ◌<◌, arith, eqb, ltb, get_or, ne_eqb, eqb-false, lt-ltb, le-ltb, ltb-true, ltb-false, pick, by_bool, by_eq}
+use Rattle.std.specs.Prelude.{◌≡◌, ◌&&◌, ◌⊎◌, ◌-◌, ◌≤◌, ◌<◌}
+use Rattle.laws.specs.Basics.{refl, sym, ◌∙◌, ap, true, false, not, false≢true, List, inl, inr, ℕ, suc, arith, eqb, ltb, get_or, ne_eqb, eqb-false, lt-ltb, le-ltb, ltb-true, ltb-false, pick, by_bool, by_eq}
 use Rattle.laws.specs.Loops.{either}
 use Rattle.histories.specs.History.{sent, received, Lists, checkpoints}
 use Rattle.theory_patterns.proofs.{Placing.stands_le, Core.Vectors, Core.Crossing, Core.higher, Core.crossing_path, Core.reached}

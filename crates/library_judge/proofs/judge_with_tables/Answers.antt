@@ -1,6 +1,7 @@
 -- `library_judge::judge_with_tables` meets its contract: the refusals in their order, and the verdict on the tables.
 -- Assumes nothing.
-use Rattle.laws.specs.Basics.{◌∙◌, inl, inr, ◌≤◌, arith, length}
+use Rattle.std.specs.Prelude.{◌≤◌}
+use Rattle.laws.specs.Basics.{◌∙◌, inl, inr, arith, length}
 use Rattle.library_judge.specs.Kept.{tables}
 use Rattle.library_judge.proofs.{Together.short_enough}
 use Rattle.library_judge.proofs.Together.{first_byte, all_refused_by, all_taken, no_byte, bad_count, too_many, right_refused, right_taken}

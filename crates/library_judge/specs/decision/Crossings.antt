@@ -1,6 +1,7 @@
 -- Which received messages cross, on the tables: `from` has the row of each message's send, `to` the row of its receipt and 1, or 0.
 -- Assumes nothing.
-use Rattle.laws.specs.Basics.{◌≡◌, sym, ◌∙◌, ap, Bool, true, false, not, ◌&&◌, List, ℕ, ◌+◌, ◌-◌, ◌≤◌, ◌<◌, eqb, ltb, length, get_or, pick}
+use Rattle.std.specs.Prelude.{◌≡◌, ◌&&◌, ◌+◌, ◌-◌, ◌≤◌, ◌<◌}
+use Rattle.laws.specs.Basics.{sym, ◌∙◌, ap, Bool, true, false, not, List, ℕ, eqb, ltb, length, get_or, pick}
 use Rattle.laws.specs.Loops.{iter, iter_none, iter_more}
 use Rattle.library_judge.specs.declared.{decision.crossing.Least.Least, decision.crossing.Near.Near}
 use Rattle.library_judge.specs.decision.Rows.{entry_at, table_size, most_rows}

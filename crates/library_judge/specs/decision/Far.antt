@@ -1,6 +1,7 @@
 -- The far end on the tables.
 -- Assumes nothing.
-use Rattle.laws.specs.Basics.{◌≡◌, true, false, List, ℕ, ◌≤◌, ◌<◌, length, get_or}
+use Rattle.std.specs.Prelude.{◌≡◌, ◌≤◌, ◌<◌}
+use Rattle.laws.specs.Basics.{true, false, List, ℕ, length, get_or}
 use Rattle.model.specs.Words.{most_processes}
 use Rattle.library_judge.specs.declared.decision.far.Far.{Far}
 use Rattle.library_judge.specs.decision.Rows.{entry_at, table_size, most_rows, no_row}

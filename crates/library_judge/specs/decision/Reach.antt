@@ -1,6 +1,7 @@
 -- The closure on the tables: the least row of each process that a zigzag path reaches. 65535 stands for none.
 -- Assumes nothing.
-use Rattle.laws.specs.Basics.{◌≡◌, true, ◌&&◌, List, ℕ, zero, suc, ◌-◌, ◌≤◌, ◌<◌, arith, eqb, ltb, leb, length, get_or, set, pick}
+use Rattle.std.specs.Prelude.{◌≡◌, ◌&&◌, ◌-◌, ◌≤◌, ◌<◌}
+use Rattle.laws.specs.Basics.{true, List, ℕ, zero, suc, arith, eqb, ltb, leb, length, get_or, set, pick}
 use Rattle.model.specs.Words.{most_processes}
 use Rattle.library_judge.specs.declared.decision.reach.Pass.{Pass}
 use Rattle.library_judge.specs.decision.Rows.{entry_at, most_rows}

@@ -1,7 +1,8 @@
 -- What the tables hold of the lists of events and the vectors of their states: a row for each state from the first interval on, and of each message the row
 -- of its send and of its receipt.
 -- Assumes nothing.
-use Rattle.laws.specs.Basics.{◌≡◌, List, ℕ, suc, ◌-◌, ◌≤◌, ◌<◌, length, get_or}
+use Rattle.std.specs.Prelude.{◌≡◌, ◌-◌, ◌≤◌, ◌<◌}
+use Rattle.laws.specs.Basics.{List, ℕ, suc, length, get_or}
 use Rattle.model.specs.Words.{most_processes}
 use Rattle.histories.specs.History.{sent, received, Lists, checkpoints}
 use Rattle.theory_patterns.specs.{Paths.StandsIn, Paths.FirstBreaking, Patterns.most_judged}

@@ -1,6 +1,7 @@
 -- Rows of 16 in one flat table.
 -- Assumes nothing.
-use Rattle.laws.specs.Basics.{◌≡◌, refl, sym, ◌∙◌, List, ◌⊎◌, inl, inr, ℕ, zero, suc, ◌+◌, ◌*◌, ◌≤◌, ◌<◌, arith, ltb, length, get_or, set, length-set, get_or-set_same, get_or-set_other, ltb-true, ltb-false, by_bool, by_eq}
+use Rattle.std.specs.Prelude.{◌≡◌, ◌⊎◌, ◌+◌, ◌*◌, ◌≤◌, ◌<◌}
+use Rattle.laws.specs.Basics.{refl, sym, ◌∙◌, List, inl, inr, ℕ, zero, suc, arith, ltb, length, get_or, set, length-set, get_or-set_same, get_or-set_other, ltb-true, ltb-false, by_bool, by_eq}
 use Rattle.laws.specs.{Lists.table, Loops.iter, Loops.iter_none, Loops.iter_more, Loops.either, Tables.length_table, Tables.get_d_table}
 use Rattle.model.specs.declared.Interval.{Interval}
 use Rattle.model.specs.Words.{most_processes}

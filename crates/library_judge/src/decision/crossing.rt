@@ -1,5 +1,5 @@
 // The near end: which received messages cross, and the least that a receiver's state knows where one does.
-ghost use Rattle.laws.specs.Basics.{◌≡◌, ◌≤◌, ◌<◌};
+ghost use Rattle.std.specs.Prelude.{◌≡◌, ◌≤◌, ◌<◌};
 ghost use Rattle.model.specs.Words.{most_processes};
 ghost use Rattle.library_judge.specs.decision.Crossings.{Sized, crossing_of, lesser_of, least_crossing_of, NearEnd};
 

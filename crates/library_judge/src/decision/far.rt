@@ -1,5 +1,5 @@
 // The far end: the first process whose least reached row does not know the near end.
-ghost use Rattle.laws.specs.Basics.{◌≡◌, ◌+◌, ◌*◌, ◌≤◌, ◌<◌};
+ghost use Rattle.std.specs.Prelude.{◌≡◌, ◌+◌, ◌*◌, ◌≤◌, ◌<◌};
 ghost use Rattle.model.specs.Words.{most_processes};
 ghost use Rattle.library_judge.specs.decision.Far.{Reaching, FarEnd};
 

@@ -1,5 +1,6 @@
 // The flat table of vectors: a row of 16 numbers for each state. These two functions and `entry` are all that touch it.
-ghost use Rattle.laws.specs.Basics.{◌≡◌, ◌+◌, ◌*◌, ◌≤◌, ◌<◌, length};
+ghost use Rattle.std.specs.Prelude.{◌≡◌, ◌+◌, ◌*◌, ◌≤◌, ◌<◌};
+ghost use Rattle.laws.specs.Basics.{length};
 ghost use Rattle.model.specs.Words.{most_processes};
 ghost use Rattle.library_judge.specs.decision.Rows.{row_of, put_row_of, entry_at};
 

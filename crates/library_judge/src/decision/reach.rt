@@ -1,5 +1,6 @@
 // The closure: the least row of each process that a zigzag path from the near end reaches.
-ghost use Rattle.laws.specs.Basics.{◌≡◌, false, ◌+◌, ◌*◌, ◌≤◌, ◌<◌, length};
+ghost use Rattle.std.specs.Prelude.{◌≡◌, ◌+◌, ◌*◌, ◌≤◌, ◌<◌};
+ghost use Rattle.laws.specs.Basics.{false, length};
 ghost use Rattle.model.specs.Words.{most_processes};
 ghost use Rattle.library_judge.specs.decision.Reach.{Linked, lowered_by, relaxed_by, passed, Closure, FirstRow};
 

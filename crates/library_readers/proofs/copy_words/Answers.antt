@@ -1,5 +1,6 @@
 -- `library_readers::copy_words` meets its contract. Assumes nothing.
-use Rattle.laws.specs.Basics.{◌≡◌, refl, ◌∙◌, ◌+◌, ◌-◌, ◌≤◌, arith, length, length-set, rules}
+use Rattle.std.specs.Prelude.{◌≡◌, ◌+◌, ◌-◌, ◌≤◌}
+use Rattle.laws.specs.Basics.{refl, ◌∙◌, arith, length, length-set, rules}
 use Rattle.laws.specs.{Below.below_written, Loops.set_below, Loops.below_none, Loops.step_set}
 use Rattle.words.specs.Layout.{word}
 use Rattle.library_readers.proofs.copy_words.Goals as goal

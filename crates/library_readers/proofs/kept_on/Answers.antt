@@ -1,5 +1,6 @@
 -- `library_readers::kept_on` meets its contract. Assumes nothing.
-use Rattle.laws.specs.Basics.{◌≡◌, refl, ◌∙◌, ap, ◌≤◌, ◌<◌, arith, rules}
+use Rattle.std.specs.Prelude.{◌≡◌, ◌≤◌, ◌<◌}
+use Rattle.laws.specs.Basics.{refl, ◌∙◌, ap, arith, rules}
 use Rattle.words.specs.Layout.{word}
 use Rattle.words.proofs.ViewSound.{sound_words}
 use Rattle.library_readers.proofs.{Readings.answer_is, Readings.kept_short, Readings.kept_absent, Readings.kept_read}

@@ -1,5 +1,6 @@
 -- `library_readers::messages_on` meets its contract. Assumes nothing.
-use Rattle.laws.specs.Basics.{◌≡◌, refl, ◌∙◌, ◌≤◌, ◌<◌, arith, rules}
+use Rattle.std.specs.Prelude.{◌≡◌, ◌≤◌, ◌<◌}
+use Rattle.laws.specs.Basics.{refl, ◌∙◌, arith, rules}
 use Rattle.words.proofs.ViewSound.{sound_words}
 use Rattle.library_readers.proofs.Readings.{answer_is, messages_few, messages_short, messages_read}
 use Rattle.library_readers.proofs.messages_on.Goals as goal

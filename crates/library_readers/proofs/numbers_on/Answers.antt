@@ -1,5 +1,6 @@
 -- `library_readers::numbers_on` meets its contract. Assumes nothing.
-use Rattle.laws.specs.Basics.{◌≡◌, refl, ◌∙◌, ◌≤◌, ◌<◌, rules}
+use Rattle.std.specs.Prelude.{◌≡◌, ◌≤◌, ◌<◌}
+use Rattle.laws.specs.Basics.{refl, ◌∙◌, rules}
 use Rattle.words.proofs.ViewSound.{sound_words}
 use Rattle.library_readers.proofs.Readings.{answer_is, nothing_reported, numbers_short, numbers_read}
 use Rattle.library_readers.proofs.numbers_on.Goals as goal

@@ -1,5 +1,6 @@
 -- `library_readers::put_three` meets its contract. Assumes nothing.
-use Rattle.laws.specs.Basics.{◌≡◌, List, [], ◌∷◌, ℕ, ◌+◌, arith, set, length-set, sets, rules}
+use Rattle.std.specs.Prelude.{◌≡◌, ◌∷◌, ◌+◌}
+use Rattle.laws.specs.Basics.{List, [], ℕ, arith, set, length-set, sets, rules}
 use native.Mathlib.Numerals.{add-one}
 use Rattle.library_readers.proofs.put_three.Goals as goal
 

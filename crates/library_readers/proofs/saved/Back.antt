@@ -1,7 +1,8 @@
 -- Words are read back from their bytes; bytes that are whole are those of the words read from them; and bytes are no longer whole where
 -- up to four in a row were changed.
 -- Assumes nothing.
-use Rattle.laws.specs.Basics.{◌≡◌, refl, sym, ◌∙◌, ap, true, List, [], ◌∷◌, ◌++◌, ℕ, zero, suc, ◌+◌, ◌-◌, ◌*◌, ◌/◌, ◌%◌, ◌≤◌, ◌<◌, arith, eqb, length, get_or, take, drop, length-drop, length-take-le, eq-eqb, eqb-true}
+use Rattle.std.specs.Prelude.{◌≡◌, ◌∷◌, ◌++◌, ◌+◌, ◌-◌, ◌*◌, ◌/◌, ◌%◌, ◌≤◌, ◌<◌}
+use Rattle.laws.specs.Basics.{refl, sym, ◌∙◌, ap, true, List, [], ℕ, zero, suc, arith, eqb, length, get_or, take, drop, length-drop, length-take-le, eq-eqb, eqb-true}
 use lib.ListN.{take-append-drop, get_or-append}
 use lib.Seq.{ext_get_or, get_or-take, get_or-drop}
 use Rattle.laws.specs.{Rows.by_lt, Search.all_below, Search.all_in, Search.all_out, Tables.length_table, Tables.get_d_table}

@@ -1,6 +1,7 @@
 -- What is left of bytes: of bytes after bytes, and that it has 32 bits.
 -- Assumes nothing.
-use Rattle.laws.specs.Basics.{◌≡◌, refl, List, [], ◌∷◌, ◌++◌, ℕ, zero, suc, ◌/◌, ◌%◌, ◌<◌, arith, eqb, by_bool}
+use Rattle.std.specs.Prelude.{◌≡◌, ◌∷◌, ◌++◌, ◌/◌, ◌%◌, ◌<◌}
+use Rattle.laws.specs.Basics.{refl, List, [], ℕ, zero, suc, arith, eqb, by_bool}
 use lib.Bits.{bit_xor, xor_lt}
 use Rattle.laws.specs.Loops.{iter}
 use Rattle.library_readers.specs.saved.Castagnoli.{polynomial, bit_taken, byte_taken, remainder, Bytes}

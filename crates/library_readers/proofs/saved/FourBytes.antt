@@ -1,7 +1,8 @@
 -- Bytes that differ within four in a row have different remainders, and so different checksums: four bytes after a remainder are 32 steps of the division of a
 -- number of 32 bits, and every step can be taken back.
 -- Assumes nothing.
-use Rattle.laws.specs.Basics.{◌≡◌, refl, sym, ◌∙◌, ap, List, [], ◌∷◌, ◌++◌, ℕ, zero, suc, ◌+◌, ◌*◌, ◌/◌, ◌%◌, ◌^◌, ◌≤◌, ◌<◌, arith, eqb, length, eqb-true, eqb-false, by_bool}
+use Rattle.std.specs.Prelude.{◌≡◌, ◌∷◌, ◌++◌, ◌+◌, ◌*◌, ◌/◌, ◌%◌, ◌^◌, ◌≤◌, ◌<◌}
+use Rattle.laws.specs.Basics.{refl, sym, ◌∙◌, ap, List, [], ℕ, zero, suc, arith, eqb, length, eqb-true, eqb-false, by_bool}
 use native.Mathlib.Nat.{pow-suc, div-eq_of_lt, mul_comm}
 use lib.Bits.{bit_xor, differ, xor_step, xor_comm, xor_shr, xor_self, xor_shifted, xor_zero_r}
 use Rattle.laws.specs.Loops.{iter}

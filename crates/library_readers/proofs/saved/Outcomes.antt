@@ -1,6 +1,7 @@
 -- What saving and loading answer and leave, in each of their cases.
 -- Assumes nothing.
-use Rattle.laws.specs.Basics.{◌≡◌, refl, ◌∙◌, true, false, List, ◌++◌, Option, none, some, ℕ, ◌+◌, ◌≤◌, ◌<◌, length, eq-eqb, ne_eqb, lt-ltb, le-ltb}
+use Rattle.std.specs.Prelude.{◌≡◌, ◌++◌, ◌+◌, ◌≤◌, ◌<◌}
+use Rattle.laws.specs.Basics.{refl, ◌∙◌, true, false, List, Option, none, some, ℕ, length, eq-eqb, ne_eqb, lt-ltb, le-ltb}
 use Rattle.model.specs.declared.Refusal.TheVariants.{UnsoundState, ListTooShort}
 use Rattle.model.specs.Sound.{sound}
 use Rattle.whole_runs.specs.Outcomes.{accepting}

@@ -1,6 +1,7 @@
 -- The parts of saved bytes: how many they are, and what stands at each place.
 -- Assumes nothing.
-use Rattle.laws.specs.Basics.{◌≡◌, refl, sym, ◌∙◌, ap, true, false, List, [], ◌∷◌, ◌++◌, ℕ, zero, suc, ◌+◌, ◌*◌, ◌/◌, ◌%◌, ◌≤◌, ◌<◌, arith, eqb, length, get_or, take, drop, length-append, sets, length-take-le, eq-eqb, ne_eqb}
+use Rattle.std.specs.Prelude.{◌≡◌, ◌∷◌, ◌++◌, ◌+◌, ◌*◌, ◌/◌, ◌%◌, ◌≤◌, ◌<◌}
+use Rattle.laws.specs.Basics.{refl, sym, ◌∙◌, ap, true, false, List, [], ℕ, zero, suc, arith, eqb, length, get_or, take, drop, length-append, sets, length-take-le, eq-eqb, ne_eqb}
 use lib.ListN.{get_or-append}
 use lib.Seq.{get_or-append-add, take_at, drop_at}
 use Rattle.laws.specs.{Front.written_front, Lists.table, Loops.all_yes, Prefixes.take_more, Rows.all_stop, Search.all_below, Written.sets_after}

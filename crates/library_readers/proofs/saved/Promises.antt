@@ -1,6 +1,7 @@
 -- What was saved is loaded; and bytes that are loaded were saved, and with up to four in a row changed they are not loaded.
 -- Assumes nothing.
-use Rattle.laws.specs.Basics.{◌≡◌, refl, ◌∙◌, ap, Bool, true, false, ◌&&◌, List, ◌++◌, none, some, ℕ, arith, pick, by_bool}
+use Rattle.std.specs.Prelude.{◌≡◌, ◌&&◌, ◌++◌}
+use Rattle.laws.specs.Basics.{refl, ◌∙◌, ap, Bool, true, false, List, none, some, ℕ, arith, pick, by_bool}
 use Rattle.laws.specs.Truth.{and_left, and_right}
 use Rattle.model.specs.Sound.{sound}
 use Rattle.words.specs.Layout.{run_of}

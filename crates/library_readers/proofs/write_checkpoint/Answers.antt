@@ -1,5 +1,6 @@
 -- `library_readers::write_checkpoint` meets its contract. Assumes nothing.
-use Rattle.laws.specs.Basics.{◌≡◌, ◌∙◌, ap, List, [], ◌∷◌, ℕ, ◌*◌, ◌≤◌, sets, rules}
+use Rattle.std.specs.Prelude.{◌≡◌, ◌∷◌, ◌*◌, ◌≤◌}
+use Rattle.laws.specs.Basics.{◌∙◌, ap, List, [], ℕ, sets, rules}
 use Rattle.model.specs.declared.CheckpointIndex.{CheckpointIndex}
 use Rattle.words.specs.Layout.{word, index_at_of, cause_at_of, blocks_at_of, index_of_def, checkpoint_in}
 use Rattle.library_readers.specs.Written.{three_stored}

@@ -1,5 +1,6 @@
 -- `library_readers::write_kept` meets its contract. Assumes nothing.
-use Rattle.laws.specs.Basics.{◌≡◌, refl, ◌∙◌, List, ℕ, ◌+◌, ◌-◌, ◌*◌, ◌≤◌, arith, length, sets, rules}
+use Rattle.std.specs.Prelude.{◌≡◌, ◌+◌, ◌-◌, ◌*◌, ◌≤◌}
+use Rattle.laws.specs.Basics.{refl, ◌∙◌, List, ℕ, arith, length, sets, rules}
 use Rattle.laws.specs.Lists.{table}
 use Rattle.words.specs.Layout.{checkpoint_in}
 use Rattle.library_readers.specs.Readings.{stored_numbers}

@@ -1,5 +1,6 @@
 -- `library_readers::write_message` meets its contract. Assumes nothing.
-use Rattle.laws.specs.Basics.{◌≡◌, refl, sym, ◌∙◌, ap, List, [], ◌∷◌, ℕ, ◌+◌, ◌*◌, sets, rules, eq-eqb, ne_eqb, pick}
+use Rattle.std.specs.Prelude.{◌≡◌, ◌∷◌, ◌+◌, ◌*◌}
+use Rattle.laws.specs.Basics.{refl, sym, ◌∙◌, ap, List, [], ℕ, sets, rules, eq-eqb, ne_eqb, pick}
 use Rattle.words.specs.Layout.{word, sender_at_of, receiver_at_of, message_in, is_message}
 use Rattle.library_readers.specs.Written.{three_of}
 use Rattle.library_readers.proofs.write_message.Goals as goal

@@ -1,5 +1,6 @@
 -- `library_readers::write_messages` meets its contract. Assumes nothing.
-use Rattle.laws.specs.Basics.{◌≡◌, refl, ◌∙◌, List, ℕ, ◌+◌, ◌-◌, ◌*◌, ◌≤◌, arith, length, sets, rules}
+use Rattle.std.specs.Prelude.{◌≡◌, ◌+◌, ◌-◌, ◌*◌, ◌≤◌}
+use Rattle.laws.specs.Basics.{refl, ◌∙◌, List, ℕ, arith, length, sets, rules}
 use Rattle.laws.specs.{Lists.select, Lists.table, Select.select_length, Tables.length_table}
 use Rattle.words.specs.Layout.{message_in, is_message}
 use Rattle.library_readers.specs.{Readings.sent_numbers, Written.messages_below}

@@ -1,5 +1,6 @@
 -- `library_readers::write_numbers` meets its contract. Assumes nothing.
-use Rattle.laws.specs.Basics.{◌≡◌, ◌∙◌, List, [], ◌∷◌, ℕ, arith, set, length-set, sets, rules}
+use Rattle.std.specs.Prelude.{◌≡◌, ◌∷◌}
+use Rattle.laws.specs.Basics.{◌∙◌, List, [], ℕ, arith, set, length-set, sets, rules}
 use Rattle.words.specs.Layout.{word, wide2, wide4}
 use Rattle.library_readers.specs.Written.{numbers_in}
 use Rattle.library_readers.proofs.write_numbers.Goals as goal

@@ -1,7 +1,8 @@
 -- CRC-32C: the remainder of bytes by the polynomial of Castagnoli, lowest bit first, started from 32 ones and inverted at the end. `bit_xor` is the exclusive or of two
 -- numbers, bit by bit. proofs/Published has the checksum's published check value.
 -- Assumes nothing.
-use Rattle.laws.specs.Basics.{List, [], ◌∷◌, ℕ, ◌/◌, ◌%◌, ◌<◌, eqb, get_or, pick}
+use Rattle.std.specs.Prelude.{◌∷◌, ◌/◌, ◌%◌, ◌<◌}
+use Rattle.laws.specs.Basics.{List, [], ℕ, eqb, get_or, pick}
 use Rattle.std.specs.Int.Bits.{bit_xor}
 use Rattle.laws.specs.Loops.{iter}
 

@@ -2,7 +2,8 @@
 -- all these. Every number has its lowest byte first, on every machine. proofs/Back says that words are read back from their bytes, that whole bytes are those of the
 -- words read from them, and that bytes are no longer whole where up to four in a row were changed.
 -- Assumes nothing.
-use Rattle.laws.specs.Basics.{Bool, ◌&&◌, List, [], ◌∷◌, ◌++◌, ℕ, ◌+◌, ◌*◌, ◌/◌, ◌%◌, eqb, length, get_or, take}
+use Rattle.std.specs.Prelude.{◌&&◌, ◌∷◌, ◌++◌, ◌+◌, ◌*◌, ◌/◌, ◌%◌}
+use Rattle.laws.specs.Basics.{Bool, List, [], ℕ, eqb, length, get_or, take}
 use Rattle.laws.specs.{Lists.table, Search.all_below}
 use Rattle.words.specs.Layout.{state_size}
 use Rattle.library_readers.specs.saved.Castagnoli.{crc32c}

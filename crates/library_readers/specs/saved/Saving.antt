@@ -1,7 +1,8 @@
 -- What it answers and leaves to save the state that words stand for, and to load words from bytes, any at all. The bytes are those of specs/Format.
 -- proofs/Promises has the two theorems.
 -- Assumes nothing.
-use Rattle.laws.specs.Basics.{◌≡◌, true, ◌&&◌, List, [], ◌∷◌, ◌++◌, Option, none, some, ℕ, ◌≤◌, eqb, length, pick}
+use Rattle.std.specs.Prelude.{◌≡◌, ◌&&◌, ◌∷◌, ◌++◌, ◌≤◌}
+use Rattle.laws.specs.Basics.{true, List, [], Option, none, some, ℕ, eqb, length, pick}
 use Rattle.model.specs.declared.Refusal.TheVariants.{UnsoundState}
 use Rattle.model.specs.{Sound.sound, Refusals.unsound}
 use Rattle.whole_runs.specs.Outcomes.{refusing, accepting}

@@ -1,5 +1,6 @@
 // The bytes of a saved state (specs/Format): written from its words, judged, and the words read from them.
-ghost use Rattle.laws.specs.Basics.{◌≡◌, [], ◌∷◌, ◌+◌, ◌*◌, ◌≤◌, ◌<◌, length, sets};
+ghost use Rattle.std.specs.Prelude.{◌≡◌, ◌∷◌, ◌+◌, ◌*◌, ◌≤◌, ◌<◌};
+ghost use Rattle.laws.specs.Basics.{[], length, sets};
 ghost use Rattle.words.specs.Layout.{state_size};
 ghost use Rattle.library_readers.specs.saved.Format.{heading, word_bytes, sum_bytes, saved_bytes, word_in_of, words_in, sum_in_of, has_heading_of, is_whole, saved_size, summed_size};
 

@@ -1,5 +1,6 @@
 // CRC-32C, the checksum of a saved state: specs/Castagnoli says what it is, and here it is computed, bit by bit.
-ghost use Rattle.laws.specs.Basics.{◌≡◌, ◌≤◌, length, take};
+ghost use Rattle.std.specs.Prelude.{◌≡◌, ◌≤◌};
+ghost use Rattle.laws.specs.Basics.{length, take};
 ghost use Rattle.library_readers.specs.saved.Castagnoli.{bit_taken, byte_taken, crc32c};
 
 // The polynomial of Castagnoli (hexadecimal 82F63B78), and 32 ones.

@@ -1,6 +1,7 @@
 -- What a call through the recorder leaves, field by field: the functions return and write each by itself.
 -- Assumes nothing.
-use Rattle.laws.specs.Basics.{◌≡◌, sym, ap, List, ℕ, ◌+◌, length, sets}
+use Rattle.std.specs.Prelude.{◌≡◌, ◌+◌}
+use Rattle.laws.specs.Basics.{sym, ap, List, ℕ, length, sets}
 use Rattle.whole_runs.specs.Outcomes.{Outcome}
 use Rattle.theory_recording.specs.Recording.{Recorded, unwritten, appended}
 

@@ -1,7 +1,8 @@
 -- A call made on a copy of the words with lists of its own, of k entries at most, has the refusal of the call itself: a refusal looks at the state and at how long the lent
 -- lists are, and 512 entries, or 16, are as good as more.
 -- Assumes nothing.
-use Rattle.laws.specs.Basics.{◌≡◌, sym, ◌∙◌, ap, List, ℕ, ◌≤◌, min, length, take, replicate, length-replicate, length-take-le}
+use Rattle.std.specs.Prelude.{◌≡◌, ◌≤◌}
+use Rattle.laws.specs.Basics.{sym, ◌∙◌, ap, List, ℕ, min, length, take, replicate, length-replicate, length-take-le}
 use Rattle.model.specs.declared.Run.{Run}
 use Rattle.model.specs.Refusals.{checkpoint_refusal, deliver_refusal, recover_refusal}
 use Rattle.theory_recording.proofs.Recording.{checkpoint_scratch, deliver_scratch, recover_scratch}

@@ -1,6 +1,7 @@
 -- The three ways of a call through the recorder: refused by itself, refused for want of room, and done. Which it is, the number that its summary has and the room tell.
 -- Assumes nothing.
-use Rattle.laws.specs.Basics.{◌≡◌, refl, sym, ◌∙◌, ap, Bool, true, false, not, List, [], Option, none, some, ℕ, ◌+◌, ◌-◌, ◌≤◌, ◌<◌, arith, eqb, ltb, length, sets, eq-eqb, ne_eqb, le-ltb, ltb-true, ltb-false, not-true, not-false, pick, by_eq}
+use Rattle.std.specs.Prelude.{◌≡◌, ◌+◌, ◌-◌, ◌≤◌, ◌<◌}
+use Rattle.laws.specs.Basics.{refl, sym, ◌∙◌, ap, Bool, true, false, not, List, [], Option, none, some, ℕ, arith, eqb, ltb, length, sets, eq-eqb, ne_eqb, le-ltb, ltb-true, ltb-false, not-true, not-false, pick, by_eq}
 use Rattle.laws.specs.Truth.{and_right}
 use Rattle.model.specs.declared.{Run.Run, Event.Event, Refusal.Refusal, Refusal.TheVariants.BufferTooShort}
 use Rattle.model.specs.declared.Event.TheVariants.{Checkpoint, Send, Deliver, Lose, Recover}

@@ -1,6 +1,7 @@
 -- `library_recorder::start` meets its contract: the three ways of a start through the recorder.
 -- Assumes nothing.
-use Rattle.laws.specs.Basics.{◌≡◌, none, arith, length, rules}
+use Rattle.std.specs.Prelude.{◌≡◌}
+use Rattle.laws.specs.Basics.{none, arith, length, rules}
 use Rattle.in_place.specs.Starting.{start_refusal_in}
 use Rattle.in_place.proofs.Starting.{accepted_few}
 use Rattle.library_recorder.proofs.Begun.{start_accepted, start_refused, replied_refused, replied_short, replied_done}

@@ -1,6 +1,7 @@
 -- `library_trials::most_kept` meets its contract.
 -- Assumes nothing.
-use Rattle.laws.specs.Basics.{◌≡◌, refl, sym, ◌∙◌, ap, ℕ, ◌-◌, ◌≤◌, ◌<◌, arith, rules}
+use Rattle.std.specs.Prelude.{◌≡◌, ◌-◌, ◌≤◌, ◌<◌}
+use Rattle.laws.specs.Basics.{refl, sym, ◌∙◌, ap, ℕ, arith, rules}
 use Rattle.words.specs.Layout.{word, count_of, kept_count_at_of, run_of}
 use Rattle.words.proofs.ViewSound.{sound_words}
 use Rattle.theory_recording.specs.spacing.Spacing.{greatest_below, most_kept_of}

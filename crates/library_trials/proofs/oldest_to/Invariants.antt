@@ -1,6 +1,7 @@
 -- `library_trials::oldest_to` meets its contract.
 -- Assumes nothing.
-use Rattle.laws.specs.Basics.{◌≡◌, refl, ap, Bool, true, false, not, ◌&&◌, ℕ, ◌-◌, ◌≤◌, ◌<◌, arith, eqb, rules}
+use Rattle.std.specs.Prelude.{◌≡◌, ◌&&◌, ◌-◌, ◌≤◌, ◌<◌}
+use Rattle.laws.specs.Basics.{refl, ap, Bool, true, false, not, ℕ, arith, eqb, rules}
 use Rattle.words.specs.Layout.{word, receiver_at_of, message_in}
 use Rattle.words.proofs.ViewSound.{sound_words}
 use Rattle.library_trials.specs.Steps.{found_in_of}

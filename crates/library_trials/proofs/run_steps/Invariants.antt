@@ -1,6 +1,7 @@
 -- `library_trials::run_steps` meets its contract. The loop's invariant: the trial after the steps done.
 -- Assumes nothing.
-use Rattle.laws.specs.Basics.{◌≡◌, refl, ◌∙◌, ◌-◌, ◌≤◌, arith, length, rules}
+use Rattle.std.specs.Prelude.{◌≡◌, ◌-◌, ◌≤◌}
+use Rattle.laws.specs.Basics.{refl, ◌∙◌, arith, length, rules}
 use Rattle.theory_recording.specs.spacing.Spacing.{trial_after}
 use Rattle.library_trials.specs.Steps.{trial_of, Underway}
 use Rattle.library_trials.proofs.{Trials.none_stepped, Trials.one_stepped}

@@ -1,6 +1,7 @@
 -- `library_trials::send` meets its contract.
 -- Assumes nothing.
-use Rattle.laws.specs.Basics.{◌≡◌, sym, ◌∙◌, ap, true, List, some, ℕ, arith, rules}
+use Rattle.std.specs.Prelude.{◌≡◌}
+use Rattle.laws.specs.Basics.{sym, ◌∙◌, ap, true, List, some, ℕ, arith, rules}
 use Rattle.model.specs.declared.Event.TheVariants.{Send}
 use Rattle.model.specs.Sound.{sound}
 use Rattle.words.specs.Layout.{word, run_of}

@@ -1,6 +1,7 @@
 -- `library_trials::simulate` meets its contract, by the three ranges.
 -- Assumes nothing.
-use Rattle.laws.specs.Basics.{◌≡◌, refl, sym, ◌∙◌, none, rules}
+use Rattle.std.specs.Prelude.{◌≡◌}
+use Rattle.laws.specs.Basics.{refl, sym, ◌∙◌, none, rules}
 use Rattle.theory_recording.specs.spacing.Spacing.{trial_refusal, TrialsAgree}
 use Rattle.theory_recording.proofs.spacing.Agreement.{trials_agree, trial_out}
 use Rattle.library_trials.specs.Steps.{trial_of}

@@ -1,6 +1,7 @@
 -- `library_trials::step` meets its contract.
 -- Assumes nothing.
-use Rattle.laws.specs.Basics.{◌≡◌, sym, ◌∙◌, ap, [], ◌∷◌, ℕ, ◌%◌, ◌≤◌, ◌<◌, arith, rules, pick}
+use Rattle.std.specs.Prelude.{◌≡◌, ◌∷◌, ◌%◌, ◌≤◌, ◌<◌}
+use Rattle.laws.specs.Basics.{sym, ◌∙◌, ap, [], ℕ, arith, rules, pick}
 use native.Mathlib.Nat.{mod-lt}
 use Rattle.model.specs.{declared.Run.Run, declared.Event.TheVariants.Checkpoint, Sound.sound}
 use Rattle.theory_recording.specs.{Replay.state_after_events, spacing.Trial.Trial, spacing.Spacing.step_events}

@@ -1,6 +1,7 @@
 -- A report that fits is read back from its number, and so is the set that rose: no two answers have the same number.
 -- Assumes nothing.
-use Rattle.laws.specs.Basics.{◌≡◌, refl, ◌∙◌, Option, none, some, ℕ, ◌+◌, ◌*◌, ◌/◌, ◌%◌, ◌<◌, arith}
+use Rattle.std.specs.Prelude.{◌≡◌, ◌+◌, ◌*◌, ◌/◌, ◌%◌, ◌<◌}
+use Rattle.laws.specs.Basics.{refl, ◌∙◌, Option, none, some, ℕ, arith}
 use Rattle.whole_runs.specs.Outcomes.{Report}
 use Rattle.listing.specs.answers.Codes.{value_code_of, coded, Fits, value_of, report_of, rose_of}
 

@@ -1,6 +1,7 @@
 -- The report of every call fits the fields of its number, whatever the state and the arguments.
 -- Assumes nothing.
-use Rattle.laws.specs.Basics.{◌≡◌, true, not, ◌&&◌, List, none, some, ℕ, ◌+◌, ◌≤◌, ◌<◌, arith, eqb, leb, length, by_bool}
+use Rattle.std.specs.Prelude.{◌≡◌, ◌&&◌, ◌+◌, ◌≤◌, ◌<◌}
+use Rattle.laws.specs.Basics.{true, not, List, none, some, ℕ, arith, eqb, leb, length, by_bool}
 use Rattle.laws.specs.{Counting.count_le, Lists.select, Options.some_same, Options.none≢some, Prefixes.every_select}
 use Rattle.model.specs.declared.{Message.Message, Named.Named, Run.Run, Refusal.Refusal}
 use Rattle.model.specs.Words.{basic, is_pinned, process, own, under_way, live}

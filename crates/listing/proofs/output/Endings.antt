@@ -1,6 +1,7 @@
 -- What the ends of a trace print.
 -- Assumes nothing.
-use Rattle.laws.specs.Basics.{◌≡◌, Bool, List, [], ◌∷◌, ℕ, ◌+◌, ◌≤◌, ◌<◌, arith, length, lt-ltb}
+use Rattle.std.specs.Prelude.{◌≡◌, ◌∷◌, ◌+◌, ◌≤◌, ◌<◌}
+use Rattle.laws.specs.Basics.{Bool, List, [], ℕ, arith, length, lt-ltb}
 use Rattle.model.specs.declared.{Run.Run, Refusal.TheVariants.LeftOverBytes}
 use Rattle.whole_runs.specs.Listing.{refusal_text, most_records, records}
 use Rattle.whole_runs.proofs.Blocks.{past_limit}

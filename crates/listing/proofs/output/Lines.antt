@@ -1,6 +1,7 @@
 -- A line has room where the longest one has, and so has the line of a refusal.
 -- Assumes nothing.
-use Rattle.laws.specs.Basics.{◌≡◌, List, ℕ, ◌≤◌, ◌<◌, arith, length, get_or}
+use Rattle.std.specs.Prelude.{◌≡◌, ◌≤◌, ◌<◌}
+use Rattle.laws.specs.Basics.{List, ℕ, arith, length, get_or}
 use Rattle.model.specs.declared.Refusal.{Refusal}
 use Rattle.model.specs.{Refusals.number, laws.Refusals.number_range}
 use Rattle.whole_runs.specs.Listing.{line_text, refusal_text}

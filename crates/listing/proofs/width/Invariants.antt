@@ -1,6 +1,7 @@
 -- `listing::width` meets its contract. The loop's invariant: the limit is ten to the power of the digits counted, and the number has at least
 -- that many. The measure is what is left of 20. Assumes nothing.
-use Rattle.laws.specs.Basics.{◌≡◌, refl, ◌-◌, ◌^◌, ◌≤◌, arith, length, rules}
+use Rattle.std.specs.Prelude.{◌≡◌, ◌-◌, ◌^◌, ◌≤◌}
+use Rattle.laws.specs.Basics.{refl, arith, length, rules}
 use native.Mathlib.Nat.{pow-suc, pow-le-pow_right}
 use native.Mathlib.Numerals.{add-one}
 use Rattle.whole_runs.specs.Listing.{decimal}

@@ -1,6 +1,7 @@
 -- `listing::write_accepted` meets its contract: its five texts stand one after the other.
 -- Assumes nothing.
-use Rattle.laws.specs.Basics.{List, [], ◌∷◌, ◌++◌, ℕ, rules}
+use Rattle.std.specs.Prelude.{◌∷◌, ◌++◌}
+use Rattle.laws.specs.Basics.{List, [], ℕ, rules}
 use Rattle.whole_runs.specs.Listing.{decimal, space, value_text, deletions_text, accepted_text}
 use Rattle.listing.specs.{Lines.value_in, Lines.reply_of, Printed.Room}
 use Rattle.listing.proofs.{Texts.then, Texts.room_first, Texts.room_rest}

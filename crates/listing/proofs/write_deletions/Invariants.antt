@@ -1,6 +1,7 @@
 -- `listing::write_deletions` meets its contract. The loop's invariant: the first k deletions are printed. The measure is what is left of the count.
 -- Assumes nothing.
-use Rattle.laws.specs.Basics.{◌≡◌, refl, ◌∙◌, ◌+◌, ◌-◌, ◌*◌, ◌≤◌, arith, length, get_or, rules}
+use Rattle.std.specs.Prelude.{◌≡◌, ◌+◌, ◌-◌, ◌*◌, ◌≤◌}
+use Rattle.laws.specs.Basics.{refl, ◌∙◌, arith, length, get_or, rules}
 use native.Mathlib.Numerals.{add-one}
 use Rattle.whole_runs.specs.Listing.{deletions_text}
 use Rattle.listing.specs.{Lines.pair_text, Printed.Printed}

@@ -1,6 +1,7 @@
 -- `listing::write_line` meets its contract: the line of a refused record by itself, else its texts one after the other.
 -- Assumes nothing.
-use Rattle.laws.specs.Basics.{◌≡◌, List, [], ◌∷◌, ◌++◌, ℕ, rules}
+use Rattle.std.specs.Prelude.{◌≡◌, ◌∷◌, ◌++◌}
+use Rattle.laws.specs.Basics.{List, [], ℕ, rules}
 use Rattle.whole_runs.specs.{Calls.Reply, Listing.decimal, Listing.space, Listing.line_feed, Listing.accepted_text, Listing.line_text}
 use Rattle.listing.specs.{Lines.reply_of, Printed.Room}
 use Rattle.listing.proofs.{Texts.then, Texts.room_first, Texts.room_rest, Texts.refused_line, Texts.accepted_line}

@@ -1,6 +1,7 @@
 -- `listing::write_pair` meets its contract: its four texts stand one after the other.
 -- Assumes nothing.
-use Rattle.laws.specs.Basics.{[], ◌∷◌, ◌++◌, rules}
+use Rattle.std.specs.Prelude.{◌∷◌, ◌++◌}
+use Rattle.laws.specs.Basics.{[], rules}
 use Rattle.whole_runs.specs.Listing.{decimal, space, colon}
 use Rattle.listing.specs.{Lines.pair_text, Printed.Room}
 use Rattle.listing.proofs.{Texts.then, Texts.room_first, Texts.room_rest}

@@ -1,6 +1,7 @@
 -- `listing::write_refusal` meets its contract: its four texts stand one after the other.
 -- Assumes nothing.
-use Rattle.laws.specs.Basics.{List, [], ◌∷◌, ◌++◌, ℕ, rules}
+use Rattle.std.specs.Prelude.{◌∷◌, ◌++◌}
+use Rattle.laws.specs.Basics.{List, [], ℕ, rules}
 use Rattle.whole_runs.specs.Listing.{decimal, space, line_feed}
 use Rattle.listing.specs.{Lines.refusal_line, Printed.Room}
 use Rattle.listing.proofs.{Texts.then, Texts.room_first, Texts.room_rest}

@@ -7,7 +7,8 @@
 --   bits 48 to 63   the set of entries that rose (Note 1), 0 of a call that takes nothing in
 -- proofs/Back says that a report that fits is read back from its number, and proofs/Fit that the report of every call fits.
 -- Assumes nothing.
-use Rattle.laws.specs.Basics.{◌≡◌, Option, none, some, ℕ, ◌+◌, ◌*◌, ◌/◌, ◌%◌, ◌<◌, eqb, pick}
+use Rattle.std.specs.Prelude.{◌≡◌, ◌+◌, ◌*◌, ◌/◌, ◌%◌, ◌<◌}
+use Rattle.laws.specs.Basics.{Option, none, some, ℕ, eqb, pick}
 use Rattle.model.specs.declared.{StartAnswer.StartAnswer, CheckpointAnswer.CheckpointAnswer, SendAnswer.SendAnswer, DeliverAnswer.DeliverAnswer}
 use Rattle.model.specs.declared.{LoseAnswer.LoseAnswer, LineAnswer.LineAnswer, RecoverAnswer.RecoverAnswer}
 use Rattle.whole_runs.specs.Outcomes.{Report, start_report, checkpoint_report, send_report, deliver_report, lose_report, line_report, recover_report}

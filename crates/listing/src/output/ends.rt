@@ -1,5 +1,6 @@
 // The ends of a trace: what is left over after its last whole record, and a trace of no bytes.
-ghost use Rattle.laws.specs.Basics.{Bool, [], ◌≤◌, ◌<◌, length};
+ghost use Rattle.std.specs.Prelude.{◌≤◌, ◌<◌};
+ghost use Rattle.laws.specs.Basics.{Bool, [], length};
 ghost use Rattle.whole_runs.specs.Listing.{records, listing};
 ghost use Rattle.listing.specs.{Lines.longest_line, Printed.Printed};
 ghost use Rattle.model.specs.declared.Run as model-run;

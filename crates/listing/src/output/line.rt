@@ -1,5 +1,6 @@
 // A line printed into a lent buffer that has room for the longest one, and whether the replay goes on after it.
-ghost use Rattle.laws.specs.Basics.{◌≡◌, ◌+◌, ◌*◌, ◌≤◌, length};
+ghost use Rattle.std.specs.Prelude.{◌≡◌, ◌+◌, ◌*◌, ◌≤◌};
+ghost use Rattle.laws.specs.Basics.{length};
 ghost use Rattle.whole_runs.specs.Listing.{line_text, refusal_text, goes_on_of, most_records};
 ghost use Rattle.listing.specs.{Lines.reply_of, Lines.longest_line, Printed.Printed, Summarised.report_in};
 ghost use Rattle.whole_runs.proofs.Sizes.{Small};

@@ -1,6 +1,7 @@
 -- Eight bytes by the tests of `call_of`, and that what has 16 bits is the whole argument.
 -- Assumes nothing.
-use Rattle.laws.specs.Basics.{◌≡◌, sym, ◌∙◌, ap, Bool, true, false, ◌&&◌, List, ℕ, ◌≤◌, ◌<◌, arith, eqb, eqb-true, lt-ltb, le-ltb}
+use Rattle.std.specs.Prelude.{◌≡◌, ◌&&◌, ◌≤◌, ◌<◌}
+use Rattle.laws.specs.Basics.{sym, ◌∙◌, ap, Bool, true, false, List, ℕ, arith, eqb, eqb-true, lt-ltb, le-ltb}
 use Rattle.laws.specs.{Tests.every, Truth.and_left, Truth.and_right}
 use Rattle.theory_roles.specs.declared.{Operation.Operation, Operation.TheVariants.Recover, Operation.TheVariants.Line, Operation.TheVariants.Earliest}
 use Rattle.machine_console.specs.declared.{script.Call.Call, script.Read.TheVariants.Malformed, script.Read.TheVariants.Asks}

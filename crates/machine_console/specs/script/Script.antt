@@ -1,6 +1,7 @@
 -- A script of console calls: which eight bytes are a call, and what it asks for. Numbers have their high byte first, and no value is cut short.
 -- Assumes nothing.
-use Rattle.laws.specs.Basics.{◌≡◌, Bool, true, ◌&&◌, ◌||◌, List, [], ◌∷◌, Option, none, some, ℕ, ◌+◌, ◌*◌, eqb, ltb, leb, get_or, pick}
+use Rattle.std.specs.Prelude.{◌≡◌, ◌&&◌, ◌||◌, ◌∷◌, ◌+◌, ◌*◌}
+use Rattle.laws.specs.Basics.{Bool, true, List, [], Option, none, some, ℕ, eqb, ltb, leb, get_or, pick}
 use Rattle.laws.specs.Tests.{every}
 use Rattle.theory_roles.specs.declared.{Role.Role, Role.TheVariants.Operator, Role.TheVariants.JobOwner, Role.TheVariants.Viewer, Operation.Operation}
 use Rattle.theory_roles.specs.declared.Operation.TheVariants.{Start, Checkpoint, Send, Deliver, Lose, Recover, Line, Earliest, List as Listing, Counts}

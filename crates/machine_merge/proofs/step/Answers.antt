@@ -1,6 +1,7 @@
 -- `machine_merge::step` meets its contract.
 -- Assumes nothing.
-use Rattle.laws.specs.Basics.{not, ◌≡◌, sym, ◌∙◌, ap, true, List, ℕ, length, rules}
+use Rattle.std.specs.Prelude.{◌≡◌}
+use Rattle.laws.specs.Basics.{not, sym, ◌∙◌, ap, true, List, ℕ, length, rules}
 use Rattle.laws.specs.Below.{not_out}
 use Rattle.machine_merge.specs.declared.marks.Marks.{Marks}
 use Rattle.machine_merge.specs.Words.{EnoughRoom, in_bounds_of}

@@ -1,5 +1,6 @@
 -- `machine_record::step` meets its contract. Assumes nothing.
-use Rattle.laws.specs.Basics.{◌≡◌, sym, ◌∙◌, ap, true, length, rules, not-true, not-false}
+use Rattle.std.specs.Prelude.{◌≡◌}
+use Rattle.laws.specs.Basics.{sym, ◌∙◌, ap, true, length, rules, not-true, not-false}
 use Rattle.machine_record.specs.declared.marks.Marks.{Marks}
 use Rattle.machine_record.specs.Lent.{has_room_of, in_bounds_of}
 use Rattle.machine_record.proofs.Stepping.{bounded, enough_room, not_state, no_room, no_bounds, room_kept, step_stands}

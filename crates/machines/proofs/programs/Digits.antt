@@ -1,6 +1,7 @@
 -- The number that a word is, digit by digit, and what stands for it.
 -- Assumes nothing.
-use Rattle.laws.specs.Basics.{◌≡◌, refl, sym, ◌∙◌, ap, List, Option, none, some, ℕ, ◌+◌, ◌-◌, ◌*◌, ◌≤◌, ◌<◌, arith, length, get_or, eq-eqb, ne_eqb, lt-ltb, le-ltb}
+use Rattle.std.specs.Prelude.{◌≡◌, ◌+◌, ◌-◌, ◌*◌, ◌≤◌, ◌<◌}
+use Rattle.laws.specs.Basics.{refl, sym, ◌∙◌, ap, List, Option, none, some, ℕ, arith, length, get_or, eq-eqb, ne_eqb, lt-ltb, le-ltb}
 use Rattle.laws.specs.{Loops.iter, Rows.by_lt}
 use Rattle.machines.specs.programs.Numbers.{too_great, no_number, grown, decimal_in, stands_for, number_in, at_most}
 

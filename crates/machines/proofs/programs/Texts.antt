@@ -1,6 +1,7 @@
 -- Texts in a buffer: a word byte by byte, a text at the front; and how long the line of a refusal can be.
 -- Assumes nothing.
-use Rattle.laws.specs.Basics.{◌≡◌, sym, ◌∙◌, ap, List, [], ◌∷◌, ◌++◌, ℕ, ◌+◌, ◌≤◌, ◌<◌, arith, length, get_or, take, drop, set, length-append, sets, length-take-le}
+use Rattle.std.specs.Prelude.{◌≡◌, ◌∷◌, ◌++◌, ◌+◌, ◌≤◌, ◌<◌}
+use Rattle.laws.specs.Basics.{sym, ◌∙◌, ap, List, [], ℕ, arith, length, get_or, take, drop, set, length-append, sets, length-take-le}
 use lib.Seq.{take_at, take-length, length-sets}
 use Rattle.laws.specs.{Front.written_front, Prefixes.take_more, Written.sets_after}
 use Rattle.model.specs.declared.Refusal.{Refusal}

@@ -1,6 +1,7 @@
 -- Bytes moved towards the front of a list, one after the other: the first k of them are written, and what lies after them is as it was.
 -- Assumes nothing.
-use Rattle.laws.specs.Basics.{◌≡◌, refl, sym, ◌∙◌, ap, List, [], ◌∷◌, ℕ, suc, ◌+◌, ◌≤◌, ◌<◌, arith, length, get_or, take, drop, set, length-drop, sets, get_or-set_other, length-take-le}
+use Rattle.std.specs.Prelude.{◌≡◌, ◌∷◌, ◌+◌, ◌≤◌, ◌<◌}
+use Rattle.laws.specs.Basics.{refl, sym, ◌∙◌, ap, List, [], ℕ, suc, arith, length, get_or, take, drop, set, length-drop, sets, get_or-set_other, length-take-le}
 use lib.Seq.{get_or-drop}
 use Rattle.laws.specs.{Prefixes.take_more, Written.sets_after}
 

@@ -1,6 +1,7 @@
 -- The word `all`, byte by byte.
 -- Assumes nothing.
-use Rattle.laws.specs.Basics.{◌≡◌, refl, false, ◌&&◌, List, [], ◌∷◌, ℕ, arith, eqb, length, get_or, by_bool}
+use Rattle.std.specs.Prelude.{◌≡◌, ◌&&◌, ◌∷◌}
+use Rattle.laws.specs.Basics.{refl, false, List, [], ℕ, arith, eqb, length, get_or, by_bool}
 use Rattle.laws.specs.Tests.{same}
 
 -- A word of three bytes is the same if each byte is.

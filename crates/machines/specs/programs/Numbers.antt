@@ -1,6 +1,7 @@
 -- The number that a word is, by its decimal digits, and how 64 bits stand for it: no number is cut short.
 -- Assumes nothing.
-use Rattle.laws.specs.Basics.{List, Option, none, some, ℕ, ◌+◌, ◌-◌, ◌*◌, eqb, ltb, length, get_or, pick}
+use Rattle.std.specs.Prelude.{◌+◌, ◌-◌, ◌*◌}
+use Rattle.laws.specs.Basics.{List, Option, none, some, ℕ, eqb, ltb, length, get_or, pick}
 use Rattle.laws.specs.Loops.{iter}
 
 -- One digit more, in ASCII: 48 to 57. A byte that is no digit makes a word that is no number.

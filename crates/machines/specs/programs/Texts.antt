@@ -1,6 +1,7 @@
 -- What programs print alike: a name and a number in one line, and the line of a refusal. Numbers are decimal.
 -- Assumes nothing.
-use Rattle.laws.specs.Basics.{List, [], ◌∷◌, ◌++◌, ℕ}
+use Rattle.std.specs.Prelude.{◌∷◌, ◌++◌}
+use Rattle.laws.specs.Basics.{List, [], ℕ}
 use Rattle.model.specs.declared.Refusal.{Refusal}
 use Rattle.model.specs.Refusals.{number}
 use Rattle.whole_runs.specs.Listing.{decimal, space, line_feed}

@@ -1,5 +1,6 @@
 // The number that a word is, by its decimal digits. 4,294,967,296 stands for every greater number, and 4,294,967,297 for a word that is no number.
-ghost use Rattle.laws.specs.Basics.{◌≡◌, Option, ℕ, ◌≤◌};
+ghost use Rattle.std.specs.Prelude.{◌≡◌, ◌≤◌};
+ghost use Rattle.laws.specs.Basics.{Option, ℕ};
 ghost use Rattle.machines.specs.programs.Numbers.{grown, stands_for, number_in, at_most, no_number};
 
 // The greatest number of 32 bits; what stands for every greater one, and for a word that is no number (too_great, no_number in specs/Numbers).

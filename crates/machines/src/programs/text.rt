@@ -1,5 +1,6 @@
 // Texts printed to a lent buffer from a place on: every function hands back the place after what it printed.
-ghost use Rattle.laws.specs.Basics.{◌+◌, ◌≤◌, length};
+ghost use Rattle.std.specs.Prelude.{◌+◌, ◌≤◌};
+ghost use Rattle.laws.specs.Basics.{length};
 ghost use Rattle.listing.specs.Printed.{Room, Printed};
 ghost use Rattle.machines.specs.programs.Texts.{figure_text, refused_text, longest_figure, longest_refusal};
 

@@ -1,5 +1,6 @@
 // The word that the program is started with.
-ghost use Rattle.laws.specs.Basics.{◌≡◌, [], ◌∷◌};
+ghost use Rattle.std.specs.Prelude.{◌≡◌, ◌∷◌};
+ghost use Rattle.laws.specs.Basics.{[]};
 ghost use Rattle.laws.specs.Tests.{same};
 
 // Whether it is `all`, with which a replay goes on after a refusal: "Any other argument .. counts as none."

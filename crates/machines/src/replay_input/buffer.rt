@@ -1,5 +1,6 @@
 // The buffer that blocks of a trace are read into: how far it may be filled, and the bytes that stay in it from one block to the next.
-ghost use Rattle.laws.specs.Basics.{◌≡◌, ◌-◌, ◌*◌, ◌≤◌, min, length, take, drop, sets};
+ghost use Rattle.std.specs.Prelude.{◌≡◌, ◌-◌, ◌*◌, ◌≤◌};
+ghost use Rattle.laws.specs.Basics.{min, length, take, drop, sets};
 ghost use Rattle.whole_runs.specs.Listing.{most_records};
 
 use whole_runs::MOST_RECORDS;

@@ -1,7 +1,8 @@
 -- Which calls are accepted: for each call, its refusal is none exactly if every test of the table fails, said as facts about the arguments and the state.
 -- And what a failed set is that no number of the table refuses.
 -- Assumes nothing.
-use Rattle.laws.specs.Basics.{◌≡◌, refl, Bool, true, false, not, ◌||◌, List, Option, none, some, ℕ, ◌+◌, ◌*◌, ◌^◌, ◌≤◌, ◌<◌, leb, length, get_or, ne_eqb, eqb-false, le-ltb, ltb-false, le-leb, lt-leb, leb-true, leb-false, not-false, by_bool}
+use Rattle.std.specs.Prelude.{◌≡◌, ◌||◌, ◌+◌, ◌*◌, ◌^◌, ◌≤◌, ◌<◌}
+use Rattle.laws.specs.Basics.{refl, Bool, true, false, not, List, Option, none, some, ℕ, leb, length, get_or, ne_eqb, eqb-false, le-ltb, ltb-false, le-leb, lt-leb, leb-true, leb-false, not-false, by_bool}
 use Rattle.laws.specs.{Search.any_below, Search.any_out, Search.any_none, Truth.never_both, Truth.and_left, Truth.and_right, Truth.and_both, Truth.or_none}
 use Rattle.model.specs.declared.{Message.Message, Run.Run}
 use Rattle.model.specs.Words.{most_processes, most_under_way, most_messages, most_interval, most_blocks, block_count, process, own}

@@ -1,6 +1,7 @@
 -- Calls on the state that stands for a run, the other way round from SoundCalls: which calls are accepted, by facts of the run.
 -- Assumes nothing.
-use Rattle.laws.specs.Basics.{◌≡◌, sym, ◌∙◌, true, List, none, ℕ, ◌+◌, ◌*◌, ◌≤◌, ◌<◌, arith, length}
+use Rattle.std.specs.Prelude.{◌≡◌, ◌+◌, ◌*◌, ◌≤◌, ◌<◌}
+use Rattle.laws.specs.Basics.{sym, ◌∙◌, true, List, none, ℕ, arith, length}
 use Rattle.laws.specs.Options.{some_same}
 use Rattle.model.specs.{Words.most_under_way, Words.most_messages, Words.most_interval, Words.most_blocks, Words.own}
 use Rattle.model.specs.Refusals.{checkpoint_refusal, send_refusal, deliver_refusal, lose_refusal}

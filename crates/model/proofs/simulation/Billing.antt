@@ -1,6 +1,7 @@
 -- Blocks on the state that stands for a run: those of a process's checkpoints that pass a test, a process's block count, the disk after a step.
 -- Assumes nothing.
-use Rattle.laws.specs.Basics.{◌≡◌, sym, ◌∙◌, ap, Bool, true, not, ◌&&◌, List, [], ◌∷◌, ◌++◌, append-nil, ℕ, zero, suc, ◌+◌, ◌-◌, ◌*◌, ◌≤◌, ◌<◌, arith, eqb, length, get_or, eq-eqb, eqb-true, lt-ltb, by_bool}
+use Rattle.std.specs.Prelude.{◌≡◌, ◌&&◌, ◌∷◌, ◌++◌, ◌+◌, ◌-◌, ◌*◌, ◌≤◌, ◌<◌}
+use Rattle.laws.specs.Basics.{sym, ◌∙◌, ap, Bool, true, not, List, [], append-nil, ℕ, zero, suc, arith, eqb, length, get_or, eq-eqb, eqb-true, lt-ltb, by_bool}
 use native.Mathlib.Nat.{add-mul}
 use Rattle.laws.specs.{Sums.sum_below, Sums.sum_same, Tests.count_below, Tests.every, Truth.and_left}
 use Rattle.model.specs.declared.Checkpoint.{Checkpoint}

@@ -1,6 +1,7 @@
 -- A checkpoint: the state after it stands for the run after it, and the deleted ones are those that were kept and are kept no more.
 -- Assumes nothing.
-use Rattle.laws.specs.Basics.{◌≡◌, refl, sym, ◌∙◌, ap, Bool, true, not, ◌&&◌, List, [], ◌∷◌, ◌++◌, ℕ, suc, ◌≤◌, ◌<◌, arith, ltb, set, eq-eqb, ne_eqb, lt-ltb, pick, by_eq}
+use Rattle.std.specs.Prelude.{◌≡◌, ◌&&◌, ◌∷◌, ◌++◌, ◌≤◌, ◌<◌}
+use Rattle.laws.specs.Basics.{refl, sym, ◌∙◌, ap, Bool, true, not, List, [], ℕ, suc, arith, ltb, set, eq-eqb, ne_eqb, lt-ltb, pick, by_eq}
 use Rattle.laws.specs.{Lists.select, Tables.table_same, Tables.table_set, Update.upd, Update.upd_same, Update.upd_other, Update.upds}
 use Rattle.model.specs.declared.{Checkpoint.Checkpoint, Disk.Disk, Pin.Pin, Pin.TheVariants.Nothing, Pin.TheVariants.At}
 use Rattle.model.specs.Words.{basic, most_processes, entry, live_index_of, is_pinned, Process, live, blocks_of, block_count, process}

@@ -1,6 +1,7 @@
 -- A delivery: the state after it stands for the run after it, and the deleted ones are those that were kept and are kept no more.
 -- Assumes nothing.
-use Rattle.laws.specs.Basics.{◌≡◌, refl, sym, ◌∙◌, ap, true, false, not, ◌&&◌, ℕ, ◌≤◌, ◌<◌, arith, pick, by_bool}
+use Rattle.std.specs.Prelude.{◌≡◌, ◌&&◌, ◌≤◌, ◌<◌}
+use Rattle.laws.specs.Basics.{refl, sym, ◌∙◌, ap, true, false, not, ℕ, arith, pick, by_bool}
 use Rattle.model.specs.declared.Disk.{Disk}
 use Rattle.model.specs.Words.{forced, most_processes, live, blocks_of, block_count, process}
 use Rattle.model.specs.Steps.{settled, listed, gone, deletions, billed, deliver_state, deliver_deletions, others}

@@ -1,6 +1,7 @@
 -- The checkpoints that a process keeps, as a list: at least one and at most n, exactly those that a pin names, the last one the last stored.
 -- Assumes nothing.
-use Rattle.laws.specs.Basics.{◌≡◌, refl, sym, ◌∙◌, Bool, true, false, map, Option, none, some, ℕ, suc, ◌-◌, ◌≤◌, ◌<◌, arith, eqb, length, eqb-true}
+use Rattle.std.specs.Prelude.{◌≡◌, ◌-◌, ◌≤◌, ◌<◌}
+use Rattle.laws.specs.Basics.{refl, sym, ◌∙◌, Bool, true, false, map, Option, none, some, ℕ, suc, arith, eqb, length, eqb-true}
 use Rattle.laws.specs.{Truth.never_both, Lists.last_of, Tests.count_below, Tests.every, Tests.some_of, Select.last_of_snoc, Elements.any_at}
 use Rattle.laws.specs.Counting.{count_any, count_some}
 use Rattle.model.specs.declared.Checkpoint.{Checkpoint}

@@ -1,5 +1,6 @@
 -- The line on a state that stands for a run: the rule, the member at each process, the indexes that are written, and who rolls back.
-use Rattle.laws.specs.Basics.{◌≡◌, refl, ◌∙◌, ap, true, not, ◌&&◌, ◌||◌, some, ℕ, suc, ◌≤◌, ◌<◌, arith, ltb, lt-ltb, le-ltb, pick, by_bool}
+use Rattle.std.specs.Prelude.{◌≡◌, ◌&&◌, ◌||◌, ◌≤◌, ◌<◌}
+use Rattle.laws.specs.Basics.{refl, ◌∙◌, ap, true, not, some, ℕ, suc, arith, ltb, lt-ltb, le-ltb, pick, by_bool}
 use mathlib.Core.Option.{map}
 use Rattle.laws.specs.{Lists.last_of, Lists.table, Ranges.all_same, Search.all_below, Search.latest, Tables.table_same}
 use Rattle.model.specs.Words.{most_processes, entry, below, process, own, failed}

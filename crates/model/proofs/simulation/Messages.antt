@@ -1,6 +1,7 @@
 -- Sends and losses: the state after each stands for the run after it; which message a number finds, and what is left without it.
 -- Assumes nothing.
-use Rattle.laws.specs.Basics.{◌≡◌, refl, sym, ◌∙◌, ap, true, false, not, ◌&&◌, List, [], ◌∷◌, ◌++◌, none, some, ℕ, suc, ◌+◌, ◌≤◌, ◌<◌, arith, eqb, eq-eqb, ne_eqb, by_bool, by_eq}
+use Rattle.std.specs.Prelude.{◌≡◌, ◌&&◌, ◌∷◌, ◌++◌, ◌+◌, ◌≤◌, ◌<◌}
+use Rattle.laws.specs.Basics.{refl, sym, ◌∙◌, ap, true, false, not, List, [], none, some, ℕ, suc, arith, eqb, eq-eqb, ne_eqb, by_bool, by_eq}
 use native.Mathlib.Numerals.{add-one}
 use Rattle.laws.specs.{Lists.last_of, Search.latest_is, Search.latest_none, Update.upd_same, Update.upd_other, Update.upds}
 use Rattle.model.specs.declared.Message.{Message}

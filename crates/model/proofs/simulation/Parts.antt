@@ -1,6 +1,7 @@
 -- Laws of a state's parts: one process's part and the messages, put in and read back. They hold of every state.
 -- Assumes nothing.
-use Rattle.laws.specs.Basics.{◌≡◌, refl, sym, ◌∙◌, ap, subst, false, List, [], ℕ, zero, suc, ◌≤◌, ◌<◌, arith, length, get_or, length-set, get_or-replicate, get_or-set_same, get_or-set_other, by_eq}
+use Rattle.std.specs.Prelude.{◌≡◌, ◌≤◌, ◌<◌}
+use Rattle.laws.specs.Basics.{refl, sym, ◌∙◌, ap, subst, false, List, [], ℕ, zero, suc, arith, length, get_or, length-set, get_or-replicate, get_or-set_same, get_or-set_other, by_eq}
 use native.Mathlib.Nat.{not-suc-le-zero}
 use lib.Seq.{set-set, set_comm}
 use Rattle.laws.specs.{Lists.placed, Tables.take_placed, Update.upd, Update.upd_same, Update.upd_other}

@@ -1,6 +1,7 @@
 -- Laws of the values at the numbers that pass a test, in ascending order: selected, mapped, tested and counted; the last of them; which numbers matter.
 -- Assumes nothing.
-use Rattle.laws.specs.Basics.{◌≡◌, refl, sym, ◌∙◌, Bool, true, false, ◌&&◌, [], ◌∷◌, ◌++◌, map, append-nil, ℕ, zero, suc, ◌≤◌, ◌<◌, arith, length, length-append, by_bool, by_eq}
+use Rattle.std.specs.Prelude.{◌≡◌, ◌&&◌, ◌∷◌, ◌++◌, ◌≤◌, ◌<◌}
+use Rattle.laws.specs.Basics.{refl, sym, ◌∙◌, Bool, true, false, [], map, append-nil, ℕ, zero, suc, arith, length, length-append, by_bool, by_eq}
 use mathlib.Core.Option
 use Rattle.laws.specs.{Lists.select, Lists.last_of, Search.any_below, Search.latest, Tests.count_below, Tests.some_of}
 use Rattle.laws.specs.Select.{select_append, map_append, last_of_snoc, some_append, some_one, or_swap}

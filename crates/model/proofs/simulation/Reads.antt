@@ -1,6 +1,7 @@
 -- What the state that stands for a run holds: each process's part, the messages, the count; and the entries of its vectors and pins.
 -- Assumes nothing.
-use Rattle.laws.specs.Basics.{◌≡◌, refl, ◌∙◌, ℕ, suc, ◌≤◌, ◌<◌, arith, ltb, leb, length, get_or, get_or-replicate, lt-ltb, le-ltb, leb-true, leb-false, by_bool}
+use Rattle.std.specs.Prelude.{◌≡◌, ◌≤◌, ◌<◌}
+use Rattle.laws.specs.Basics.{refl, ◌∙◌, ℕ, suc, arith, ltb, leb, length, get_or, get_or-replicate, lt-ltb, le-ltb, leb-true, leb-false, by_bool}
 use lib.ListN.{get_or-eq_default}
 use Rattle.laws.specs.Tables.{get_d_table, get_d_table_past, table_same}
 use Rattle.model.specs.declared.Pin.TheVariants.{Nothing}

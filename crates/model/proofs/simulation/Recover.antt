@@ -1,5 +1,6 @@
 -- A recovery: the state after it stands for the run after it, and the deleted ones are those that were kept and are kept no more.
-use Rattle.laws.specs.Basics.{◌≡◌, refl, sym, ◌∙◌, ap, Bool, true, false, not, ◌&&◌, List, Option, none, some, ℕ, suc, ◌≤◌, ◌<◌, arith, eqb, ltb, leb, lt-ltb, leb-true, leb-false, by_bool}
+use Rattle.std.specs.Prelude.{◌≡◌, ◌&&◌, ◌≤◌, ◌<◌}
+use Rattle.laws.specs.Basics.{refl, sym, ◌∙◌, ap, Bool, true, false, not, List, Option, none, some, ℕ, suc, arith, eqb, ltb, leb, lt-ltb, leb-true, leb-false, by_bool}
 use mathlib.Core.Option.{map}
 use lib.Dec.{leb-suc-zero}
 use Rattle.laws.specs.{Choice.not_ltb, Lists.select, Lists.last_of, Lists.gather, Rows.and_true, Search.latest, Search.latest_out, Sums.sum_below, Sums.sum_same}

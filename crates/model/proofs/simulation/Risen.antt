@@ -1,7 +1,8 @@
 -- The set of entries that rose at a delivery: of each process of the run exactly if the run's live state knows less of it than the message carries, a forced
 -- checkpoint or not; and of no other.
 -- Assumes nothing.
-use Rattle.laws.specs.Basics.{◌≡◌, sym, ◌∙◌, ap, Bool, true, false, List, ℕ, suc, ◌+◌, ◌≤◌, ◌<◌, arith, ltb, leb, length, get_or-set_same, get_or-set_other, le-ltb, leb-true, leb-false, pick, by_bool, by_eq}
+use Rattle.std.specs.Prelude.{◌≡◌, ◌+◌, ◌≤◌, ◌<◌}
+use Rattle.laws.specs.Basics.{sym, ◌∙◌, ap, Bool, true, false, List, ℕ, suc, arith, ltb, leb, length, get_or-set_same, get_or-set_other, le-ltb, leb-true, leb-false, pick, by_bool, by_eq}
 use Rattle.laws.specs.Tables.{length_table}
 use Rattle.model.specs.declared.Interval.{Interval}
 use Rattle.model.specs.{Words.most_processes, Words.entry, Words.below, Words.in_set, Steps.advanced, Steps.risen, Steps.deliver_risen}

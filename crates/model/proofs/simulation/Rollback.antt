@@ -1,5 +1,6 @@
 -- What a recovery leaves of each process before its pins are settled: its vector, its own entry, the checkpoints that are not lost.
-use Rattle.laws.specs.Basics.{◌≡◌, refl, sym, ◌∙◌, ap, true, false, ℕ, suc, ◌≤◌, ◌<◌, arith, ltb, leb, lt-ltb, le-ltb, le-leb, leb-true, leb-false, by_bool}
+use Rattle.std.specs.Prelude.{◌≡◌, ◌≤◌, ◌<◌}
+use Rattle.laws.specs.Basics.{refl, sym, ◌∙◌, ap, true, false, ℕ, suc, arith, ltb, leb, lt-ltb, le-ltb, le-leb, leb-true, leb-false, by_bool}
 use Rattle.laws.specs.{Lists.select, Lists.last_of, Truth.and_no_right, Update.upd, Update.upd_same, Update.upd_other}
 use Rattle.model.specs.Words.{most_processes, live, own, failed}
 use Rattle.model.specs.Steps.{allowed, states, latest_allowed, rolled_back, not_lost}

@@ -1,7 +1,8 @@
 -- One process's part of the state that stands for a run: its pins name what the run keeps, its states in order, when two parts are the same,
 -- and what is left of a list of checkpoints once the pins have moved.
 -- Assumes nothing.
-use Rattle.laws.specs.Basics.{◌≡◌, refl, sym, ◌∙◌, ap, Bool, true, not, ◌&&◌, ◌||◌, [], ◌∷◌, ◌++◌, Option, none, some, ℕ, suc, ◌≤◌, ◌<◌, arith, eqb, ltb, set, eq-eqb, ne_eqb, lt-ltb, le-ltb, leb-true, pick, by_bool, by_eq}
+use Rattle.std.specs.Prelude.{◌≡◌, ◌&&◌, ◌||◌, ◌∷◌, ◌++◌, ◌≤◌, ◌<◌}
+use Rattle.laws.specs.Basics.{refl, sym, ◌∙◌, ap, Bool, true, not, [], Option, none, some, ℕ, suc, arith, eqb, ltb, set, eq-eqb, ne_eqb, lt-ltb, le-ltb, leb-true, pick, by_bool, by_eq}
 use native.Mathlib.Numerals.{add-one}
 use Rattle.laws.specs.{Lists.select, Ranges.any_same, Ranges.any_wider, Select.some_table, Tables.table_same, Tables.table_set}
 use Rattle.laws.specs.Update.{upd, upd_same, upd_other}

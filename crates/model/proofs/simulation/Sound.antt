@@ -1,6 +1,7 @@
 -- The state that stands for a run is sound, clause by clause: for every run with the invariant that is within the limits.
 -- Assumes nothing.
-use Rattle.laws.specs.Basics.{◌≡◌, refl, ◌∙◌, ap, Bool, true, map, Option, none, some, ℕ, suc, ◌+◌, ◌-◌, ◌≤◌, ◌<◌, arith, eqb, ltb, length, get_or, eq-eqb, ne_eqb, lt-ltb, ltb-true, le-leb, by_bool}
+use Rattle.std.specs.Prelude.{◌≡◌, ◌+◌, ◌-◌, ◌≤◌, ◌<◌}
+use Rattle.laws.specs.Basics.{refl, ◌∙◌, ap, Bool, true, map, Option, none, some, ℕ, suc, arith, eqb, ltb, length, get_or, eq-eqb, ne_eqb, lt-ltb, ltb-true, le-leb, by_bool}
 use Rattle.laws.specs.{Truth.and_both, Lists.or_else, Lists.last_of, Search.all_below, Search.all_in, Search.any_in, Sums.sum_below, Sums.sum_same, Tests.every}
 use Rattle.laws.specs.Elements.{every_table}
 use Rattle.model.specs.declared.{Pin.TheVariants.Nothing, Checkpoint.Checkpoint, Message.Message}

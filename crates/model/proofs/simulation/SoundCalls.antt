@@ -1,6 +1,7 @@
 -- Calls on the state that stands for a run: what an accepted one says of the run, and which failed sets the table does not refuse.
 -- Assumes nothing.
-use Rattle.laws.specs.Basics.{◌≡◌, sym, ◌∙◌, ap, true, List, none, some, ℕ, ◌+◌, ◌*◌, ◌≤◌, ◌<◌, arith, length, by_bool}
+use Rattle.std.specs.Prelude.{◌≡◌, ◌+◌, ◌*◌, ◌≤◌, ◌<◌}
+use Rattle.laws.specs.Basics.{sym, ◌∙◌, ap, true, List, none, some, ℕ, arith, length, by_bool}
 use Rattle.laws.specs.Options.{some_same, none≢some}
 use Rattle.model.specs.declared.{Disk.Disk, Message.Message}
 use Rattle.model.specs.{Words.most_interval, Words.most_blocks, Words.block_count, Words.process, Words.own, Steps.found}

@@ -1,6 +1,7 @@
 -- The limits of a run hold at the start, and every step keeps them; a send does where there is room.
 -- Assumes nothing.
-use Rattle.laws.specs.Basics.{◌≡◌, refl, ap, Bool, true, false, List, ◌⊎◌, inl, inr, ℕ, suc, ◌+◌, ◌*◌, ◌≤◌, ◌<◌, arith, leb, length, get_or, ne_eqb, le-leb, leb-true, by_bool, by_eq}
+use Rattle.std.specs.Prelude.{◌≡◌, ◌⊎◌, ◌+◌, ◌*◌, ◌≤◌, ◌<◌}
+use Rattle.laws.specs.Basics.{refl, ap, Bool, true, false, List, inl, inr, ℕ, suc, arith, leb, length, get_or, ne_eqb, le-leb, leb-true, by_bool, by_eq}
 use Rattle.laws.specs.{Sums.sum_below, Sums.sum_le, Truth.never_both, Truth.and_left, Truth.and_right, Tests.count_below}
 use Rattle.laws.specs.{Update.upd, Update.upd_same, Update.upd_other, Update.upd_same₁, Update.upd_other₁, Counting.count_none, Counting.count_mono}
 use Rattle.model.specs.Words.{most_processes, most_under_way, most_messages, most_block_count, most_blocks}

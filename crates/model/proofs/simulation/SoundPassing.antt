@@ -1,6 +1,7 @@
 -- The values at the numbers below a bound that pass a test: every one of them passes another test, and the numbers themselves ascend.
 -- Assumes nothing.
-use Rattle.laws.specs.Basics.{◌≡◌, refl, Bool, true, List, [], ◌∷◌, ◌++◌, ℕ, zero, suc, ◌≤◌, ◌<◌, arith, ltb, leb, lt-ltb, ltb-true, le-leb, by_bool}
+use Rattle.std.specs.Prelude.{◌≡◌, ◌∷◌, ◌++◌, ◌≤◌, ◌<◌}
+use Rattle.laws.specs.Basics.{refl, Bool, true, List, [], ℕ, zero, suc, arith, ltb, leb, lt-ltb, ltb-true, le-leb, by_bool}
 use Rattle.laws.specs.{Truth.and_left, Truth.and_right, Tests.every, Elements.every_nil, Elements.every_single, Elements.every_append}
 use Rattle.model.specs.Sound.{ascending}
 use Rattle.model.proofs.{simulation.View.passing, simulation.Passing.passing_yes, simulation.Passing.passing_no}

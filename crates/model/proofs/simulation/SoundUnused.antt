@@ -1,6 +1,7 @@
 -- The unused places of the state that stands for a run: every one holds zero, every unused pin is none. And how many checkpoints each row holds.
 -- Assumes nothing.
-use Rattle.laws.specs.Basics.{◌≡◌, refl, ◌∙◌, Bool, true, false, not, List, [], ℕ, zero, suc, ◌-◌, ◌≤◌, ◌<◌, arith, eqb, length, get_or, drop, replicate, get_or-set_same, get_or-set_other, by_eq}
+use Rattle.std.specs.Prelude.{◌≡◌, ◌-◌, ◌≤◌, ◌<◌}
+use Rattle.laws.specs.Basics.{refl, ◌∙◌, Bool, true, false, not, List, [], ℕ, zero, suc, arith, eqb, length, get_or, drop, replicate, get_or-set_same, get_or-set_other, by_eq}
 use native.Mathlib.Nat.{not-suc-le-zero}
 use lib.Seq.{drop-set-lt, drop-append_seam}
 use Rattle.laws.specs.{Lists.placed, Search.all_below, Search.all_in, Tests.every, Elements.every_drop, Elements.every_from, Elements.every_replicate}

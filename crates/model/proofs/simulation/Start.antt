@@ -1,6 +1,7 @@
 -- The start: the state that an accepted start returns stands for the run that has just begun.
 -- Assumes nothing.
-use Rattle.laws.specs.Basics.{◌≡◌, refl, sym, ◌∙◌, ap, true, false, List, [], ◌∷◌, none, some, ℕ, ◌-◌, ◌*◌, ◌<◌, arith, eqb, ltb, get_or, set, eq-eqb, ne_eqb, lt-ltb, pick, by_eq}
+use Rattle.std.specs.Prelude.{◌≡◌, ◌∷◌, ◌-◌, ◌*◌, ◌<◌}
+use Rattle.laws.specs.Basics.{refl, sym, ◌∙◌, ap, true, false, List, [], none, some, ℕ, arith, eqb, ltb, get_or, set, eq-eqb, ne_eqb, lt-ltb, pick, by_eq}
 use Rattle.laws.specs.{Choice.pick_same, Lists.placed, Search.any_in, Sums.sum_below, Sums.sum_same, Tables.table_same, Tables.table_set, Tables.table_replicate}
 use Rattle.laws.specs.{Tests.count_below, Update.upd_same, Update.upd_other}
 use Rattle.model.specs.declared.{Interval.Interval, Pin.Pin, Pin.TheVariants.Nothing, Pin.TheVariants.At, Run.Run}

@@ -1,6 +1,7 @@
 -- A step that changes one process's part, the messages and the disk: the state after it stands for a run that differs in these alone.
 -- Assumes nothing.
-use Rattle.laws.specs.Basics.{◌≡◌, refl, sym, ◌∙◌, ap, List, ℕ, ◌<◌, arith, by_eq}
+use Rattle.std.specs.Prelude.{◌≡◌, ◌<◌}
+use Rattle.laws.specs.Basics.{refl, sym, ◌∙◌, ap, List, ℕ, arith, by_eq}
 use Rattle.laws.specs.Update.{upd, upd_same, upd_other}
 use Rattle.model.specs.declared.{Message.Message, Disk.Disk, Run.Run}
 use Rattle.model.specs.{Words.Process, Words.blank, Words.with_process, Words.with_messages, Words.with_disk, Steps.with_processes}

@@ -1,6 +1,7 @@
 -- What a process takes in of a message: the vector and the pins of its part, and the part and the deleted ones once what no pin names goes.
 -- Assumes nothing.
-use Rattle.laws.specs.Basics.{◌≡◌, refl, sym, ◌∙◌, ap, Bool, true, false, not, ◌&&◌, ℕ, suc, ◌≤◌, ◌<◌, max, arith, ltb, get_or, leb-true, leb-false, pick, by_bool}
+use Rattle.std.specs.Prelude.{◌≡◌, ◌&&◌, ◌≤◌, ◌<◌}
+use Rattle.laws.specs.Basics.{refl, sym, ◌∙◌, ap, Bool, true, false, not, ℕ, suc, max, arith, ltb, get_or, leb-true, leb-false, pick, by_bool}
 use Rattle.laws.specs.{Choice.pick_same, Ranges.any_same, Ranges.any_wider, Search.any_below, Tables.table_same, Update.upds}
 use Rattle.model.specs.{declared.Pin.Pin, declared.Pin.TheVariants.Nothing, Words.most_processes, Words.entry, Words.below, Words.Process}
 use Rattle.model.specs.Steps.{settled, gone, taken_entry, taken_vector, taken_pin, taken_pins}

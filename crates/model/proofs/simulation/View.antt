@@ -1,6 +1,7 @@
 -- The state that stands for a run as functions: the library's state after any list of accepted calls is `state_of` of the run, to the last unused place.
 -- Assumes nothing.
-use Rattle.laws.specs.Basics.{◌≡◌, Bool, true, List, [], ◌∷◌, ◌++◌, Option, none, some, ℕ, zero, suc, ◌-◌, ◌≤◌, ◌<◌, ltb, length, pick}
+use Rattle.std.specs.Prelude.{◌≡◌, ◌∷◌, ◌++◌, ◌-◌, ◌≤◌, ◌<◌}
+use Rattle.laws.specs.Basics.{Bool, true, List, [], Option, none, some, ℕ, zero, suc, ltb, length, pick}
 use Rattle.laws.specs.Lists.{table}
 use Rattle.model.specs.declared.{Interval.Interval, Pin.Pin, Pin.TheVariants.Nothing, Pin.TheVariants.At, Checkpoint.Checkpoint, Message.Message}
 use Rattle.model.specs.declared.{Disk.Disk, Run.Run}

@@ -1,7 +1,8 @@
 -- The law of refusals: a list of rules gives no refusal exactly if no rule of it holds, and else what the first that holds gives. The refusal of every
 -- call is opened by it. And the range of the table's numbers.
 -- Assumes nothing.
-use Rattle.laws.specs.Basics.{◌≡◌, refl, true, false, List, [], ◌∷◌, Option, none, some, ℕ, zero, suc, ◌≤◌, arith, get_or, take, by_bool}
+use Rattle.std.specs.Prelude.{◌≡◌, ◌∷◌, ◌≤◌}
+use Rattle.laws.specs.Basics.{refl, true, false, List, [], Option, none, some, ℕ, zero, suc, arith, get_or, take, by_bool}
 use Rattle.laws.specs.Truth.{never_both}
 use Rattle.model.specs.declared.Refusal.{Refusal}
 use Rattle.model.specs.declared.Refusal.TheVariants.{CountOutsideRange, UnsoundState, ListTooShort, NoSuchProcess, SenderIsReceiver, NoSuchFailedProcess, NotUnderWay, TooManyUnderWay, MessageNumbersUsed, IntervalsUsed, NoFirstByte, LeftOverBytes, MalformedRecord, BlockCountOutsideRange, BlocksUsed, TooManyRecords, UnfitNamedList, NotKept, CausallyOrdered, BufferTooShort, TrialOutsideRange, HalvesMismatch, NeitherReady, Denied}

@@ -1,6 +1,7 @@
 -- A sound state taken apart: what each clause of document 01's "A sound state" says, by name. Here alone `sound` is opened.
 -- Assumes nothing.
-use Rattle.laws.specs.Basics.{◌≡◌, true, not, ◌&&◌, [], map, ℕ, ◌+◌, ◌≤◌, ◌<◌, eqb, leb, get_or, drop, eqb-true, eqb-false, ltb-true, leb-true, not-true}
+use Rattle.std.specs.Prelude.{◌≡◌, ◌&&◌, ◌+◌, ◌≤◌, ◌<◌}
+use Rattle.laws.specs.Basics.{true, not, [], map, ℕ, eqb, leb, get_or, drop, eqb-true, eqb-false, ltb-true, leb-true, not-true}
 use Rattle.laws.specs.{Lists.or_else, Lists.last_of, Search.all_below, Search.all_out, Tests.every, Truth.and_out}
 use Rattle.model.specs.declared.{Pin.TheVariants.Nothing, Message.Message, Run.Run}
 use Rattle.model.specs.Words.{most_processes, most_under_way, most_messages, most_blocks, entry, last_stored_of, names, is_pinned, no_checkpoint, process, own, under_way}

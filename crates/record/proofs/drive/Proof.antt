@@ -1,5 +1,6 @@
 -- `record::drive` meets its contract: the loop goes through states of the machine, and ends where it stops. Assumes nothing.
-use Rattle.laws.specs.Basics.{◌≡◌, refl, sym, ◌∙◌, length, needs}
+use Rattle.std.specs.Prelude.{◌≡◌}
+use Rattle.laws.specs.Basics.{refl, sym, ◌∙◌, length, needs}
 use Rattle.machines.proofs.Driving.{Driven, driven_first, driven_next, driven_less, driven_ends}
 use Rattle.machine_record.specs.{Machine.machine, Lent.state_of, Lent.place_of}
 use Rattle.machine_record.proofs.{Ranks.machine_ends, Driving.kept}

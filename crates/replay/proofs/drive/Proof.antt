@@ -1,6 +1,7 @@
 -- `replay::drive` meets its contract: the loop goes through states of the machine, and ends where it stops.
 -- Assumes nothing.
-use Rattle.laws.specs.Basics.{◌≡◌, refl, sym, ◌∙◌, length, needs}
+use Rattle.std.specs.Prelude.{◌≡◌}
+use Rattle.laws.specs.Basics.{refl, sym, ◌∙◌, length, needs}
 use Rattle.machine_replay.specs.Standing.{state_of}
 use Rattle.machine_replay.proofs.Ending.{left}
 use Rattle.machine_replay.proofs.Driving.{Driven, driven_first, driven_next, driven_less, driven_ends, still_from_start}

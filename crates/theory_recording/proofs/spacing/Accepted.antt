@@ -1,7 +1,8 @@
 -- Note 10: "no step meets a refusal". Each step stores two checkpoints at most and sends one message at most, so a trial of 30,000 steps meets none of the limits
 -- of document 01; what else a call may be refused for, the choice of a step rules out.
 -- Assumes nothing.
-use Rattle.laws.specs.Basics.{◌≡◌, refl, sym, ◌∙◌, ap, Bool, true, ◌&&◌, List, [], ◌∷◌, ◌++◌, Option, none, some, ℕ, zero, suc, ◌+◌, ◌-◌, ◌*◌, ◌/◌, ◌%◌, ◌≤◌, ◌<◌, arith, eqb, ltb, leb, length, get_or, replicate, length-append, length-replicate, get_or-replicate, ltb-true, ltb-false, leb-true, by_bool, by_eq}
+use Rattle.std.specs.Prelude.{◌≡◌, ◌&&◌, ◌∷◌, ◌++◌, ◌+◌, ◌-◌, ◌*◌, ◌/◌, ◌%◌, ◌≤◌, ◌<◌}
+use Rattle.laws.specs.Basics.{refl, sym, ◌∙◌, ap, Bool, true, List, [], Option, none, some, ℕ, zero, suc, arith, eqb, ltb, leb, length, get_or, replicate, length-append, length-replicate, get_or-replicate, ltb-true, ltb-false, leb-true, by_bool, by_eq}
 use Rattle.std.proofs.Common.{mod-lt, mod-eq_of_lt, mul-le-mul}
 use native.Mathlib.Nat.{mod-eq-sub-mod}
 use lib.ListN.{get_or-eq_default}

@@ -1,6 +1,7 @@
 -- Note 10: a trial "agrees with replaying the same events".
 -- Assumes nothing.
-use Rattle.laws.specs.Basics.{◌≡◌, refl, sym, ◌∙◌, ap, false, none, ℕ, zero, suc, ◌*◌, ◌/◌, ◌%◌, ◌≤◌, ◌<◌, max, arith, eqb, leb, length, eq-eqb, ne_eqb, leb-true, not-false, pick}
+use Rattle.std.specs.Prelude.{◌≡◌, ◌*◌, ◌/◌, ◌%◌, ◌≤◌, ◌<◌}
+use Rattle.laws.specs.Basics.{refl, sym, ◌∙◌, ap, false, none, ℕ, zero, suc, max, arith, eqb, leb, length, eq-eqb, ne_eqb, leb-true, not-false, pick}
 use Rattle.std.proofs.Common.{mod-lt, div-add-mod'}
 use Rattle.laws.specs.Truth.{and_left, and_right}
 use Rattle.model.specs.{Words.most_processes, Words.ones, Steps.start_state, laws.Refusals.no_rule}

@@ -1,6 +1,7 @@
 -- For the code: the states of a trial are reached by calls, and the counts of a trial stay small.
 -- Assumes nothing.
-use Rattle.laws.specs.Basics.{◌≡◌, ◌∙◌, ap, List, [], ◌∷◌, Option, none, some, ℕ, zero, suc, ◌+◌, ◌≤◌, arith, ltb, length, get_or, set, replicate, length-set, length-replicate, get_or-replicate, get_or-set_same, get_or-set_other, ltb-true, ltb-false, by_bool, by_eq}
+use Rattle.std.specs.Prelude.{◌≡◌, ◌∷◌, ◌+◌, ◌≤◌}
+use Rattle.laws.specs.Basics.{◌∙◌, ap, List, [], Option, none, some, ℕ, zero, suc, arith, ltb, length, get_or, set, replicate, length-set, length-replicate, get_or-replicate, get_or-set_same, get_or-set_other, ltb-true, ltb-false, by_bool, by_eq}
 use lib.ListN.{get_or-eq_default}
 use Rattle.laws.specs.Lists.{select}
 use Rattle.model.specs.declared.{Run.Run, Event.Event}

@@ -1,6 +1,7 @@
 -- Note 10: the first of the messages to p is the oldest, since messages ascend by number.
 -- Assumes nothing.
-use Rattle.laws.specs.Basics.{◌≡◌, refl, sym, true, List, [], ◌∷◌, map, none, some, inl, inr, ℕ, suc, ◌≤◌, arith, eqb, leb, eq-eqb, eqb-true, leb-true, by_bool}
+use Rattle.std.specs.Prelude.{◌≡◌, ◌∷◌, ◌≤◌}
+use Rattle.laws.specs.Basics.{refl, sym, true, List, [], map, none, some, inl, inr, ℕ, suc, arith, eqb, leb, eq-eqb, eqb-true, leb-true, by_bool}
 use mathlib.Core.List.Memᴰ
 use mathlib.Core.List.{Memᴰ}
 use Rattle.laws.specs.{Lists.select, Options.some_same, Options.none≢some, Truth.never_both, Truth.and_left, Truth.and_right}

@@ -1,7 +1,8 @@
 -- Note 10: simulations with their results, as data. Another program, written from the document alone, gave the figures (`oracle --simulate`); proofs/Cases has the
 -- theorem that the definitions give the same.
 -- Assumes nothing.
-use Rattle.laws.specs.Basics.{Bool, List, [], ◌∷◌, ℕ}
+use Rattle.std.specs.Prelude.{◌∷◌}
+use Rattle.laws.specs.Basics.{Bool, List, [], ℕ}
 use Rattle.laws.specs.Tests.{same}
 use Rattle.theory_recording.specs.declared.spacing.TrialResult.{TrialResult}
 use Rattle.theory_recording.specs.spacing.Spacing.{trial_report, simulated}

@@ -1,7 +1,7 @@
 -- Document 02, Note 10: "Trying a checkpoint spacing." Each definition stands under the sentence that it says. A trial is one simulation; k is its spacing.
 -- Assumes nothing.
-use Rattle.std.specs.Prelude.{◌≢◌}
-use Rattle.laws.specs.Basics.{◌≡◌, Bool, true, false, not, ◌&&◌, List, [], ◌∷◌, Option, none, some, ℕ, zero, suc, ◌+◌, ◌-◌, ◌*◌, ◌/◌, ◌%◌, ◌≤◌, ◌<◌, max, eqb, ltb, leb, length, get_or, set, replicate, pick}
+use Rattle.std.specs.Prelude.{◌≢◌, ◌≡◌, ◌&&◌, ◌∷◌, ◌+◌, ◌-◌, ◌*◌, ◌/◌, ◌%◌, ◌≤◌, ◌<◌}
+use Rattle.laws.specs.Basics.{Bool, true, false, not, List, [], Option, none, some, ℕ, zero, suc, max, eqb, ltb, leb, length, get_or, set, replicate, pick}
 use mathlib.Core.List.{Memᴰ}
 use Rattle.laws.specs.{Lists.select, Lists.gather, Tests.every}
 use Rattle.model.specs.declared.{Message.Message, Run.Run, Event.Event, Refusal.Refusal, Refusal.TheVariants.TrialOutsideRange}

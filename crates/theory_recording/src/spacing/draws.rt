@@ -1,5 +1,6 @@
 // The generator, in the form that document 01 names for it: wrapping add with a helper for the product's remainder by two to the 32. And what a step chooses.
-ghost use Rattle.laws.specs.Basics.{◌≡◌, ◌&&◌, ◌*◌, ◌%◌, ◌≤◌, ◌<◌, eqb};
+ghost use Rattle.std.specs.Prelude.{◌≡◌, ◌&&◌, ◌*◌, ◌%◌, ◌≤◌, ◌<◌};
+ghost use Rattle.laws.specs.Basics.{eqb};
 ghost use Rattle.model.specs.Words.{most_processes};
 ghost use Rattle.theory_recording.specs.spacing.Spacing.{generated, draw, chosen_receiver_of, is_due_of, most_steps};
 

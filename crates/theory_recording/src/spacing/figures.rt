@@ -1,5 +1,6 @@
 // The numbers of a result.
-ghost use Rattle.laws.specs.Basics.{◌≡◌, ◌≤◌, max};
+ghost use Rattle.std.specs.Prelude.{◌≡◌, ◌≤◌};
+ghost use Rattle.laws.specs.Basics.{max};
 ghost use Rattle.theory_recording.specs.spacing.Spacing.{out_of_range, quotient_of, remainder_of_def, most_steps};
 
 // Whether a parameter of a simulation is out of its range.

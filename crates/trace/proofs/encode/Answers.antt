@@ -1,6 +1,7 @@
 -- `trace::encode` meets its contract: the two tests say whether the fields of the event fit, as `fits` does.
 -- Assumes nothing.
-use Rattle.laws.specs.Basics.{◌≡◌, ◌∙◌, ap, Bool, true, false, ◌&&◌, List, ℕ, ltb, replicate, rules, lt-ltb, le-ltb}
+use Rattle.std.specs.Prelude.{◌≡◌, ◌&&◌}
+use Rattle.laws.specs.Basics.{◌∙◌, ap, Bool, true, false, List, ℕ, ltb, replicate, rules, lt-ltb, le-ltb}
 use Rattle.laws.specs.Truth.{and_both, and_no_right}
 use Rattle.model.specs.{declared.Fields.Fields, declared.Event.Event, Trace.fields_of, Trace.fits, Trace.word_of_def, Trace.bytes_of_def, Trace.encoded}
 use Rattle.model.proofs.Records.{kind_small}

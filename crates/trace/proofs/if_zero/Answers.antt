@@ -1,6 +1,7 @@
 -- `trace::if_zero` meets its contract: the test says which case of `if_zero_of` holds.
 -- Assumes nothing.
-use Rattle.laws.specs.Basics.{◌≡◌, refl, sym, none, ℕ, zero, suc}
+use Rattle.std.specs.Prelude.{◌≡◌}
+use Rattle.laws.specs.Basics.{refl, sym, none, ℕ, zero, suc}
 use Rattle.model.specs.declared.Event.{Event}
 use Rattle.model.specs.Trace.{if_zero_of}
 use Rattle.trace.specs.Answers.{event_read}

@@ -1,6 +1,7 @@
 -- Bytes by whether they are four or more: a record at the front, or one to three left over, or none.
 -- Assumes nothing.
-use Rattle.laws.specs.Basics.{List, [], ◌∷◌, ℕ, ◌≤◌, ◌<◌, arith, length}
+use Rattle.std.specs.Prelude.{◌∷◌, ◌≤◌, ◌<◌}
+use Rattle.laws.specs.Basics.{List, [], ℕ, arith, length}
 
 pub at_least_four : (P : List ℕ → Type 0) → ((a b c d : ℕ) (l : List ℕ) → P (a ∷ b ∷ c ∷ d ∷ l)) → (l : List ℕ) → 4 ≤ length l → P l
 at_least_four P four [] h = absurd (omega arith)

@@ -1,6 +1,7 @@
 -- A reader hands on the four-byte parts of its trace, in their order, each once, and stops at the left-over bytes.
 -- Assumes nothing.
-use Rattle.laws.specs.Basics.{◌≡◌, refl, sym, ◌∙◌, ap, Bool, true, false, List, [], ◌∷◌, ◌++◌, ℕ, zero, suc, ◌+◌, ◌*◌, ◌≤◌, ◌<◌, arith, eqb, length, take, drop, length-drop, leb-true, leb-false, by_bool}
+use Rattle.std.specs.Prelude.{◌≡◌, ◌∷◌, ◌++◌, ◌+◌, ◌*◌, ◌≤◌, ◌<◌}
+use Rattle.laws.specs.Basics.{refl, sym, ◌∙◌, ap, Bool, true, false, List, [], ℕ, zero, suc, arith, eqb, length, take, drop, length-drop, leb-true, leb-false, by_bool}
 use lib.Seq.{drop-drop}
 use denote.Ref.{Bor}
 use Rattle.laws.specs.Tests.{every}

@@ -1,6 +1,7 @@
 -- `trace::record_part` meets its contract: at each `return` the tests that led there say whether four bytes are left.
 -- Assumes nothing.
-use Rattle.laws.specs.Basics.{ap, ℕ, ◌+◌, arith, length, take, drop, le-leb, lt-leb}
+use Rattle.std.specs.Prelude.{◌+◌}
+use Rattle.laws.specs.Basics.{ap, ℕ, arith, length, take, drop, le-leb, lt-leb}
 use native.Mathlib.Nat.{add-sub_cancel_left}
 use Rattle.trace.specs.Answers.{record_at}
 use Rattle.trace.proofs.record_part.Goals as goal

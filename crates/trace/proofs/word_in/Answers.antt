@@ -1,6 +1,7 @@
 -- `trace::word_in` meets its contract: the word of four bytes, written out.
 -- Assumes nothing.
-use Rattle.laws.specs.Basics.{◌≡◌, List, [], ◌∷◌, ℕ, ◌+◌, ◌*◌, arith, length, get_or}
+use Rattle.std.specs.Prelude.{◌≡◌, ◌∷◌, ◌+◌, ◌*◌}
+use Rattle.laws.specs.Basics.{List, [], ℕ, arith, length, get_or}
 use Rattle.model.specs.Trace.{word}
 use Rattle.trace.proofs.word_in.Goals as goal
 

@@ -1,6 +1,7 @@
 -- What a reader of a trace hands on, and what it is to have read a trace: its records in their order, each once, and the left-over bytes.
 -- Assumes nothing.
-use Rattle.laws.specs.Basics.{Bool, List, ℕ, ◌+◌, ◌*◌, leb, length, pick}
+use Rattle.std.specs.Prelude.{◌+◌, ◌*◌}
+use Rattle.laws.specs.Basics.{Bool, List, ℕ, leb, length, pick}
 use Rattle.std.specs.Borrow.{Bor}
 use Rattle.trace.specs.Answers.{record_at}
 use Rattle.trace.specs.declared.reader.Reader.{Reader}

@@ -1,6 +1,7 @@
 -- A whole trace taken record by record: which records a reader hands on, how far it comes, and what this is in the words of the model.
 -- Assumes nothing.
-use Rattle.laws.specs.Basics.{◌≡◌, Bool, true, List, [], ◌∷◌, ◌++◌, ℕ, zero, suc, ◌+◌, ◌*◌, ◌≤◌, ◌<◌, eqb, ltb, length, drop, pick}
+use Rattle.std.specs.Prelude.{◌≡◌, ◌∷◌, ◌++◌, ◌+◌, ◌*◌, ◌≤◌, ◌<◌}
+use Rattle.laws.specs.Basics.{Bool, true, List, [], ℕ, zero, suc, eqb, ltb, length, drop, pick}
 use Rattle.std.specs.Borrow.{Bor}
 use Rattle.laws.specs.Tests.{every}
 use Rattle.model.specs.{declared.Run.Run, declared.Refusal.TheVariants.LeftOverBytes, Trace.decoded}

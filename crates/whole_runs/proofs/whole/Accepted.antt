@@ -1,6 +1,7 @@
 -- An accepted call takes a reached state to a reached state, if its step does what the run as functions does: once for all calls.
 -- Assumes nothing.
-use Rattle.laws.specs.Basics.{◌≡◌, sym, ◌∙◌, ap, none, ℕ, ◌*◌, arith, get_or, by_bool}
+use Rattle.std.specs.Prelude.{◌≡◌, ◌*◌}
+use Rattle.laws.specs.Basics.{sym, ◌∙◌, ap, none, ℕ, arith, get_or, by_bool}
 use Rattle.laws.specs.Sums.{sum_below}
 use Rattle.model.specs.declared.{Message.Message, Run.Run}
 use Rattle.model.specs.{Words.process, Steps.forces}

@@ -1,7 +1,8 @@
 -- The surviving history, built from calls and answers alone, agrees with the run as functions: its lists, its sends, whom they named, and which
 -- checkpoints it counts as kept; the block counts, the causes, the blocks written and deleted. Here: what agreement means, and that the checkpoints kept by the pairs handed out stay the pinned ones.
 -- Assumes nothing.
-use Rattle.laws.specs.Basics.{◌≡◌, refl, sym, ◌∙◌, ap, Bool, true, false, not, ◌&&◌, ◌||◌, ℕ, ◌+◌, ◌<◌, ltb, leb, lt-ltb, ltb-true, leb-true, leb-false}
+use Rattle.std.specs.Prelude.{◌≡◌, ◌&&◌, ◌||◌, ◌+◌, ◌<◌}
+use Rattle.laws.specs.Basics.{refl, sym, ◌∙◌, ap, Bool, true, false, not, ℕ, ltb, leb, lt-ltb, ltb-true, leb-true, leb-false}
 use Rattle.histories.specs.History.{Lists, checkpoints}
 use Rattle.whole_runs.specs.{Calls.Reply, Survival.Surviving, Survival.handed_out_of, Survival.kept_after}
 use Rattle.histories.proofs.{Run.Ideal, Run.keeps, Invariant.Inv, Memory.Memory, Standing.Standing, Line.keeps_below, Keeping.Moved, Keeping.moved_new}

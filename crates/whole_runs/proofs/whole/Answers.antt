@@ -1,6 +1,7 @@
 -- Each answer in a transcript is right, judged by the surviving history before it: the clauses of specs/Answers put together, for one call.
 -- Assumes nothing.
-use Rattle.laws.specs.Basics.{◌≡◌, sym, ◌∙◌, true, List, none, some, ℕ, ◌^◌, ◌<◌, arith, length, get_or, eqb-false, lt-ltb, ltb-true}
+use Rattle.std.specs.Prelude.{◌≡◌, ◌^◌, ◌<◌}
+use Rattle.laws.specs.Basics.{sym, ◌∙◌, true, List, none, some, ℕ, arith, length, get_or, eqb-false, lt-ltb, ltb-true}
 use mathlib.Core.List.{Memᴰ}
 use Rattle.laws.specs.{Front.get_d_written, Lists.table, Options.some_same, Options.none≢some, Tables.length_table, Tables.get_d_table}
 use Rattle.model.specs.declared.{Named.Named, Refusal.Refusal}

@@ -1,7 +1,8 @@
 -- The reason for the next checkpoint changes nothing else: the state that stands for a run, its limits, the history that agrees with it, and what a step
 -- from it does are as before.
 -- Assumes nothing.
-use Rattle.laws.specs.Basics.{◌≡◌, refl, sym, subst, List, none, ℕ}
+use Rattle.std.specs.Prelude.{◌≡◌}
+use Rattle.laws.specs.Basics.{refl, sym, subst, List, none, ℕ}
 use Rattle.model.specs.declared.Run.{Run}
 use Rattle.model.specs.{Words.basic, Words.forced, Refusals.checkpoint_refusal, Refusals.deliver_refusal}
 use Rattle.whole_runs.specs.{Calls.Call, Calls.checkpoint, Calls.deliver, Survival.Surviving}

@@ -1,7 +1,8 @@
 -- The blocks of a reached state are right: what the state carries is what the history says, the sum holds, and each kept checkpoint records its cause and its
 -- process's block count.
 -- Assumes nothing.
-use Rattle.laws.specs.Basics.{◌≡◌, sym, ◌∙◌, ap, true, ◌&&◌, ℕ, ◌-◌, ◌*◌, ◌<◌, arith, eqb, eq-eqb}
+use Rattle.std.specs.Prelude.{◌≡◌, ◌&&◌, ◌-◌, ◌*◌, ◌<◌}
+use Rattle.laws.specs.Basics.{sym, ◌∙◌, ap, true, ℕ, arith, eqb, eq-eqb}
 use Rattle.laws.specs.{Counting.count_same, Sums.sum_below, Sums.sum_same, Tests.count_below, Tests.every, Truth.and_both}
 use Rattle.model.specs.{declared.Disk.Disk, declared.Run.Run, Words.process}
 use Rattle.histories.specs.History.{Lists, checkpoints}

@@ -1,7 +1,8 @@
 -- Note 8 by the surviving history: which checkpoints are kept, whether one of two comes before the other, the line of an accepted call, and that 20 is given only
 -- where no consistent line passes through all named ones.
 -- Assumes nothing.
-use Rattle.laws.specs.Basics.{◌≡◌, refl, sym, ◌∙◌, Bool, true, false, not, List, Option, none, some, ℕ, ◌≤◌, ◌<◌, arith, ltb, leb, length, lt-ltb, ltb-true, leb-false, not-false, by_bool}
+use Rattle.std.specs.Prelude.{◌≡◌, ◌≤◌, ◌<◌}
+use Rattle.laws.specs.Basics.{refl, sym, ◌∙◌, Bool, true, false, not, List, Option, none, some, ℕ, arith, ltb, leb, length, lt-ltb, ltb-true, leb-false, not-false, by_bool}
 use Rattle.laws.specs.{Members.some_in, Members.some_out, Members.none_of, Tests.some_of}
 use Rattle.model.specs.declared.{Named.Named, Refusal.Refusal, Refusal.TheVariants.CausallyOrdered}
 use Rattle.model.specs.{Words.most_processes, Words.comes_before, Words.entry, Refusals.number}

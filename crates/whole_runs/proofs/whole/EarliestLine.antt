@@ -1,6 +1,7 @@
 -- Note 8 on the state that stands for a run: what an accepted call for named checkpoints says of the run, and the line that it writes.
 -- Assumes nothing.
-use Rattle.laws.specs.Basics.{◌≡◌, refl, sym, ◌∙◌, ap, Bool, true, false, ◌&&◌, ◌||◌, List, [], ◌∷◌, Option, none, some, inl, inr, ℕ, ◌≤◌, ◌<◌, arith, eqb, ltb, leb, length, eq-eqb, ne_eqb, eqb-false, ltb-false, leb-true, leb-false, not-false, by_bool}
+use Rattle.std.specs.Prelude.{◌≡◌, ◌&&◌, ◌||◌, ◌∷◌, ◌≤◌, ◌<◌}
+use Rattle.laws.specs.Basics.{refl, sym, ◌∙◌, ap, Bool, true, false, List, [], Option, none, some, inl, inr, ℕ, arith, eqb, ltb, leb, length, eq-eqb, ne_eqb, eqb-false, ltb-false, leb-true, leb-false, not-false, by_bool}
 use mathlib.Core.List.Memᴰ
 use mathlib.Core.List.{Memᴰ}
 use mathlib.Core.Option.{map}

@@ -1,6 +1,7 @@
 -- The pairs in the deletion list of an accepted call: the checkpoints kept before and not after, by process, then index, each once, the rest as lent.
 -- Assumes nothing.
-use Rattle.laws.specs.Basics.{◌≡◌, refl, sym, ◌∙◌, ap, Bool, true, false, not, ◌&&◌, List, [], ◌∷◌, ◌++◌, append-nil, ℕ, zero, suc, ◌*◌, ◌≤◌, ◌<◌, arith, length, pick, by_bool, by_eq}
+use Rattle.std.specs.Prelude.{◌≡◌, ◌&&◌, ◌∷◌, ◌++◌, ◌*◌, ◌≤◌, ◌<◌}
+use Rattle.laws.specs.Basics.{refl, sym, ◌∙◌, ap, Bool, true, false, not, List, [], append-nil, ℕ, zero, suc, arith, length, pick, by_bool, by_eq}
 use Rattle.laws.specs.{Front.written_front, Lists.gather, Select.map_append, Tables.gather_same}
 use Rattle.model.specs.Words.{most_processes, basic, forced, failed}
 use Rattle.model.specs.Steps.{Deletion, listed, checkpoint_deletions, deliver_deletions, recover_deletions}

@@ -1,6 +1,7 @@
 -- What checkpoint, deliver and recover hand out on a state that stands for a run: the checkpoints that were kept and are kept no more.
 -- And the lent list has room for them where each process keeps at most n.
-use Rattle.laws.specs.Basics.{◌≡◌, refl, sym, ◌∙◌, ap, Bool, false, not, ◌&&◌, List, [], ◌∷◌, ◌++◌, ℕ, zero, suc, ◌+◌, ◌*◌, ◌≤◌, ◌<◌, arith, eqb, ltb, length, get_or, length-append, eq-eqb, ne_eqb, eqb-true, lt-ltb, leb-true, by_bool, by_eq}
+use Rattle.std.specs.Prelude.{◌≡◌, ◌&&◌, ◌∷◌, ◌++◌, ◌+◌, ◌*◌, ◌≤◌, ◌<◌}
+use Rattle.laws.specs.Basics.{refl, sym, ◌∙◌, ap, Bool, false, not, List, [], ℕ, zero, suc, arith, eqb, ltb, length, get_or, length-append, eq-eqb, ne_eqb, eqb-true, lt-ltb, leb-true, by_bool, by_eq}
 use native.Mathlib.Nat.{add-mul, le-mul_of_pos_right}
 use lib.ListN.{length-map}
 use Rattle.laws.specs.{Elements.same_test, Lists.gather, Ranges.any_only, Search.any_in, Search.any_out, Select.some_map, Select.some_gather}

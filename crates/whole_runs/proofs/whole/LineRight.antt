@@ -1,7 +1,8 @@
 -- The reported line of a reached state is right: both calls are accepted and write it; it is consistent by the messages of the surviving history;
 -- nothing later is; its members are live and not failed, or kept.
 -- Assumes nothing.
-use Rattle.laws.specs.Basics.{◌≡◌, refl, ◌∙◌, true, false, ◌||◌, List, none, some, ◌⊎◌, inl, inr, ℕ, ◌*◌, ◌^◌, ◌≤◌, ◌<◌, arith, ltb, length, get_or, lt-ltb, ltb-true, ltb-false, by_bool}
+use Rattle.std.specs.Prelude.{◌≡◌, ◌||◌, ◌⊎◌, ◌*◌, ◌^◌, ◌≤◌, ◌<◌}
+use Rattle.laws.specs.Basics.{refl, ◌∙◌, true, false, List, none, some, inl, inr, ℕ, arith, ltb, length, get_or, lt-ltb, ltb-true, ltb-false, by_bool}
 use Rattle.laws.specs.{Front.get_d_written, Lists.table, Tables.length_table, Tables.get_d_table, Truth.or_left, Truth.or_in_right}
 use Rattle.model.specs.declared.{Run.Run, Refusal.TheVariants.ListTooShort}
 use Rattle.model.specs.{Words.failed, Steps.line_of, Sound.sound, laws.Refusals.refusal_in}

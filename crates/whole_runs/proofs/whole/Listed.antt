@@ -1,6 +1,7 @@
 -- The lists, the sends and the named receivers of the surviving history after an accepted call are those of the run as functions after its step.
 -- Assumes nothing.
-use Rattle.laws.specs.Basics.{◌≡◌, refl, sym, ◌∙◌, ap, fun_ext, true, false, List, none, some, ℕ, ◌≤◌, ◌<◌, arith, ltb, get_or, ltb-true, ltb-false, by_bool}
+use Rattle.std.specs.Prelude.{◌≡◌, ◌≤◌, ◌<◌}
+use Rattle.laws.specs.Basics.{refl, sym, ◌∙◌, ap, fun_ext, true, false, List, none, some, ℕ, arith, ltb, get_or, ltb-true, ltb-false, by_bool}
 use native.Mathlib.Numerals.{add-one}
 use Rattle.laws.specs.Update.{upd}
 use Rattle.histories.specs.History.{Lists, checkpoints}

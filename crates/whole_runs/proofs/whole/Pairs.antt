@@ -1,6 +1,7 @@
 -- Deletions as pairs in a lent list: which pairs an answer hands out, and how many there can be.
 -- Assumes nothing.
-use Rattle.laws.specs.Basics.{◌≡◌, refl, sym, ◌∙◌, ap, Bool, ◌&&◌, List, [], ◌∷◌, ℕ, zero, suc, ◌+◌, ◌*◌, ◌≤◌, ◌<◌, arith, eqb, length, get_or}
+use Rattle.std.specs.Prelude.{◌≡◌, ◌&&◌, ◌∷◌, ◌+◌, ◌*◌, ◌≤◌, ◌<◌}
+use Rattle.laws.specs.Basics.{refl, sym, ◌∙◌, ap, Bool, List, [], ℕ, zero, suc, arith, eqb, length, get_or}
 use native.Mathlib.Nat.{not-suc-le-zero}
 use lib.ListN.{length-map}
 use Rattle.laws.specs.{Front.get_d_written, Ranges.any_same, Select.some_table, Sums.sum_below, Sums.sum_same, Sums.sum_front, Tables.table_is, Tests.some_of}

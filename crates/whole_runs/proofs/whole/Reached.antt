@@ -1,7 +1,8 @@
 -- A state and a surviving history that a list of calls from a start reaches: there is a run as functions for which the state stands and with which
 -- the history agrees. Here: the start, and that a refused call changes nothing.
 -- Assumes nothing.
-use Rattle.laws.specs.Basics.{◌≡◌, false, Option, some, ℕ, arith, eqb, ne_eqb}
+use Rattle.std.specs.Prelude.{◌≡◌}
+use Rattle.laws.specs.Basics.{false, Option, some, ℕ, arith, eqb, ne_eqb}
 use Rattle.model.specs.{declared.Run.Run, declared.Refusal.Refusal, laws.Refusals.number_range}
 use Rattle.model.specs.Refusals.{number, checkpoint_refusal, send_refusal, deliver_refusal, lose_refusal, line_refusal, recover_refusal}
 use Rattle.whole_runs.specs.Outcomes.{checkpoint_outcome, send_outcome, deliver_outcome, lose_outcome, line_outcome, recover_outcome, checkpoint_report, send_report, deliver_report, lose_report, line_report, recover_report}

@@ -1,6 +1,7 @@
 -- An accepted recover call, as a step of the run as functions.
 -- Assumes nothing.
-use Rattle.laws.specs.Basics.{◌≡◌, sym, ◌∙◌, fun_ext, List, none, ℕ, ◌≤◌, ◌<◌, arith, length, get_or}
+use Rattle.std.specs.Prelude.{◌≡◌, ◌≤◌, ◌<◌}
+use Rattle.laws.specs.Basics.{sym, ◌∙◌, fun_ext, List, none, ℕ, arith, length, get_or}
 use Rattle.laws.specs.{Front.get_d_written, Lists.table, Tables.length_table, Tables.get_d_table}
 use Rattle.model.specs.{Words.most_processes, Words.failed, Steps.recover_deletions, Steps.line_of, Refusals.recover_refusal}
 use Rattle.whole_runs.specs.{Outcomes.pairs, Outcomes.written, Outcomes.recover_outcome, Outcomes.recover_report, Calls.recover, Calls.answered, Calls.call}

@@ -1,6 +1,7 @@
 -- The number that a call on a reached state is refused with, by the surviving history and the call's arguments alone.
 -- Assumes nothing.
-use Rattle.laws.specs.Basics.{◌≡◌, refl, sym, ◌∙◌, ap, Bool, true, false, not, ◌&&◌, ◌||◌, List, [], ◌∷◌, Option, none, some, ℕ, ◌+◌, ◌*◌, ◌^◌, ◌<◌, arith, ltb, leb, length, get_or, ltb-true, ltb-false, le-leb, lt-leb, leb-false, not-false, by_bool}
+use Rattle.std.specs.Prelude.{◌≡◌, ◌&&◌, ◌||◌, ◌∷◌, ◌+◌, ◌*◌, ◌^◌, ◌<◌}
+use Rattle.laws.specs.Basics.{refl, sym, ◌∙◌, ap, Bool, true, false, not, List, [], Option, none, some, ℕ, arith, ltb, leb, length, get_or, ltb-true, ltb-false, le-leb, lt-leb, leb-false, not-false, by_bool}
 use Rattle.laws.specs.{Ranges.any_same, Members.some_same, Search.any_below, Search.any_out, Tests.some_of, Truth.never_both}
 use Rattle.model.specs.declared.{Named.Named, Run.Run, Refusal.Refusal}
 use Rattle.model.specs.{Words.most_blocks, Words.own, Steps.found, Steps.latest_allowed, Sound.is_block_count_of, Sound.sound}

@@ -1,7 +1,8 @@
 -- Each accepted call keeps what the history remembers of the run when it last started or recovered. By it and the run now it is known which pins name a
 -- checkpoint, and so what is kept is what the history needs.
 -- Assumes nothing.
-use Rattle.laws.specs.Basics.{◌≡◌, refl, sym, ◌∙◌, ap, true, List, none, some, inl, inr, ℕ, suc, ◌-◌, ◌<◌, arith}
+use Rattle.std.specs.Prelude.{◌≡◌, ◌-◌, ◌<◌}
+use Rattle.laws.specs.Basics.{refl, sym, ◌∙◌, ap, true, List, none, some, inl, inr, ℕ, suc, arith}
 use Rattle.laws.specs.Rows.{by_lt}
 use Rattle.model.specs.Words.{basic, forced, failed}
 use Rattle.histories.specs.History.{Lists, checkpoints, before_checkpoint, ComesBefore}

@@ -1,6 +1,7 @@
 -- Each accepted call, as a step of the run as functions: checkpoint, send, deliver, lose, line and the earliest line. Recover has a file of its own.
 -- Assumes nothing.
-use Rattle.laws.specs.Basics.{◌≡◌, refl, sym, ◌∙◌, ap, fun_ext, true, false, List, [], none, some, inl, ℕ, ◌*◌, ◌≤◌, ◌<◌, arith, length, get_or, by_bool}
+use Rattle.std.specs.Prelude.{◌≡◌, ◌*◌, ◌≤◌, ◌<◌}
+use Rattle.laws.specs.Basics.{refl, sym, ◌∙◌, ap, fun_ext, true, false, List, [], none, some, inl, ℕ, arith, length, get_or, by_bool}
 use Rattle.laws.specs.{Search.any_below, Sums.sum_below}
 use Rattle.model.specs.{Words.most_processes, Words.basic, Words.forced, Words.process, Words.live, Steps.checkpoint_deletions, Steps.deliver_deletions}
 use Rattle.model.specs.declared.Named.{Named}

@@ -1,7 +1,8 @@
 -- What a reply holds besides its number and its pairs: of a refused call nothing new; of an accepted one its value and its line list, by the
 -- surviving history, and the set of entries that rose.
 -- Assumes nothing.
-use Rattle.laws.specs.Basics.{◌≡◌, refl, sym, ◌∙◌, ap, List, none, some, ℕ, ◌+◌, ◌≤◌, ◌<◌, arith, ltb, length, get_or, by_bool}
+use Rattle.std.specs.Prelude.{◌≡◌, ◌+◌, ◌≤◌, ◌<◌}
+use Rattle.laws.specs.Basics.{refl, sym, ◌∙◌, ap, List, none, some, ℕ, arith, ltb, length, get_or, by_bool}
 use Rattle.laws.specs.{Counting.count_same, Front.get_d_written, Front.written_front, Lists.table, Tables.length_table, Tables.get_d_table, Tables.table_same}
 use Rattle.laws.specs.Tests.{count_below}
 use Rattle.model.specs.declared.{Named.Named, Run.Run, Refusal.Refusal}

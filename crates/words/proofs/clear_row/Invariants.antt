@@ -1,5 +1,6 @@
 -- `words::clear_row` meets its contract. Assumes nothing.
-use Rattle.laws.specs.Basics.{◌≡◌, refl, ◌-◌, ◌≤◌, arith, length, length-set, rules}
+use Rattle.std.specs.Prelude.{◌≡◌, ◌-◌, ◌≤◌}
+use Rattle.laws.specs.Basics.{refl, arith, length, length-set, rules}
 use Rattle.words.specs.Puts.{put_from}
 use Rattle.words.proofs.{Reading.put_none, Reading.put_step}
 use Rattle.words.proofs.clear_row.Given as goal

@@ -1,6 +1,7 @@
 -- The used places closed up: the same messages under way, in the first places.
 -- Assumes nothing.
-use Rattle.laws.specs.Basics.{◌≡◌, refl, sym, ◌∙◌, ap, true, false, ◌&&◌, ◌||◌, List, [], ◌∷◌, ◌++◌, ℕ, zero, suc, ◌+◌, ◌-◌, ◌*◌, ◌≤◌, ◌<◌, arith, length, by_bool, by_eq}
+use Rattle.std.specs.Prelude.{◌≡◌, ◌&&◌, ◌||◌, ◌∷◌, ◌++◌, ◌+◌, ◌-◌, ◌*◌, ◌≤◌, ◌<◌}
+use Rattle.laws.specs.Basics.{refl, sym, ◌∙◌, ap, true, false, List, [], ℕ, zero, suc, arith, length, by_bool, by_eq}
 use Rattle.laws.specs.{Elements.every_table, Lists.select, Lists.table, Select.all_chosen, Tables.table_same, Tables.length_table}
 use Rattle.model.specs.declared.Message.{Message}
 use Rattle.words.specs.Layout.{state_size, word, end_of, carried_at, message_in, is_message, messages_in}

@@ -1,6 +1,7 @@
 -- A message that was put into its place is read there; the messages in other places stay; a place that was cleared is unused.
 -- Assumes nothing.
-use Rattle.laws.specs.Basics.{◌≡◌, refl, ◌∙◌, List, [], ◌∷◌, ◌++◌, ℕ, ◌+◌, ◌-◌, ◌*◌, ◌/◌, ◌%◌, ◌≤◌, ◌<◌, arith, length}
+use Rattle.std.specs.Prelude.{◌≡◌, ◌∷◌, ◌++◌, ◌+◌, ◌-◌, ◌*◌, ◌/◌, ◌%◌, ◌≤◌, ◌<◌}
+use Rattle.laws.specs.Basics.{refl, ◌∙◌, List, [], ℕ, arith, length}
 use Rattle.model.specs.declared.Message.{Message}
 use Rattle.words.specs.Layout.{state_size, low_at, high_at, sender_at_of, receiver_at_of, carried_at, message_in}
 use Rattle.words.specs.{Puts.Put, Puts.puts, messages.Places.message_puts, messages.Places.clear_puts, messages.Places.cleared}

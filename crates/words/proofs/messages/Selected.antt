@@ -1,6 +1,7 @@
 -- The used ones of two tables of messages agree; and which of them has a number.
 -- Assumes nothing.
-use Rattle.laws.specs.Basics.{◌≡◌, refl, sym, ◌∙◌, ap, Bool, true, false, ◌&&◌, List, [], ◌∷◌, ◌++◌, append-nil, Option, none, some, ℕ, zero, suc, ◌+◌, ◌≤◌, ◌<◌, arith, eqb, ne_eqb, eqb-true, by_bool}
+use Rattle.std.specs.Prelude.{◌≡◌, ◌&&◌, ◌∷◌, ◌++◌, ◌+◌, ◌≤◌, ◌<◌}
+use Rattle.laws.specs.Basics.{refl, sym, ◌∙◌, ap, Bool, true, false, List, [], append-nil, Option, none, some, ℕ, zero, suc, arith, eqb, ne_eqb, eqb-true, by_bool}
 use Rattle.laws.specs.{Lists.select, Lists.last_of, Lists.table, Select.select_append, Select.select_select, Select.last_of_snoc}
 use Rattle.model.specs.declared.Message.{Message}
 use Rattle.words.specs.{Layout.message_in, Layout.is_message, messages.Places.place_below, messages.Places.end_below}

@@ -1,6 +1,7 @@
 -- A message moved to the place where it stands leaves every word as it was.
 -- Assumes nothing.
-use Rattle.laws.specs.Basics.{◌≡◌, refl, ◌∙◌, ap, List, [], ◌∷◌, ℕ, zero, suc, ◌+◌, ◌*◌, ◌/◌, ◌%◌, ◌<◌, arith, set}
+use Rattle.std.specs.Prelude.{◌≡◌, ◌∷◌, ◌+◌, ◌*◌, ◌/◌, ◌%◌, ◌<◌}
+use Rattle.laws.specs.Basics.{refl, ◌∙◌, ap, List, [], ℕ, zero, suc, arith, set}
 use lib.Seq.{set-get_or}
 use Rattle.words.specs.Layout.{word, low_at, high_at, sender_at_of, receiver_at_of, carried_at, vector_in, message_in}
 use Rattle.words.specs.{Puts.Put, Puts.put_from, Puts.puts, messages.Places.message_puts, messages.Places.moved_to}

@@ -1,6 +1,7 @@
 -- What is left of the messages under way where one is taken out.
 -- Assumes nothing.
-use Rattle.laws.specs.Basics.{◌≡◌, refl, sym, ◌∙◌, ap, Bool, true, false, not, ◌&&◌, ◌||◌, List, [], ◌∷◌, ◌++◌, ℕ, zero, suc, ◌+◌, ◌-◌, ◌*◌, ◌≤◌, ◌<◌, arith, eqb, leb, length, length-append, eq-eqb, ne_eqb, le-leb, by_bool, by_eq}
+use Rattle.std.specs.Prelude.{◌≡◌, ◌&&◌, ◌||◌, ◌∷◌, ◌++◌, ◌+◌, ◌-◌, ◌*◌, ◌≤◌, ◌<◌}
+use Rattle.laws.specs.Basics.{refl, sym, ◌∙◌, ap, Bool, true, false, not, List, [], ℕ, zero, suc, arith, eqb, leb, length, length-append, eq-eqb, ne_eqb, le-leb, by_bool, by_eq}
 use Rattle.laws.specs.{Lists.select, Lists.table, Select.select_select, Tables.table_same, Truth.never_both, Truth.and_both, Truth.or_in_right}
 use Rattle.model.specs.declared.Message.{Message}
 use Rattle.words.specs.Layout.{state_size, word, end_of, message_in, is_message, messages_in, end_fits_of}

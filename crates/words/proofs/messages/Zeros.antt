@@ -1,6 +1,7 @@
 -- Places that are not in use are zero again after a message was taken out, put, or the used places were closed up.
 -- Assumes nothing.
-use Rattle.laws.specs.Basics.{◌≡◌, refl, ◌∙◌, ap, true, false, ◌&&◌, ◌||◌, List, [], ◌∷◌, ◌++◌, ℕ, zero, suc, ◌+◌, ◌-◌, ◌*◌, ◌≤◌, ◌<◌, arith, ltb, length, lt-ltb, le-ltb, ltb-false, by_bool, by_eq}
+use Rattle.std.specs.Prelude.{◌≡◌, ◌&&◌, ◌||◌, ◌∷◌, ◌++◌, ◌+◌, ◌-◌, ◌*◌, ◌≤◌, ◌<◌}
+use Rattle.laws.specs.Basics.{refl, ◌∙◌, ap, true, false, List, [], ℕ, zero, suc, arith, ltb, length, lt-ltb, le-ltb, ltb-false, by_bool, by_eq}
 use Rattle.laws.specs.{Rows.by_lt, Truth.never_both}
 use Rattle.model.specs.declared.Message.{Message}
 use Rattle.words.specs.Layout.{state_size, word, end_of, low_at, high_at, sender_at_of, receiver_at_of, carried_at, message_in, is_message}

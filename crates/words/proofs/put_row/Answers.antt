@@ -1,5 +1,6 @@
 -- `words::put_row` meets its contract. Assumes nothing.
-use Rattle.laws.specs.Basics.{◌≡◌, refl, ◌-◌, ◌≤◌, arith, length, get_or, length-set, rules}
+use Rattle.std.specs.Prelude.{◌≡◌, ◌-◌, ◌≤◌}
+use Rattle.laws.specs.Basics.{refl, arith, length, get_or, length-set, rules}
 use Rattle.words.specs.Puts.{put_from}
 use Rattle.words.proofs.{Reading.put_none, Reading.put_step}
 use Rattle.words.proofs.put_row.Goals as goal

@@ -1,5 +1,6 @@
 -- `words::put_vector` meets its contract. Assumes nothing.
-use Rattle.laws.specs.Basics.{◌≡◌, refl, ◌-◌, ◌≤◌, arith, length, length-set, rules}
+use Rattle.std.specs.Prelude.{◌≡◌, ◌-◌, ◌≤◌}
+use Rattle.laws.specs.Basics.{refl, arith, length, length-set, rules}
 use Rattle.model.specs.Words.{entry}
 use Rattle.words.specs.Puts.{put_from}
 use Rattle.words.proofs.{Reading.put_none, Reading.put_step}

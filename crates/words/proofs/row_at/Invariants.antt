@@ -1,5 +1,6 @@
 -- `words::row_at` meets its contract. Assumes nothing.
-use Rattle.laws.specs.Basics.{◌≡◌, refl, ◌∙◌, ◌+◌, ◌-◌, ◌≤◌, arith, rules}
+use Rattle.std.specs.Prelude.{◌≡◌, ◌+◌, ◌-◌, ◌≤◌}
+use Rattle.laws.specs.Basics.{refl, ◌∙◌, arith, rules}
 use Rattle.laws.specs.Loops.{set_below, below_none, step_set, below_all}
 use Rattle.words.specs.Layout.{word, row_in}
 use Rattle.words.proofs.row_at.Given as goal

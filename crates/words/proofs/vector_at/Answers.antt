@@ -1,5 +1,6 @@
 -- `words::vector_at` meets its contract. Assumes nothing.
-use Rattle.laws.specs.Basics.{◌≡◌, refl, ◌∙◌, ◌+◌, ◌-◌, ◌≤◌, arith, rules}
+use Rattle.std.specs.Prelude.{◌≡◌, ◌+◌, ◌-◌, ◌≤◌}
+use Rattle.laws.specs.Basics.{refl, ◌∙◌, arith, rules}
 use Rattle.laws.specs.Loops.{set_below, below_none, step_set, below_all}
 use Rattle.words.specs.Layout.{word, interval_of, vector_in}
 use Rattle.words.proofs.vector_at.Goals as goal

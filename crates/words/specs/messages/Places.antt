@@ -1,6 +1,7 @@
 -- The messages under way in their places of the words: where one is, one taken out, one put after the others, the used places closed up.
 -- Assumes nothing.
-use Rattle.laws.specs.Basics.{List, [], ◌∷◌, ◌++◌, ℕ, zero, suc, ◌+◌, ◌-◌, ◌/◌, ◌%◌, eqb, pick}
+use Rattle.std.specs.Prelude.{◌∷◌, ◌++◌, ◌+◌, ◌-◌, ◌/◌, ◌%◌}
+use Rattle.laws.specs.Basics.{List, [], ℕ, zero, suc, eqb, pick}
 use Rattle.std.specs.Int.Bits.{bit_or}
 use Rattle.model.specs.{declared.Message.Message, Words.most_under_way}
 use Rattle.words.specs.Layout.{word, end_of, low_at, high_at, sender_at_of, receiver_at_of, carried_at, message_in, is_message}

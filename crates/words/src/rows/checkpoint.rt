@@ -1,5 +1,5 @@
 // A checkpoint as it is stored. Here, and where the live state is a candidate for the line (members), a `Checkpoint` is made; nowhere else.
-ghost use Rattle.laws.specs.Basics.{◌≡◌};
+ghost use Rattle.std.specs.Prelude.{◌≡◌};
 
 use model::{Checkpoint, CheckpointIndex, Interval, PROCESSES};
 

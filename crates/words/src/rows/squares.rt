@@ -1,5 +1,5 @@
 // The squares of a state, each out of the struct that holds it alone and back into it.
-ghost use Rattle.laws.specs.Basics.{◌≡◌};
+ghost use Rattle.std.specs.Prelude.{◌≡◌};
 
 use model::{Checkpoint, Interval, Kept, PROCESSES, Pin, Pins, Vectors};
 

@@ -1,5 +1,6 @@
 // The rows of a process at the start of a run, and rows that nobody uses.
-ghost use Rattle.laws.specs.Basics.{◌≡◌, List, ℕ, ◌<◌};
+ghost use Rattle.std.specs.Prelude.{◌≡◌, ◌<◌};
+ghost use Rattle.laws.specs.Basics.{List, ℕ};
 ghost use Rattle.model.specs.{Words.zero_vector, Words.no_pins_of, Words.no_checkpoint, Words.most_processes, Steps.started};
 
 use model::{Checkpoint, CheckpointIndex, Interval, PROCESSES, Pin};

@@ -1,5 +1,6 @@
 // Dependency vectors: what a checkpoint and a receipt do to one, and which checkpoint is the last one stored.
-ghost use Rattle.laws.specs.Basics.{◌≡◌, ◌+◌, ◌≤◌, ◌<◌, pick};
+ghost use Rattle.std.specs.Prelude.{◌≡◌, ◌+◌, ◌≤◌, ◌<◌};
+ghost use Rattle.laws.specs.Basics.{pick};
 ghost use Rattle.model.specs.declared.Interval.{Interval};
 ghost use Rattle.model.specs.Words.{entry, below, last_stored_of, live_index_of, most_processes, most_interval};
 ghost use Rattle.model.specs.Steps.{advanced, newer, taken_vector};

@@ -1,6 +1,7 @@
 -- Which refusal the call gives, up to number 18.
 -- Assumes nothing.
-use Rattle.laws.specs.Basics.{◌≡◌, refl, true, false, List, some, ℕ, ◌≤◌, ◌<◌, length, lt-ltb, le-ltb}
+use Rattle.std.specs.Prelude.{◌≡◌, ◌≤◌, ◌<◌}
+use Rattle.laws.specs.Basics.{refl, true, false, List, some, ℕ, length, lt-ltb, le-ltb}
 use Rattle.model.specs.declared.{Named.Named, Run.Run}
 use Rattle.model.specs.declared.Refusal.TheVariants.{ListTooShort, NoSuchProcess, UnfitNamedList}
 use Rattle.model.specs.{Sound.sound, laws.Refusals.refusal_in}

@@ -1,6 +1,7 @@
 -- The copy of a list of named checkpoints: how many they are, the greatest process, and the elements where there is room.
 -- Assumes nothing.
-use Rattle.laws.specs.Basics.{◌≡◌, refl, sym, ◌∙◌, ap, Bool, ◌||◌, List, [], ◌∷◌, ◌++◌, ℕ, zero, suc, ◌+◌, ◌≤◌, ◌<◌, max, arith, leb, length, get_or, take, lt-ltb, le-leb, lt-leb, leb-true, leb-false, by_bool}
+use Rattle.std.specs.Prelude.{◌≡◌, ◌||◌, ◌∷◌, ◌++◌, ◌+◌, ◌≤◌, ◌<◌}
+use Rattle.laws.specs.Basics.{refl, sym, ◌∙◌, ap, Bool, List, [], ℕ, zero, suc, max, arith, leb, length, get_or, take, lt-ltb, le-leb, lt-leb, leb-true, leb-false, by_bool}
 use native.Mathlib.Numerals.{add-one}
 use lib.Seq.{take_all}
 use Rattle.laws.specs.{Copied.copied, Lists.placed, Prefixes.take_more, Prefixes.placed_none, Tables.take_placed}

@@ -1,6 +1,7 @@
 -- The pairs of a list that was copied: the call says the same of both.
 -- Assumes nothing.
-use Rattle.laws.specs.Basics.{◌≡◌, refl, sym, ◌∙◌, ap, Bool, true, false, ◌&&◌, ◌||◌, List, [], some, ◌⊎◌, inl, inr, ℕ, ◌+◌, ◌*◌, ◌/◌, ◌%◌, ◌≤◌, ◌<◌, arith, eqb, ltb, leb, length, get_or, take, set, replicate, length-set, get_or-set_same, get_or-set_other, length-take-le, ne_eqb, lt-ltb, ltb-false, le-leb, lt-leb, leb-false, pick, by_bool, by_eq}
+use Rattle.std.specs.Prelude.{◌≡◌, ◌&&◌, ◌||◌, ◌⊎◌, ◌+◌, ◌*◌, ◌/◌, ◌%◌, ◌≤◌, ◌<◌}
+use Rattle.laws.specs.Basics.{refl, sym, ◌∙◌, ap, Bool, true, false, List, [], some, inl, inr, ℕ, arith, eqb, ltb, leb, length, get_or, take, set, replicate, length-set, get_or-set_same, get_or-set_other, length-take-le, ne_eqb, lt-ltb, ltb-false, le-leb, lt-leb, leb-false, pick, by_bool, by_eq}
 use lib.Seq.{get_or-take}
 use Rattle.laws.specs.{Lists.table, Rows.by_lt, Rows.some_at, Loops.either, Search.any_below, Search.any_in, Search.any_out, Truth.never_both}
 use Rattle.laws.specs.Tables.{length_table, get_d_table, table_same, table_is, table_replicate}

@@ -1,6 +1,7 @@
 -- What is copied out of a list of named checkpoints: its first 16 elements, how many elements it has, and the greatest process that one of them names.
 -- Assumes nothing.
-use Rattle.laws.specs.Basics.{◌≡◌, List, ℕ, zero, suc, ◌+◌, max, ltb, length, get_or, set, replicate, pick}
+use Rattle.std.specs.Prelude.{◌≡◌, ◌+◌}
+use Rattle.laws.specs.Basics.{List, ℕ, zero, suc, max, ltb, length, get_or, set, replicate, pick}
 use Rattle.model.specs.declared.Named.{Named}
 use Rattle.model.specs.Words.{most_processes}
 use Rattle.words_line.specs.declared.earliest.list.Copied.{Copied}

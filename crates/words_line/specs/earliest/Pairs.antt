@@ -1,6 +1,7 @@
 -- Named checkpoints as pairs of numbers, for the call in place.
 -- Assumes nothing.
-use Rattle.laws.specs.Basics.{◌≡◌, true, List, ℕ}
+use Rattle.std.specs.Prelude.{◌≡◌}
+use Rattle.laws.specs.Basics.{true, List, ℕ}
 use Rattle.model.specs.{declared.Named.Named, declared.Run.Run, Sound.sound}
 use Rattle.whole_runs.specs.Earliest.{earliest_outcome}
 

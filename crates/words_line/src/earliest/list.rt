@@ -1,6 +1,7 @@
 // A lent list of named checkpoints, "each a process and an index": one function copies an element out, one walks the list and adds each element to the copy. Every list
 // will do, however long.
-ghost use Rattle.laws.specs.Basics.{◌≡◌, ◌+◌, ◌^◌, ◌≤◌, ◌<◌, max, ltb, length, get_or, take, set, pick};
+ghost use Rattle.std.specs.Prelude.{◌≡◌, ◌+◌, ◌^◌, ◌≤◌, ◌<◌};
+ghost use Rattle.laws.specs.Basics.{max, ltb, length, get_or, take, set, pick};
 ghost use Rattle.model.specs.Words.{most_processes};
 ghost use Rattle.words_line.specs.earliest.Copying.{no_named, nothing_copied_of, with_element_of, copy_of};
 

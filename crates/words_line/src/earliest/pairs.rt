@@ -1,5 +1,6 @@
 // Named checkpoints as the call in place reads them: pairs of numbers, process, index, process, index, and so on.
-ghost use Rattle.laws.specs.Basics.{◌≡◌, List, ℕ, ◌≤◌, ◌<◌, ltb, length, get_or, take, pick};
+ghost use Rattle.std.specs.Prelude.{◌≡◌, ◌≤◌, ◌<◌};
+ghost use Rattle.laws.specs.Basics.{List, ℕ, ltb, length, get_or, take, pick};
 ghost use Rattle.model.specs.declared.Named.{Named};
 ghost use Rattle.model.specs.Words.{most_processes};
 ghost use Rattle.words_line.specs.{Through.named_at, Through.named_in, earliest.Copying.no_named, earliest.Copying.copy_of, earliest.Copying.IsCopy};

@@ -1,6 +1,7 @@
 -- The blocks of checkpoints of one process of a sound state, which all have its count; the bounds of the blocks written and deleted.
 -- Assumes nothing.
-use Rattle.laws.specs.Basics.{◌≡◌, refl, Bool, true, ◌&&◌, List, [], ◌∷◌, ℕ, ◌+◌, ◌*◌, ◌<◌, arith, eqb, length}
+use Rattle.std.specs.Prelude.{◌≡◌, ◌&&◌, ◌∷◌, ◌+◌, ◌*◌, ◌<◌}
+use Rattle.laws.specs.Basics.{refl, Bool, true, List, [], ℕ, arith, eqb, length}
 use Rattle.laws.specs.{Lists.select, Tests.every, Truth.and_out, Truth.and_both}
 use Rattle.model.specs.declared.{Checkpoint.Checkpoint, Disk.Disk, Run.Run}
 use Rattle.model.specs.{Words.Process, Words.blocks_of, Words.block_count, Words.process, Steps.billed, laws.Sound.sound_state}

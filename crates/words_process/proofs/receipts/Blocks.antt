@@ -1,6 +1,7 @@
 -- The blocks of checkpoints that all have the same count.
 -- Assumes nothing.
-use Rattle.laws.specs.Basics.{◌≡◌, refl, Bool, true, List, [], ◌∷◌, ℕ, ◌*◌, arith, eqb, length, eqb-true, by_bool}
+use Rattle.std.specs.Prelude.{◌≡◌, ◌∷◌, ◌*◌}
+use Rattle.laws.specs.Basics.{refl, Bool, true, List, [], ℕ, arith, eqb, length, eqb-true, by_bool}
 use Rattle.laws.specs.{Lists.select, Tests.every, Truth.and_out}
 use Rattle.model.specs.declared.Checkpoint.{Checkpoint}
 use Rattle.model.specs.Words.{blocks_of}

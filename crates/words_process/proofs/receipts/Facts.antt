@@ -1,6 +1,7 @@
 -- What follows from the clauses of a sound state: places for what it holds, and the live state after the kept checkpoints.
 -- Assumes nothing.
-use Rattle.laws.specs.Basics.{◌≡◌, true, ℕ, ◌≤◌, ◌<◌, arith, get_or}
+use Rattle.std.specs.Prelude.{◌≡◌, ◌≤◌, ◌<◌}
+use Rattle.laws.specs.Basics.{true, ℕ, arith, get_or}
 use Rattle.model.specs.declared.Run.{Run}
 use Rattle.model.specs.{Words.most_processes, Sound.sound, laws.Sound.sound_state}
 

@@ -1,7 +1,8 @@
 -- A sound state is full up to what it holds: after the messages under way and after the kept checkpoints of a process, each place is the unused one.
 -- So a table of the state is its own used front laid into a table, and one process's part put back into the state changes nothing.
 -- Assumes nothing.
-use Rattle.laws.specs.Basics.{◌≡◌, refl, ◌∙◌, ap, Bool, true, List, [], ◌∷◌, ℕ, zero, suc, ◌-◌, ◌<◌, arith, eqb, length, get_or, take, drop, replicate, eqb-true}
+use Rattle.std.specs.Prelude.{◌≡◌, ◌∷◌, ◌-◌, ◌<◌}
+use Rattle.laws.specs.Basics.{refl, ◌∙◌, ap, Bool, true, List, [], ℕ, zero, suc, arith, eqb, length, get_or, take, drop, replicate, eqb-true}
 use native.Mathlib.Nat.{min-eq_left}
 use lib.ListN.{length-take}
 use Rattle.laws.specs.{Lists.placed, Tests.every, Truth.and_left, Truth.and_right, Truth.and_out}

@@ -1,6 +1,7 @@
 -- A sound state with the part of one of its processes put back, and with another sent mark.
 -- Assumes nothing.
-use Rattle.laws.specs.Basics.{◌≡◌, sym, ◌∙◌, ap, Bool, true, false, List, [], ℕ, ◌<◌, length, get_or, set}
+use Rattle.std.specs.Prelude.{◌≡◌, ◌<◌}
+use Rattle.laws.specs.Basics.{sym, ◌∙◌, ap, Bool, true, false, List, [], ℕ, length, get_or, set}
 use lib.Seq.{set-get_or}
 use Rattle.laws.specs.Lists.{placed}
 use Rattle.model.specs.declared.{Interval.Interval, Pin.Pin, Checkpoint.Checkpoint, Run.Run}

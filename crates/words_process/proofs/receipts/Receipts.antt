@@ -1,7 +1,8 @@
 -- A receipt is what a checkpoint and a delivery do to the part of their process: the checkpoint is stored if there is one, then the carried vector is taken in,
 -- then what no pin names is deleted. Collecting before storing, as the functions do, leaves the same.
 -- Assumes nothing.
-use Rattle.laws.specs.Basics.{◌≡◌, refl, ◌∙◌, ap, Bool, true, false, not, List, ℕ, ◌<◌, arith, length, get_or, set, pick}
+use Rattle.std.specs.Prelude.{◌≡◌, ◌<◌}
+use Rattle.laws.specs.Basics.{refl, ◌∙◌, ap, Bool, true, false, not, List, ℕ, arith, length, get_or, set, pick}
 use Rattle.laws.specs.Lists.{select, or_else, last_of}
 use Rattle.model.specs.declared.{Interval.Interval, Pin.Pin, Pin.TheVariants.Nothing, Pin.TheVariants.At, Checkpoint.Checkpoint}
 use Rattle.model.specs.{Words.entry, Words.live_index_of, Words.is_pinned, Words.no_checkpoint, Words.Process, Sound.ascending}

@@ -1,7 +1,8 @@
 -- A checkpoint is stored after the kept ones, once the own pin has moved to it: it stays, nothing else changes by its being there, and one of the 16
 -- places of the row is free for it. So a function may collect the kept ones first and store the new one then.
 -- Assumes nothing.
-use Rattle.laws.specs.Basics.{◌≡◌, refl, ◌∙◌, ap, true, not, List, [], ◌∷◌, ◌++◌, map, append-nil, ℕ, zero, suc, ◌≤◌, ◌<◌, arith, eqb, leb, length, get_or, set, get_or-set_same, eq-eqb, ne_eqb, eqb-true, leb-true, by_bool}
+use Rattle.std.specs.Prelude.{◌≡◌, ◌∷◌, ◌++◌, ◌≤◌, ◌<◌}
+use Rattle.laws.specs.Basics.{refl, ◌∙◌, ap, true, not, List, [], map, append-nil, ℕ, zero, suc, arith, eqb, leb, length, get_or, set, get_or-set_same, eq-eqb, ne_eqb, eqb-true, leb-true, by_bool}
 use Rattle.laws.specs.{Choice.pick_same, Lists.select, Lists.last_of, Lists.or_else, Prefixes.select_none, Prefixes.select_or, Rows.some_at, Select.select_append}
 use Rattle.laws.specs.{Tables.get_d_table, Tables.length_table, Tests.some_of, Truth.and_left, Truth.and_right}
 use Rattle.model.specs.declared.{Interval.Interval, CheckpointIndex.CheckpointIndex, Pin.Pin, Pin.TheVariants.Nothing, Pin.TheVariants.At}

@@ -1,6 +1,7 @@
 -- Rows that nothing carried is newer than: taking the carried vector in changes no entry and moves no pin, so no checkpoint of a sound state is deleted.
 -- Assumes nothing.
-use Rattle.laws.specs.Basics.{◌≡◌, sym, ap, Bool, true, false, List, [], ℕ, ◌<◌, length, get_or, pick}
+use Rattle.std.specs.Prelude.{◌≡◌, ◌<◌}
+use Rattle.laws.specs.Basics.{sym, ap, Bool, true, false, List, [], ℕ, length, get_or, pick}
 use Rattle.laws.specs.{Search.any_none, Select.all_chosen, Select.none_chosen, Tables.table_is, Tests.every}
 use Rattle.model.specs.declared.{Interval.Interval, Pin.Pin, Pin.TheVariants.Nothing, Checkpoint.Checkpoint, Run.Run}
 use Rattle.model.specs.{Words.entry, Words.below, Words.is_pinned, Words.Process, Words.process, Sound.sound, laws.Sound.sound_state}

@@ -1,7 +1,8 @@
 -- A receipt on the rows of its process, in the order in which the functions compute it: `stores` says whether a checkpoint is stored first, as by a delivery that
 -- forces one.
 -- Assumes nothing.
-use Rattle.laws.specs.Basics.{Bool, List, [], ◌∷◌, ◌++◌, ℕ, set, pick}
+use Rattle.std.specs.Prelude.{◌∷◌, ◌++◌}
+use Rattle.laws.specs.Basics.{Bool, List, [], ℕ, set, pick}
 use Rattle.laws.specs.Lists.{select}
 use Rattle.model.specs.declared.{Interval.Interval, CheckpointIndex.CheckpointIndex, Pin.Pin, Pin.TheVariants.At, Checkpoint.Checkpoint}
 use Rattle.model.specs.{Words.is_pinned, Steps.advanced, Steps.taken_vector, Steps.taken_pins}

@@ -1,6 +1,7 @@
 -- The sizes of the arrays of a state, which its type fixes and a definition over lists does not say: 16 rows of 16 places, 64 messages, each vector of 16.
 -- Assumes nothing.
-use Rattle.laws.specs.Basics.{◌≡◌, [], ℕ, ◌<◌, length, get_or}
+use Rattle.std.specs.Prelude.{◌≡◌, ◌<◌}
+use Rattle.laws.specs.Basics.{[], ℕ, length, get_or}
 use Rattle.model.specs.declared.Run.{Run}
 use Rattle.model.specs.Words.{most_processes, most_under_way, no_checkpoint, no_message}
 

@@ -1,5 +1,6 @@
 -- `words_sound::are_processes_sound` meets its contract. Assumes nothing.
-use Rattle.laws.specs.Basics.{ap, not, ◌-◌, arith, rules}
+use Rattle.std.specs.Prelude.{◌-◌}
+use Rattle.laws.specs.Basics.{ap, not, arith, rules}
 use Rattle.words_sound.proofs.Judging.{Passed, none_passed, one_passed, process_fails, all_passed, kept_count_few}
 use Rattle.words_sound.proofs.are_processes_sound.Goals as goal
 

@@ -1,5 +1,6 @@
 -- `words_sound::blocks_kept` meets its contract. Assumes nothing.
-use Rattle.laws.specs.Basics.{◌-◌, ◌*◌, ◌≤◌, arith, rules}
+use Rattle.std.specs.Prelude.{◌-◌, ◌*◌, ◌≤◌}
+use Rattle.laws.specs.Basics.{arith, rules}
 use Rattle.words_sound.proofs.{Judging.blocks_are, Judging.product_few}
 use Rattle.words_sound.proofs.blocks_kept.Goals as goal
 

@@ -1,5 +1,6 @@
 -- `words_sound::is_sound` meets its contract: where a test fails the words are not sound, and where all hold they are. Assumes nothing.
-use Rattle.laws.specs.Basics.{ap, not, ℕ, ◌-◌, ◌≤◌, arith, rules}
+use Rattle.std.specs.Prelude.{◌-◌, ◌≤◌}
+use Rattle.laws.specs.Basics.{ap, not, ℕ, arith, rules}
 use Rattle.words.specs.Layout.{word}
 use Rattle.words_sound.proofs.Judging.{size_off, count_low, count_high, processes_off, words_whole}
 use Rattle.words_sound.proofs.is_sound.Goals as goal

@@ -1,5 +1,6 @@
 -- `words_sound::own_entries` meets its contract. Assumes nothing.
-use Rattle.laws.specs.Basics.{◌≡◌, ◌∙◌, ◌-◌, ◌≤◌, arith, rules}
+use Rattle.std.specs.Prelude.{◌≡◌, ◌-◌, ◌≤◌}
+use Rattle.laws.specs.Basics.{◌∙◌, arith, rules}
 use Rattle.words.specs.Layout.{count_of, interval_of}
 use Rattle.laws.specs.Loops.{set_below, below_none, step_set}
 use Rattle.words_sound.specs.Test.{own_in}

@@ -1,6 +1,7 @@
 -- Tests gathered in the bits of a word: it is 0 exactly if each part was.
 -- Assumes nothing.
-use Rattle.laws.specs.Basics.{◌≡◌, refl, ◌∙◌, Bool, true, false, not, ◌&&◌, ◌||◌, ℕ, ◌+◌, ◌-◌, arith, eqb, leb, eq-eqb, eqb-true, le-leb, leb-true, pick}
+use Rattle.std.specs.Prelude.{◌≡◌, ◌&&◌, ◌||◌, ◌+◌, ◌-◌}
+use Rattle.laws.specs.Basics.{refl, ◌∙◌, Bool, true, false, not, ℕ, arith, eqb, leb, eq-eqb, eqb-true, le-leb, leb-true, pick}
 use native.Mathlib.Numerals.{add-one}
 use lib.Bits.{bit_or, or_add_and, and_le_l, and_le_r}
 use Rattle.laws.specs.{Below.all_and, Elements.same_test, Search.all_below, Search.any_below, Truth.and_out, Truth.and_both}

@@ -1,5 +1,5 @@
 -- `exam::facts::lines` meets its contract: the loop ends at the last number at the latest. Assumes nothing.
-use Rattle.laws.specs.Basics.{◌-◌}
+use Rattle.std.specs.Prelude.{◌-◌}
 use Rattle.exam.proofs.facts.lines.Given as goal
 
 abbrev pub decreases-loop-failed : goal.decreases-loop-failed

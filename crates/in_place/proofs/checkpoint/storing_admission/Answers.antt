@@ -1,5 +1,6 @@
 -- `in_place::checkpoint::storing_admission` meets its contract. Assumes nothing.
-use Rattle.laws.specs.Basics.{◌≡◌, sym, ◌∙◌, ap, true, false, ℕ, ◌<◌, arith, leb, length, rules}
+use Rattle.std.specs.Prelude.{◌≡◌, ◌<◌}
+use Rattle.laws.specs.Basics.{sym, ◌∙◌, ap, true, false, ℕ, arith, leb, length, rules}
 use Rattle.model.specs.declared.Interval.{Interval}
 use Rattle.admissions.specs.Admissions.{past_most}
 use Rattle.words.specs.Layout.{word, blocks_at_of}

@@ -1,5 +1,6 @@
 -- `in_place::deliver::deliver_from` meets its contract, by whether the message brings something new. Assumes nothing.
-use Rattle.laws.specs.Basics.{◌≡◌, refl, sym, ◌∙◌, ap, ◌<◌, arith, length, rules, not-true, not-false}
+use Rattle.std.specs.Prelude.{◌≡◌, ◌<◌}
+use Rattle.laws.specs.Basics.{refl, sym, ◌∙◌, ap, arith, length, rules, not-true, not-false}
 use Rattle.model.specs.{Words.process, Steps.newer, Steps.forces}
 use Rattle.words.specs.Layout.{word, part_at, receiver_at_of, vector_in, message_in, run_of}
 use Rattle.words.proofs.ViewSound.{sound_words}

@@ -1,5 +1,6 @@
 -- `in_place::deliver::deliver_on` meets its contract. Assumes nothing.
-use Rattle.laws.specs.Basics.{◌≡◌, sym, ◌∙◌, ap, false, ◌*◌, arith, ltb, length, rules, ltb-false}
+use Rattle.std.specs.Prelude.{◌≡◌, ◌*◌}
+use Rattle.laws.specs.Basics.{sym, ◌∙◌, ap, false, arith, ltb, length, rules, ltb-false}
 use Rattle.words.specs.{Layout.count_of, messages.Places.place_of}
 use Rattle.words.proofs.ViewSound.{sound_words}
 use Rattle.in_place.proofs.{Losing.nothing, Losing.there, Losing.its_number, Receiving.list_short, Receiving.not_under_way, Receiving.renumbered}

@@ -1,5 +1,6 @@
 -- `in_place::deliver::take_from` meets its contract. Assumes nothing.
-use Rattle.laws.specs.Basics.{◌∙◌, ap, ◌<◌, arith, rules, pick}
+use Rattle.std.specs.Prelude.{◌<◌}
+use Rattle.laws.specs.Basics.{◌∙◌, ap, arith, rules, pick}
 use Rattle.model.specs.{declared.Interval.Interval, declared.DeliverAnswer.TheVariants.Received, declared.DeliverAnswer.TheVariants.Forced, Words.live_index_of}
 use Rattle.words.specs.Layout.{count_of, message_in}
 use Rattle.words.proofs.ViewSound.{sound_words, sound_part}

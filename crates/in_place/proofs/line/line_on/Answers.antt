@@ -1,5 +1,6 @@
 -- `in_place::line::line_on` meets its contract: the list's length, the verdict on the failed set, then the line. Assumes nothing.
-use Rattle.laws.specs.Basics.{◌≡◌, refl, sym, ◌∙◌, false, ◌≤◌, arith, ltb, length, rules, ltb-false}
+use Rattle.std.specs.Prelude.{◌≡◌, ◌≤◌}
+use Rattle.laws.specs.Basics.{refl, sym, ◌∙◌, false, arith, ltb, length, rules, ltb-false}
 use Rattle.admissions.specs.declared.Admission.TheVariants.{Accepted}
 use Rattle.words.specs.Layout.{count_of}
 use Rattle.words.proofs.ViewSound.{sound_words}

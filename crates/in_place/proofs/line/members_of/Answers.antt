@@ -1,5 +1,6 @@
 -- `in_place::line::members_of` meets its contract, by whether each process has a member. Assumes nothing.
-use Rattle.laws.specs.Basics.{◌≡◌, refl, sym, false, false≢true, arith, rules, not-true, not-false}
+use Rattle.std.specs.Prelude.{◌≡◌}
+use Rattle.laws.specs.Basics.{refl, sym, false, false≢true, arith, rules, not-true, not-false}
 use Rattle.model.specs.Refusals.{no_member_of}
 use Rattle.words.specs.Layout.{run_of}
 use Rattle.words.proofs.ViewSound.{sound_words}

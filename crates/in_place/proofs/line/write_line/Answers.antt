@@ -1,6 +1,7 @@
 -- `in_place::line::write_line` meets its contract. The loop's invariant: the indexes passed so far are written, and nothing else in the lent list has changed.
 -- Assumes nothing.
-use Rattle.laws.specs.Basics.{◌≡◌, refl, ◌∙◌, ◌-◌, ◌≤◌, arith, length, get_or, length-set, rules}
+use Rattle.std.specs.Prelude.{◌≡◌, ◌-◌, ◌≤◌}
+use Rattle.laws.specs.Basics.{refl, ◌∙◌, arith, length, get_or, length-set, rules}
 use Rattle.laws.specs.{Below.below_written, Loops.set_below, Loops.below_none, Loops.step_set}
 use Rattle.in_place.proofs.line.write_line.Goals as goal
 

@@ -1,5 +1,6 @@
 -- `in_place::lose::lose_on` meets its contract. Assumes nothing.
-use Rattle.laws.specs.Basics.{◌≡◌, refl, sym, ◌∙◌, true, List, ℕ, suc, arith, rules}
+use Rattle.std.specs.Prelude.{◌≡◌}
+use Rattle.laws.specs.Basics.{refl, sym, ◌∙◌, true, List, ℕ, suc, arith, rules}
 use Rattle.model.specs.{declared.Refusal.Refusal, declared.LoseAnswer.TheVariants.Refused, declared.LoseAnswer.TheVariants.Lost, Sound.sound}
 use Rattle.whole_runs.specs.Outcomes.{lose_outcome}
 use Rattle.words.specs.{Layout.run_of, messages.Places.place_of, messages.Places.taken_out}

@@ -1,5 +1,6 @@
 -- `in_place::send::put_sent` meets its contract. Assumes nothing.
-use Rattle.laws.specs.Basics.{◌≡◌, ◌∙◌, ap, List, [], ◌∷◌, ◌++◌, ℕ, ◌+◌, ◌*◌, ◌≤◌, ◌<◌, arith, set, length-set}
+use Rattle.std.specs.Prelude.{◌≡◌, ◌∷◌, ◌++◌, ◌+◌, ◌*◌, ◌≤◌, ◌<◌}
+use Rattle.laws.specs.Basics.{◌∙◌, ap, List, [], ℕ, arith, set, length-set}
 use Rattle.model.specs.declared.{Interval.Interval}
 use Rattle.words.specs.{Layout.wide2, Layout.mark_at, Layout.part_at, Layout.vector_in, Puts.puts, Puts.puts2}
 use Rattle.words.proofs.{Reading.set_is_put, ViewSound.sound_words}

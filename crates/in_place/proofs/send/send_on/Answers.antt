@@ -1,5 +1,6 @@
 -- `in_place::send::send_on` meets its contract. Assumes nothing.
-use Rattle.laws.specs.Basics.{◌≡◌, refl, sym, ◌∙◌, ap, true, List, ℕ, ◌+◌, arith, rules}
+use Rattle.std.specs.Prelude.{◌≡◌, ◌+◌}
+use Rattle.laws.specs.Basics.{refl, sym, ◌∙◌, ap, true, List, ℕ, arith, rules}
 use Rattle.admissions.specs.declared.Admission.TheVariants.{Accepted}
 use Rattle.admissions.specs.Admissions.{send_admission_of}
 use Rattle.model.specs.{declared.Refusal.Refusal, declared.SendAnswer.TheVariants.Refused, declared.SendAnswer.TheVariants.Sent, Sound.sound}

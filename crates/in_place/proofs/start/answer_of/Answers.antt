@@ -1,5 +1,6 @@
 -- `in_place::start::answer_of` meets its contract. Assumes nothing.
-use Rattle.laws.specs.Basics.{◌≡◌, refl, sym, ◌∙◌, rules, not-true, not-false}
+use Rattle.std.specs.Prelude.{◌≡◌}
+use Rattle.laws.specs.Basics.{refl, sym, ◌∙◌, rules, not-true, not-false}
 use Rattle.in_place.proofs.Judging.{few, many_processes, other_size, short_counts, outside, fine}
 use Rattle.in_place.proofs.start.answer_of.Goals as goal
 

@@ -1,5 +1,6 @@
 -- `in_place::start::are_block_counts` meets its contract. Assumes nothing.
-use Rattle.laws.specs.Basics.{◌≡◌, ◌∙◌, ap, Bool, ◌&&◌, ◌-◌, ◌≤◌, arith, get_or, rules}
+use Rattle.std.specs.Prelude.{◌≡◌, ◌&&◌, ◌-◌, ◌≤◌}
+use Rattle.laws.specs.Basics.{◌∙◌, ap, Bool, arith, get_or, rules}
 use Rattle.laws.specs.{Loops.all_zero, Rows.all_step, Search.all_below}
 use Rattle.model.specs.Sound.{is_block_count_of}
 use Rattle.in_place.proofs.start.are_block_counts.Goals as goal

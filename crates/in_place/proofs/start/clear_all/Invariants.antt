@@ -1,5 +1,6 @@
 -- `in_place::start::clear_all` meets its contract. Assumes nothing.
-use Rattle.laws.specs.Basics.{◌≡◌, refl, sym, ◌∙◌, ap, ℕ, ◌+◌, ◌-◌, ◌≤◌, arith, length, length-set, rules}
+use Rattle.std.specs.Prelude.{◌≡◌, ◌+◌, ◌-◌, ◌≤◌}
+use Rattle.laws.specs.Basics.{refl, sym, ◌∙◌, ap, ℕ, arith, length, length-set, rules}
 use Rattle.laws.specs.{Loops.set_below, Loops.below_none, Loops.step_set, Loops.below_all, Tables.table_replicate}
 use Rattle.words.specs.Layout.{state_size}
 use Rattle.in_place.specs.Starting.{zeros}

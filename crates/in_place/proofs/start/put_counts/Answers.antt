@@ -1,5 +1,6 @@
 -- `in_place::start::put_counts` meets its contract. Assumes nothing.
-use Rattle.laws.specs.Basics.{◌≡◌, refl, ◌∙◌, List, ℕ, ◌+◌, ◌-◌, ◌≤◌, ◌<◌, arith, leb, length, get_or, set, length-set, rules, leb-true}
+use Rattle.std.specs.Prelude.{◌≡◌, ◌+◌, ◌-◌, ◌≤◌, ◌<◌}
+use Rattle.laws.specs.Basics.{refl, ◌∙◌, List, ℕ, arith, leb, length, get_or, set, length-set, rules, leb-true}
 use native.Mathlib.Numerals.{add-one}
 use Rattle.laws.specs.{Search.all_out, Truth.and_right}
 use Rattle.model.specs.Sound.{is_block_count_of}

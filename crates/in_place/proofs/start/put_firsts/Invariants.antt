@@ -1,5 +1,6 @@
 -- `in_place::start::put_firsts` meets its contract. Assumes nothing.
-use Rattle.laws.specs.Basics.{◌≡◌, refl, ◌∙◌, List, ℕ, ◌+◌, ◌-◌, ◌*◌, ◌≤◌, ◌<◌, arith, length, set, length-set, rules}
+use Rattle.std.specs.Prelude.{◌≡◌, ◌+◌, ◌-◌, ◌*◌, ◌≤◌, ◌<◌}
+use Rattle.laws.specs.Basics.{refl, ◌∙◌, List, ℕ, arith, length, set, length-set, rules}
 use native.Mathlib.Numerals.{add-one}
 use Rattle.words.specs.Layout.{kept_count_at_of, part_at, pins_at_of, index_at_of}
 use Rattle.words.proofs.Reading.{set_is_put}

@@ -1,5 +1,6 @@
 -- `in_place::start::put_started` meets its contract. Assumes nothing.
-use Rattle.laws.specs.Basics.{◌≡◌, refl, ◌∙◌, ap, List, [], ◌∷◌, ℕ, ◌+◌, ◌≤◌, ◌<◌, arith, length, get_or, set, length-set}
+use Rattle.std.specs.Prelude.{◌≡◌, ◌∷◌, ◌+◌, ◌≤◌, ◌<◌}
+use Rattle.laws.specs.Basics.{refl, ◌∙◌, ap, List, [], ℕ, arith, length, get_or, set, length-set}
 use Rattle.laws.specs.Sums.{sum_below}
 use Rattle.words.specs.Puts.{puts, puts4}
 use Rattle.words.proofs.Reading.{set_is_put}

@@ -1,5 +1,6 @@
 -- `in_place::start::start` meets its contract. Assumes nothing.
-use Rattle.laws.specs.Basics.{◌≡◌, refl, sym, ◌∙◌, ap, List, [], none, some, ℕ, ◌≤◌, arith, length, rules, eq-eqb, ne_eqb}
+use Rattle.std.specs.Prelude.{◌≡◌, ◌≤◌}
+use Rattle.laws.specs.Basics.{refl, sym, ◌∙◌, ap, List, [], none, some, ℕ, arith, length, rules, eq-eqb, ne_eqb}
 use Rattle.model.specs.declared.{Refusal.Refusal, StartAnswer.StartAnswer, StartAnswer.TheVariants.Refused, StartAnswer.TheVariants.Started}
 use Rattle.model.specs.{laws.Refusals.by_refusal}
 use Rattle.whole_runs.specs.WholeRuns.{StartPromise}

@@ -1,5 +1,6 @@
 -- `in_place::start::sum_of` meets its contract. Assumes nothing.
-use Rattle.laws.specs.Basics.{◌≡◌, refl, ◌∙◌, ℕ, ◌+◌, ◌-◌, ◌*◌, ◌≤◌, arith, get_or, rules}
+use Rattle.std.specs.Prelude.{◌≡◌, ◌+◌, ◌-◌, ◌*◌, ◌≤◌}
+use Rattle.laws.specs.Basics.{refl, ◌∙◌, ℕ, arith, get_or, rules}
 use native.Mathlib.Numerals.{add-one}
 use Rattle.laws.specs.Sums.{sum_below}
 use Rattle.in_place.proofs.start.sum_of.Given as goal

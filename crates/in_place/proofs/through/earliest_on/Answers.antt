@@ -1,5 +1,6 @@
 -- `in_place::through::earliest_on` meets its contract: its tests in their order, then the line. Assumes nothing.
-use Rattle.laws.specs.Basics.{◌≡◌, refl, sym, ◌∙◌, ap, false, ◌||◌, ℕ, ◌*◌, ◌≤◌, arith, eqb, ltb, leb, length, rules, ltb-false}
+use Rattle.std.specs.Prelude.{◌≡◌, ◌||◌, ◌*◌, ◌≤◌}
+use Rattle.laws.specs.Basics.{refl, sym, ◌∙◌, ap, false, ℕ, arith, eqb, ltb, leb, length, rules, ltb-false}
 use Rattle.laws.specs.Search.{any_below}
 use Rattle.whole_runs.specs.Earliest.{some_absent, unfit}
 use Rattle.words.specs.Layout.{count_of}

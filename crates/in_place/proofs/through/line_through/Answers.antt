@@ -1,5 +1,6 @@
 -- `in_place::through::line_through` meets its contract, by whether each named checkpoint is kept and whether two are ordered. Assumes nothing.
-use Rattle.laws.specs.Basics.{◌≡◌, refl, sym, ◌∙◌, arith, rules, not-true, not-false}
+use Rattle.std.specs.Prelude.{◌≡◌}
+use Rattle.laws.specs.Basics.{refl, sym, ◌∙◌, arith, rules, not-true, not-false}
 use Rattle.words.proofs.ViewSound.{sound_words}
 use Rattle.in_place.proofs.Reached.{refused, few_pairs, pairs_in, searched, all_in, missing_out, within, ordered_out, line_out}
 use Rattle.in_place.proofs.through.line_through.Goals as goal

@@ -1,5 +1,6 @@
 -- `lemidrosy::console::lemidrosy_console_recover` meets its contract. Assumes nothing.
-use Rattle.laws.specs.Basics.{◌≡◌, ◌∙◌, ap, rules}
+use Rattle.std.specs.Prelude.{◌≡◌}
+use Rattle.laws.specs.Basics.{◌∙◌, ap, rules}
 use Rattle.listing.specs.answers.Codes.{recover_code}
 use Rattle.lemidrosy.proofs.{Changing.changed, Consoles.recover_as_fits}
 use Rattle.lemidrosy.proofs.console.lemidrosy_console_recover.Goals as goal

@@ -1,5 +1,6 @@
 -- `lemidrosy::console::of_list` meets its contract, by the cases of the answer. Assumes nothing.
-use Rattle.laws.specs.Basics.{◌≡◌, refl, rules}
+use Rattle.std.specs.Prelude.{◌≡◌}
+use Rattle.laws.specs.Basics.{refl, rules}
 use Rattle.theory_roles.specs.Console.{list_report}
 use Rattle.lemidrosy.proofs.console.of_list.Goals as goal
 

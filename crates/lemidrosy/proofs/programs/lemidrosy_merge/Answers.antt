@@ -1,5 +1,6 @@
 -- `lemidrosy::programs::lemidrosy_merge` meets its contract. Assumes nothing.
-use Rattle.laws.specs.Basics.{◌≡◌, ◌∙◌, ap, rules}
+use Rattle.std.specs.Prelude.{◌≡◌}
+use Rattle.laws.specs.Basics.{◌∙◌, ap, rules}
 use Rattle.lemidrosy.specs.Programs.{merge_code}
 use Rattle.lemidrosy.proofs.{Merging.merge_fits}
 use Rattle.lemidrosy.proofs.programs.lemidrosy_merge.Goals as goal

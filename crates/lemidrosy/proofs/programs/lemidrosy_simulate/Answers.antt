@@ -1,6 +1,7 @@
 -- `lemidrosy::programs::lemidrosy_simulate` meets its contract: the list's length, then the simulation. Note 10 is a theorem of `spacing`.
 -- Assumes nothing.
-use Rattle.laws.specs.Basics.{◌≡◌, refl, ◌∙◌, List, ℕ, ◌≤◌, ◌<◌, length, rules, lt-ltb, le-ltb}
+use Rattle.std.specs.Prelude.{◌≡◌, ◌≤◌, ◌<◌}
+use Rattle.laws.specs.Basics.{refl, ◌∙◌, List, ℕ, length, rules, lt-ltb, le-ltb}
 use Rattle.model.specs.Refusals.{number}
 use Rattle.listing.specs.answers.Codes.{coded, value_code_of}
 use Rattle.theory_recording.specs.declared.spacing.TrialResult.{TrialResult}

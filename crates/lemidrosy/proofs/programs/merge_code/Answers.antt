@@ -1,5 +1,6 @@
 -- `lemidrosy::programs::merge_code` meets its contract, by the cases of the answer. Assumes nothing.
-use Rattle.laws.specs.Basics.{◌≡◌, refl, rules}
+use Rattle.std.specs.Prelude.{◌≡◌}
+use Rattle.laws.specs.Basics.{refl, rules}
 use Rattle.theory_merges.specs.Merge.{merge_report}
 use Rattle.lemidrosy.proofs.programs.merge_code.Goals as goal
 

@@ -1,6 +1,7 @@
 -- `lemidrosy::programs::verdict_code` meets its contract, by the cases of the verdict.
 -- Assumes nothing.
-use Rattle.laws.specs.Basics.{◌≡◌, refl, ℕ, ◌<◌, arith, rules}
+use Rattle.std.specs.Prelude.{◌≡◌, ◌<◌}
+use Rattle.laws.specs.Basics.{refl, ℕ, arith, rules}
 use Rattle.model.specs.declared.CheckpointIndex.{CheckpointIndex}
 use Rattle.theory_patterns.specs.{declared.Verdict.Verdict, declared.Verdict.TheVariants.Breaks, Verdicts.judge_report}
 use Rattle.lemidrosy.specs.Programs.{pair_code, judge_coded, PairFits}

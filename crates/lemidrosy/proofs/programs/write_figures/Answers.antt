@@ -1,5 +1,6 @@
 -- `lemidrosy::programs::write_figures` meets its contract, by the cases of the answer. Assumes nothing.
-use Rattle.laws.specs.Basics.{◌≡◌, refl, arith, length-set, rules}
+use Rattle.std.specs.Prelude.{◌≡◌}
+use Rattle.laws.specs.Basics.{refl, arith, length-set, rules}
 use Rattle.listing.specs.answers.Codes.{coded, value_code_of}
 use Rattle.lemidrosy.specs.Programs.{figures_after}
 use Rattle.lemidrosy.proofs.programs.write_figures.Goals as goal

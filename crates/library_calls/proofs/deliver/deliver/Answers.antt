@@ -1,7 +1,8 @@
 -- `library_calls::deliver::deliver` meets its contract: what the call in place says of words that were filled from the state, it says of the state. Demand 3 is the theorem
 -- of `whole_runs`.
 -- Assumes nothing.
-use Rattle.laws.specs.Basics.{not, ◌≡◌, ◌∙◌, ap, true, rules}
+use Rattle.std.specs.Prelude.{◌≡◌}
+use Rattle.laws.specs.Basics.{not, ◌∙◌, ap, true, rules}
 use Rattle.model.specs.declared.{Run.Run}
 use Rattle.model.specs.Sound.{sound}
 use Rattle.words.specs.Layout.{run_of}

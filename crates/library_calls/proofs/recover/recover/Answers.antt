@@ -1,7 +1,8 @@
 -- `library_calls::recover::recover` meets its contract: what the call in place says of words that were filled from the state, it says of the state. Demand 3 and Notes 4
 -- and 6 are theorems of `whole_runs`.
 -- Assumes nothing.
-use Rattle.laws.specs.Basics.{not, ◌≡◌, ◌∙◌, ap, true, ℕ, arith, rules}
+use Rattle.std.specs.Prelude.{◌≡◌}
+use Rattle.laws.specs.Basics.{not, ◌∙◌, ap, true, ℕ, arith, rules}
 use Rattle.model.specs.declared.{RecoverAnswer.RecoverAnswer, RecoverAnswer.TheVariants.Refused, RecoverAnswer.TheVariants.Recovered, Refusal.TheVariants.UnsoundState, Run.Run}
 use Rattle.model.specs.Sound.{sound}
 use Rattle.words.specs.Layout.{run_of}

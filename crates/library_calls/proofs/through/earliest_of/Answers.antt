@@ -1,7 +1,8 @@
 -- `library_calls::through::earliest_of` meets its contract: what the call in place says of words that were filled from the state, with the pairs of what was copied, it says
 -- of the state.
 -- Assumes nothing.
-use Rattle.laws.specs.Basics.{not, ◌≡◌, sym, ◌∙◌, ap, true, false, List, ℕ, ◌-◌, arith, take, by_bool, rules}
+use Rattle.std.specs.Prelude.{◌≡◌, ◌-◌}
+use Rattle.laws.specs.Basics.{not, sym, ◌∙◌, ap, true, false, List, ℕ, arith, take, by_bool, rules}
 use Rattle.model.specs.{declared.LineAnswer.LineAnswer, declared.Named.Named, declared.Run.Run, Sound.sound}
 use Rattle.words.specs.Layout.{run_of}
 use Rattle.whole_runs.specs.{Earliest.earliest_outcome, Outcomes.Outcome}

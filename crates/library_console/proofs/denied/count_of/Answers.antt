@@ -1,6 +1,7 @@
 -- `library_console::denied::count_of` meets its contract: words that fit have it in their first one, others stand for a state of zeros.
 -- Assumes nothing.
-use Rattle.laws.specs.Basics.{◌≡◌, sym, ◌∙◌, ap, Bool, true, false, not, List, ℕ, rules}
+use Rattle.std.specs.Prelude.{◌≡◌}
+use Rattle.laws.specs.Basics.{sym, ◌∙◌, ap, Bool, true, false, not, List, ℕ, rules}
 use Rattle.model.specs.declared.Run.{Run}
 use Rattle.model.specs.Words.{blank}
 use Rattle.words.specs.Layout.{fits, run_of}

@@ -1,5 +1,6 @@
 -- `library_console::denied::has_bit` meets its contract. Assumes nothing.
-use Rattle.laws.specs.Basics.{ap, ℕ, ◌%◌, eqb, rules}
+use Rattle.std.specs.Prelude.{◌%◌}
+use Rattle.laws.specs.Basics.{ap, ℕ, eqb, rules}
 use Rattle.library_console.proofs.denied.has_bit.Goals as goal
 
 pub returns : goal.returns

@@ -1,6 +1,7 @@
 -- `library_console::denied::is_fit` meets its contract, test by test.
 -- Assumes nothing.
-use Rattle.laws.specs.Basics.{◌≡◌, refl, sym, ◌∙◌, Bool, true, false, List, ℕ, ◌-◌, ◌≤◌, ◌<◌, arith, length, rules, eq-eqb, ne_eqb, le-leb, lt-leb}
+use Rattle.std.specs.Prelude.{◌≡◌, ◌-◌, ◌≤◌, ◌<◌}
+use Rattle.laws.specs.Basics.{refl, sym, ◌∙◌, Bool, true, false, List, ℕ, arith, length, rules, eq-eqb, ne_eqb, le-leb, lt-leb}
 use Rattle.words.specs.Layout.{state_size, end_of, end_fits_of, fits, message_in, is_message}
 use Rattle.library_console.proofs.denied.is_fit.Goals as goal
 

@@ -1,6 +1,7 @@
 -- `library_console::list::write_kept` meets its contract. The loop's invariant: the pairs of the checkpoints passed are written.
 -- Assumes nothing.
-use Rattle.laws.specs.Basics.{◌≡◌, refl, ◌∙◌, ◌-◌, ◌≤◌, arith, length, sets, rules}
+use Rattle.std.specs.Prelude.{◌≡◌, ◌-◌, ◌≤◌}
+use Rattle.laws.specs.Basics.{refl, ◌∙◌, arith, length, sets, rules}
 use Rattle.laws.specs.Lists.{table}
 use Rattle.model.specs.Steps.{listed}
 use Rattle.whole_runs.specs.Outcomes.{pairs}

@@ -1,6 +1,7 @@
 -- `library_console::list::write_list` meets its contract. The loop's invariant: what is listed of the processes passed is written.
 -- Assumes nothing.
-use Rattle.laws.specs.Basics.{◌-◌, ◌*◌, ◌≤◌, ◌<◌, arith, length, rules}
+use Rattle.std.specs.Prelude.{◌-◌, ◌*◌, ◌≤◌, ◌<◌}
+use Rattle.laws.specs.Basics.{arith, length, rules}
 use Rattle.words.specs.Layout.{count_of}
 use Rattle.words.proofs.ViewSound.{sound_words}
 use Rattle.library_console.proofs.Listing.{Listing, none_listed, row_room, count_few, sum_few, one_listed, all_listed}

@@ -1,6 +1,7 @@
 -- `library_console::list::write_pair` meets its contract: two numbers, one after the other.
 -- Assumes nothing.
-use Rattle.laws.specs.Basics.{◌≡◌, refl, ◌∙◌, ap, List, [], ◌∷◌, ℕ, ◌+◌, arith, set, length-set, sets, rules}
+use Rattle.std.specs.Prelude.{◌≡◌, ◌∷◌, ◌+◌}
+use Rattle.laws.specs.Basics.{refl, ◌∙◌, ap, List, [], ℕ, arith, set, length-set, sets, rules}
 use native.Mathlib.Numerals.{add-one}
 use Rattle.model.specs.declared.CheckpointIndex.{CheckpointIndex}
 use Rattle.words.specs.Layout.{word, index_at_of, index_of_def, checkpoint_in}

@@ -1,6 +1,7 @@
 -- `library_console::receivers::search` meets its contract. The loop's invariant: the places passed were searched.
 -- Assumes nothing.
-use Rattle.laws.specs.Basics.{◌≡◌, ◌-◌, ◌≤◌, arith, rules}
+use Rattle.std.specs.Prelude.{◌≡◌, ◌-◌, ◌≤◌}
+use Rattle.laws.specs.Basics.{arith, rules}
 use Rattle.library_console.specs.Receivers.{SearchedTo}
 use Rattle.library_console.proofs.{Receiving.none_searched}
 use Rattle.library_console.proofs.receivers.search.Goals as goal

@@ -1,7 +1,8 @@
 -- `library_console::shown::write_seen` meets its contract. The loop's invariant: of the places passed those that the caller may see are written, and nothing else in
 -- the lent list has changed.
 -- Assumes nothing.
-use Rattle.laws.specs.Basics.{◌≡◌, refl, sym, ◌∙◌, ap, ℕ, ◌-◌, ◌≤◌, arith, length, get_or, length-set, rules, pick}
+use Rattle.std.specs.Prelude.{◌≡◌, ◌-◌, ◌≤◌}
+use Rattle.laws.specs.Basics.{refl, sym, ◌∙◌, ap, ℕ, arith, length, get_or, length-set, rules, pick}
 use Rattle.laws.specs.Loops.{either, set_below, below_none, step_set, step_keep}
 use Rattle.theory_roles.specs.Console.{entitled_by}
 use Rattle.library_console.proofs.shown.write_seen.Given as goal

@@ -1,6 +1,7 @@
 -- `library_halves::log::tally_all` meets its contract. The loop's invariant: the tally of the first i words.
 -- Assumes nothing.
-use Rattle.laws.specs.Basics.{◌≡◌, arith, rules}
+use Rattle.std.specs.Prelude.{◌≡◌}
+use Rattle.laws.specs.Basics.{arith, rules}
 use Rattle.library_halves.proofs.{Tallies.tally_none, Tallies.tally_next, Tallies.tally_small}
 use Rattle.library_halves.proofs.log.tally_all.Goals as goal
 

@@ -1,6 +1,6 @@
 -- `library_halves::log::tally_all` meets its contract. The loop's invariant: the tally of the first i words.
 -- Assumes nothing.
-use Rattle.laws.specs.Basics.{◌≡◌, ◌-◌, ◌≤◌}
+use Rattle.std.specs.Prelude.{◌≡◌, ◌-◌, ◌≤◌}
 use Rattle.library_halves.specs.Log.{tally_of}
 use Rattle.library_halves.proofs.log.tally_all.Given as goal
 

@@ -1,6 +1,7 @@
 -- `library_halves::log::tally_word` meets its contract: the tests say which case of `tallied` holds.
 -- Assumes nothing.
-use Rattle.laws.specs.Basics.{◌+◌, ◌/◌, ◌%◌, eq-eqb, ne_eqb}
+use Rattle.std.specs.Prelude.{◌+◌, ◌/◌, ◌%◌}
+use Rattle.laws.specs.Basics.{eq-eqb, ne_eqb}
 use Rattle.library_halves.specs.Log.{tallied}
 use Rattle.library_halves.proofs.log.tally_word.Goals as goal
 

@@ -1,6 +1,7 @@
 -- `library_halves::log::write_all` meets its contract. The loop's invariant: the bytes of the first i words are written.
 -- Assumes nothing.
-use Rattle.laws.specs.Basics.{◌≡◌, refl, ◌∙◌, arith, rules}
+use Rattle.std.specs.Prelude.{◌≡◌}
+use Rattle.laws.specs.Basics.{refl, ◌∙◌, arith, rules}
 use Rattle.library_halves.proofs.{Bytes.bytes_none, Bytes.bytes_next}
 use Rattle.library_halves.proofs.log.write_all.Goals as goal
 

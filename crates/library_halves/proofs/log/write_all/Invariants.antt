@@ -1,6 +1,7 @@
 -- `library_halves::log::write_all` meets its contract. The loop's invariant: the bytes of the first i words are written.
 -- Assumes nothing.
-use Rattle.laws.specs.Basics.{◌≡◌, ◌-◌, ◌≤◌, length, sets}
+use Rattle.std.specs.Prelude.{◌≡◌, ◌-◌, ◌≤◌}
+use Rattle.laws.specs.Basics.{length, sets}
 use Rattle.library_halves.specs.Log.{bytes_up_to}
 use Rattle.library_halves.proofs.log.write_all.Given as goal
 

@@ -1,6 +1,7 @@
 -- `library_halves::log::write_word` meets its contract.
 -- Assumes nothing.
-use Rattle.laws.specs.Basics.{◌≡◌, suc, ◌+◌, arith, length-set}
+use Rattle.std.specs.Prelude.{◌≡◌, ◌+◌}
+use Rattle.laws.specs.Basics.{suc, arith, length-set}
 use Rattle.model.specs.Trace.{bytes_of_def}
 use Rattle.library_halves.proofs.log.write_word.Goals as goal
 

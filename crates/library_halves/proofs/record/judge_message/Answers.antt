@@ -1,6 +1,7 @@
 -- `library_halves::record::judge_message` meets its contract.
 -- Assumes nothing.
-use Rattle.laws.specs.Basics.{◌≡◌, sym, ◌∙◌, ap, ℕ, ◌/◌, ◌%◌, ◌<◌, arith}
+use Rattle.std.specs.Prelude.{◌≡◌, ◌/◌, ◌%◌, ◌<◌}
+use Rattle.laws.specs.Basics.{sym, ◌∙◌, ap, ℕ, arith}
 use Rattle.theory_merges.specs.{Halves.message_number, Merge.in_half_of}
 use Rattle.library_halves.specs.declared.log.Tally.{Tally}
 use Rattle.library_halves.specs.{Log.tally_of, Taking.Judges}

@@ -1,6 +1,6 @@
 -- `library_halves::taking::is_sent` meets its contract.
 -- Assumes nothing.
-use Rattle.laws.specs.Basics.{◌/◌, ◌%◌}
+use Rattle.std.specs.Prelude.{◌/◌, ◌%◌}
 use Rattle.library_halves.proofs.{Tallies.logged_tally}
 use Rattle.library_halves.proofs.taking.is_sent.Goals as goal
 

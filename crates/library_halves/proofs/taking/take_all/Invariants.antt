@@ -1,6 +1,7 @@
 -- `library_halves::taking::take_all` meets its contract. The loop's invariant: the log holds the records taken, and the merge goes on after them.
 -- Assumes nothing.
-use Rattle.laws.specs.Basics.{◌≡◌, ◌+◌, ◌-◌, ◌*◌, ◌≤◌, length}
+use Rattle.std.specs.Prelude.{◌≡◌, ◌+◌, ◌-◌, ◌*◌, ◌≤◌}
+use Rattle.laws.specs.Basics.{length}
 use Rattle.library_halves.proofs.Iterations.{Taking}
 use Rattle.library_halves.proofs.taking.take_all.Given as goal
 

@@ -1,6 +1,7 @@
 -- `library_judge::reading::first_rows` meets its contract.
 -- Assumes nothing.
-use Rattle.laws.specs.Basics.{◌≡◌, refl, ◌∙◌, arith, length-set, rules}
+use Rattle.std.specs.Prelude.{◌≡◌}
+use Rattle.laws.specs.Basics.{refl, ◌∙◌, arith, length-set, rules}
 use Rattle.library_judge.specs.Readings.{first_none, first_step}
 use Rattle.model.specs.Words.{ones}
 use Rattle.library_judge.proofs.reading.first_rows.Goals as goal

@@ -1,6 +1,7 @@
 -- `library_judge::reading::first_rows` meets its contract.
 -- Assumes nothing.
-use Rattle.laws.specs.Basics.{◌≡◌, ◌≤◌, length}
+use Rattle.std.specs.Prelude.{◌≡◌, ◌≤◌}
+use Rattle.laws.specs.Basics.{length}
 use Rattle.library_judge.specs.Readings.{FirstRows}
 use Rattle.library_judge.proofs.reading.first_rows.Given as goal
 

@@ -1,6 +1,7 @@
 -- `library_judge::reading::read_all` meets its contract: the reading of the records before is kept in the tables.
 -- Assumes nothing.
-use Rattle.laws.specs.Basics.{◌≡◌, refl, sym, ◌∙◌, true, arith}
+use Rattle.std.specs.Prelude.{◌≡◌}
+use Rattle.laws.specs.Basics.{refl, sym, ◌∙◌, true, arith}
 use Rattle.library_judge.proofs.Together.{left_long, answered_to, next_refused, next_taken, end_refused, end_whole, begins, refused_to, taken_to}
 use Rattle.trace.specs.reader.Reading.{record_left_of}
 use Rattle.library_judge.specs.Kept.{tables}

@@ -1,6 +1,7 @@
 -- `library_judge::reading::read_all` meets its contract: the reading of the records before is kept in the tables.
 -- Assumes nothing.
-use Rattle.laws.specs.Basics.{◌≡◌, ◌-◌, length}
+use Rattle.std.specs.Prelude.{◌≡◌, ◌-◌}
+use Rattle.laws.specs.Basics.{length}
 use Rattle.library_judge.specs.Kept.{tables, Reached}
 use Rattle.library_judge.proofs.reading.read_all.Given as goal
 

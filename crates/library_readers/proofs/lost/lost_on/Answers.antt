@@ -1,5 +1,6 @@
 -- `library_readers::lost::lost_on` meets its contract: the list's length, the failed set, then the messages. Assumes nothing.
-use Rattle.laws.specs.Basics.{◌≡◌, refl, sym, ◌∙◌, ap, ℕ, ◌^◌, leb, rules}
+use Rattle.std.specs.Prelude.{◌≡◌, ◌^◌}
+use Rattle.laws.specs.Basics.{refl, sym, ◌∙◌, ap, ℕ, leb, rules}
 use Rattle.library_readers.proofs.{Readings.answer_is, Losses.lost_short, Losses.lost_outside}
 use Rattle.library_readers.proofs.lost.lost_on.Goals as goal
 

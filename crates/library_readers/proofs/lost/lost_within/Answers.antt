@@ -1,5 +1,6 @@
 -- `library_readers::lost::lost_within` meets its contract, by whether each process has a member. Assumes nothing.
-use Rattle.laws.specs.Basics.{◌≡◌, refl, sym, ◌∙◌, ap, false, ℕ, ◌^◌, arith, leb, rules, not-true, not-false}
+use Rattle.std.specs.Prelude.{◌≡◌, ◌^◌}
+use Rattle.laws.specs.Basics.{refl, sym, ◌∙◌, ap, false, ℕ, arith, leb, rules, not-true, not-false}
 use Rattle.model.specs.Refusals.{no_member_of}
 use Rattle.words.specs.Layout.{count_of, run_of}
 use Rattle.words.proofs.ViewSound.{sound_words}

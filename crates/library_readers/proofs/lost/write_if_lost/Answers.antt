@@ -1,5 +1,6 @@
 -- `library_readers::lost::write_if_lost` meets its contract: the place is not in use, or its message remains, or it is lost. Assumes nothing.
-use Rattle.laws.specs.Basics.{◌≡◌, refl, sym, ◌∙◌, true, false, ◌&&◌, List, ℕ, ◌+◌, ◌*◌, sets, rules, not-true, not-false, pick}
+use Rattle.std.specs.Prelude.{◌≡◌, ◌&&◌, ◌+◌, ◌*◌}
+use Rattle.laws.specs.Basics.{refl, sym, ◌∙◌, true, false, List, ℕ, sets, rules, not-true, not-false, pick}
 use Rattle.model.specs.declared.CheckpointIndex.{CheckpointIndex}
 use Rattle.words.specs.Layout.{message_in, is_message}
 use Rattle.words_line.specs.Sifted.{lost_to}

@@ -1,6 +1,7 @@
 -- `library_recorder::record::append` meets its contract: the record of an event that fits is what the crate trace encodes.
 -- Assumes nothing.
-use Rattle.laws.specs.Basics.{◌≡◌, refl, sym, ◌∙◌, ap, true, List, ℕ, ◌+◌, sets, rules}
+use Rattle.std.specs.Prelude.{◌≡◌, ◌+◌}
+use Rattle.laws.specs.Basics.{refl, sym, ◌∙◌, ap, true, List, ℕ, sets, rules}
 use Rattle.model.specs.declared.Event.{Event}
 use Rattle.model.specs.Trace.{fits}
 use Rattle.model.proofs.Records.{records_are_events}

@@ -1,6 +1,7 @@
 -- `recorder::bytes::has_room` meets its contract.
 -- Assumes nothing.
-use Rattle.laws.specs.Basics.{◌≡◌, false, not, ℕ, ◌-◌, ◌<◌, arith, ltb, leb, lt-ltb, le-ltb, leb-true, leb-false, by_bool}
+use Rattle.std.specs.Prelude.{◌≡◌, ◌-◌, ◌<◌}
+use Rattle.laws.specs.Basics.{false, not, ℕ, arith, ltb, leb, lt-ltb, le-ltb, leb-true, leb-false, by_bool}
 use Rattle.library_recorder.proofs.record.has_room.Goals as goal
 
 -- No byte is left after a place past the end.

@@ -1,6 +1,7 @@
 -- `recorder::bytes::put` meets its contract: four stores, one after the other.
 -- Assumes nothing.
-use Rattle.laws.specs.Basics.{◌≡◌, List, [], ◌∷◌, ℕ, suc, ◌+◌, arith, length, get_or, set, length-set, sets, rules}
+use Rattle.std.specs.Prelude.{◌≡◌, ◌∷◌, ◌+◌}
+use Rattle.laws.specs.Basics.{List, [], ℕ, suc, arith, length, get_or, set, length-set, sets, rules}
 use Rattle.library_recorder.proofs.record.put.Goals as goal
 
 -- Four stores one after the other.

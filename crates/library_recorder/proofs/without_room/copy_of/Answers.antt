@@ -1,6 +1,7 @@
 -- `library_recorder::without_room::copy_of` meets its contract.
 -- Assumes nothing.
-use Rattle.laws.specs.Basics.{◌≡◌, sym, ◌∙◌, ap, List, ℕ, arith, length, replicate, length-replicate, rules, by_bool}
+use Rattle.std.specs.Prelude.{◌≡◌}
+use Rattle.laws.specs.Basics.{sym, ◌∙◌, ap, List, ℕ, arith, length, replicate, length-replicate, rules, by_bool}
 use Rattle.words.specs.Layout.{state_size, fits, run_of}
 use Rattle.words.proofs.View.{run_unfit, fits_size}
 use Rattle.in_place.specs.Starting.{zeros}

@@ -1,5 +1,6 @@
 -- `library_replay::block::is_left` meets its contract. Assumes nothing.
-use Rattle.laws.specs.Basics.{sym, ◌∙◌, ◌+◌, ◌*◌, ◌/◌, arith, leb, length, lt-ltb, le-ltb, leb-true, leb-false, by_bool}
+use Rattle.std.specs.Prelude.{◌+◌, ◌*◌, ◌/◌}
+use Rattle.laws.specs.Basics.{sym, ◌∙◌, arith, leb, length, lt-ltb, le-ltb, leb-true, leb-false, by_bool}
 use Rattle.library_replay.specs.Taken.{is_left_of}
 use Rattle.library_replay.proofs.block.is_left.Goals as goal
 

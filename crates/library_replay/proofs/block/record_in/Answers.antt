@@ -1,5 +1,6 @@
 -- `library_replay::block::record_in` meets its contract. Assumes nothing.
-use Rattle.laws.specs.Basics.{sym, ◌∙◌, ◌+◌, ◌*◌, arith, length, rules, leb-true}
+use Rattle.std.specs.Prelude.{◌+◌, ◌*◌}
+use Rattle.laws.specs.Basics.{sym, ◌∙◌, arith, length, rules, leb-true}
 use Rattle.trace.specs.Answers.{record_at}
 use Rattle.library_replay.specs.Taken.{is_left_of, record_in_of}
 use Rattle.library_replay.proofs.block.record_in.Goals as goal

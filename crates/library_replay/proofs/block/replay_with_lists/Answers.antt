@@ -1,5 +1,6 @@
 -- `library_replay::block::replay_with_lists` meets its contract. Assumes nothing.
-use Rattle.laws.specs.Basics.{◌≡◌, sym, ◌∙◌, ap, true, ◌-◌, ◌*◌, arith, length, rules}
+use Rattle.std.specs.Prelude.{◌≡◌, ◌-◌, ◌*◌}
+use Rattle.laws.specs.Basics.{sym, ◌∙◌, ap, true, arith, length, rules}
 use Rattle.model.specs.Sound.{sound}
 use Rattle.whole_runs.specs.WholeRuns.{Reachable}
 use Rattle.trace.specs.Answers.{event_in}

@@ -1,5 +1,6 @@
 -- `library_replay::block::takes_next` meets its contract. Test by test. Assumes nothing.
-use Rattle.laws.specs.Basics.{◌+◌, arith, rules, lt-ltb, le-ltb, le-leb, lt-leb, not-true, not-false}
+use Rattle.std.specs.Prelude.{◌+◌}
+use Rattle.laws.specs.Basics.{arith, rules, lt-ltb, le-ltb, le-leb, lt-leb, not-true, not-false}
 use Rattle.library_replay.specs.Taken.{may_take, takes_next_of}
 use Rattle.library_replay.proofs.block.takes_next.Goals as goal
 

@@ -1,5 +1,6 @@
 -- `library_replay::record::apply` meets its contract. Assumes nothing.
-use Rattle.laws.specs.Basics.{◌≡◌, sym, ◌∙◌, rules}
+use Rattle.std.specs.Prelude.{◌≡◌}
+use Rattle.laws.specs.Basics.{sym, ◌∙◌, rules}
 use Rattle.trace.specs.Answers.{event_read}
 use Rattle.words.specs.Layout.{run_of}
 use Rattle.in_place.proofs.Leaving.{same_words}

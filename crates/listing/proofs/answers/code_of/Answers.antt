@@ -1,6 +1,7 @@
 -- `listing::answers::code_of` meets its contract.
 -- Assumes nothing.
-use Rattle.laws.specs.Basics.{◌≡◌, ◌∙◌, ◌+◌, ◌*◌, ◌<◌, arith, rules}
+use Rattle.std.specs.Prelude.{◌≡◌, ◌+◌, ◌*◌, ◌<◌}
+use Rattle.laws.specs.Basics.{◌∙◌, arith, rules}
 use Rattle.listing.specs.{Summarised.report_in, answers.Codes.coded, answers.Codes.Fits}
 use Rattle.listing.specs.declared.Summary.{Summary}
 use Rattle.listing.proofs.answers.code_of.Goals as goal

@@ -1,6 +1,7 @@
 -- `listing::answers::value_code` meets its contract, by the cases of the value.
 -- Assumes nothing.
-use Rattle.laws.specs.Basics.{◌≡◌, refl, ◌∙◌, some, ℕ, ◌<◌, arith, rules}
+use Rattle.std.specs.Prelude.{◌≡◌, ◌<◌}
+use Rattle.laws.specs.Basics.{refl, ◌∙◌, some, ℕ, arith, rules}
 use Rattle.listing.specs.declared.{Value.Value, Value.TheVariants.Number}
 use Rattle.listing.specs.{Lines.value_in, answers.Codes.value_code_of}
 use Rattle.listing.proofs.answers.value_code.Goals as goal

@@ -1,5 +1,6 @@
 -- `machine_console::going::after_read` meets its contract. Assumes nothing.
-use Rattle.laws.specs.Basics.{◌≡◌, sym, ◌∙◌, ap, List, ℕ, arith, rules}
+use Rattle.std.specs.Prelude.{◌≡◌}
+use Rattle.laws.specs.Basics.{sym, ◌∙◌, ap, List, ℕ, arith, rules}
 use lib.Seq.{take-add}
 use Rattle.words.specs.Layout.{run_of}
 use Rattle.machines.specs.{Machines.stepped, Forms.answer_of, Forms.taken_of, Forms.Between}

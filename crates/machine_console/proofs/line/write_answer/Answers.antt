@@ -1,5 +1,6 @@
 -- `machine_console::line::write_answer` meets its contract. Assumes nothing.
-use Rattle.laws.specs.Basics.{◌≡◌, ap, List, ℕ, arith, rules}
+use Rattle.std.specs.Prelude.{◌≡◌}
+use Rattle.laws.specs.Basics.{ap, List, ℕ, arith, rules}
 use Rattle.theory_roles.specs.declared.Operation.{Operation}
 use Rattle.listing.specs.{Summarised.report_in, Printed.Printed}
 use Rattle.listing.proofs.Texts.{nothing}

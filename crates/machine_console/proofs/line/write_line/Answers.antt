@@ -1,5 +1,6 @@
 -- `machine_console::line::write_line` meets its contract. Assumes nothing.
-use Rattle.laws.specs.Basics.{◌≡◌, ◌∙◌, ap, ℕ, arith, rules}
+use Rattle.std.specs.Prelude.{◌≡◌}
+use Rattle.laws.specs.Basics.{◌∙◌, ap, ℕ, arith, rules}
 use Rattle.listing.proofs.Texts.{then}
 use Rattle.machine_console.specs.{Text.answer_text, Text.line_text, Replied.reply_of}
 use Rattle.machine_console.proofs.{Parts.accepted_line, Parts.refused_any, Parts.printed_as}

@@ -1,5 +1,6 @@
 -- `machine_console::making::make_asked` meets its contract. Assumes nothing.
-use Rattle.laws.specs.Basics.{sym, ◌∙◌, ap, ℕ, ◌*◌, ◌≤◌, arith, replicate, length-take-le, rules}
+use Rattle.std.specs.Prelude.{◌*◌, ◌≤◌}
+use Rattle.laws.specs.Basics.{sym, ◌∙◌, ap, ℕ, arith, replicate, length-take-le, rules}
 use Rattle.words.specs.Layout.{run_of}
 use Rattle.machine_console.specs.Made.{lent}
 use Rattle.machine_console.proofs.{Lists.few, Lists.cut_few, Lists.lent_is}

@@ -1,6 +1,7 @@
 -- `machine_console::script::operation_of` meets its contract: the arm of the `match` says which number it is, and the last has 9 alone left.
 -- Assumes nothing.
-use Rattle.laws.specs.Basics.{◌≡◌, ◌≤◌, arith}
+use Rattle.std.specs.Prelude.{◌≡◌, ◌≤◌}
+use Rattle.laws.specs.Basics.{arith}
 use Rattle.machine_console.specs.script.Script.{operation_of_def}
 use Rattle.machine_console.proofs.script.operation_of.Goals as goal
 

@@ -1,5 +1,6 @@
 -- `machine_console::text::write_members` meets its contract. Assumes nothing.
-use Rattle.laws.specs.Basics.{◌≡◌, refl, sym, ◌∙◌, ap, ◌++◌, Option, ℕ, ◌+◌, ◌-◌, ◌*◌, ◌≤◌, arith, length, take, rules}
+use Rattle.std.specs.Prelude.{◌≡◌, ◌++◌, ◌+◌, ◌-◌, ◌*◌, ◌≤◌}
+use Rattle.laws.specs.Basics.{refl, sym, ◌∙◌, ap, Option, ℕ, arith, length, take, rules}
 use Rattle.listing.specs.Printed.{Printed}
 use Rattle.listing.proofs.Texts.{then, nothing}
 use Rattle.machine_console.specs.Text.{field_text, members_text}

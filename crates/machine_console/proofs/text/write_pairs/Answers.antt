@@ -1,5 +1,6 @@
 -- `machine_console::text::write_pairs` meets its contract. Assumes nothing.
-use Rattle.laws.specs.Basics.{sym, ap, List, ◌++◌, some, ℕ, arith, rules}
+use Rattle.std.specs.Prelude.{◌++◌}
+use Rattle.laws.specs.Basics.{sym, ap, List, some, ℕ, arith, rules}
 use Rattle.listing.proofs.Texts.{then}
 use Rattle.machine_console.specs.Text.{field_text, pairs_text}
 use Rattle.machine_console.proofs.{Parts.deletions_length, Parts.pairs_shown, Parts.printed_as}

@@ -1,6 +1,7 @@
 -- `machine_judge::text::write_breaks` meets its contract: its four texts stand one after the other.
 -- Assumes nothing.
-use Rattle.laws.specs.Basics.{◌≡◌, arith, rules}
+use Rattle.std.specs.Prelude.{◌≡◌}
+use Rattle.laws.specs.Basics.{arith, rules}
 use Rattle.listing.proofs.Texts.{then}
 use Rattle.machine_judge.proofs.{Lengths.pair_short, Lengths.printed_breaks}
 use Rattle.machine_judge.proofs.text.write_breaks.Goals as goal

@@ -1,6 +1,7 @@
 -- `machine_merge::going::after_read` meets its contract.
 -- Assumes nothing.
-use Rattle.laws.specs.Basics.{◌≡◌, List, ℕ, ◌≤◌, arith, rules}
+use Rattle.std.specs.Prelude.{◌≡◌, ◌≤◌}
+use Rattle.laws.specs.Basics.{List, ℕ, arith, rules}
 use Rattle.machines.specs.{Machines.heard_read, Forms.answer_of, Forms.taken_of, Forms.Between}
 use Rattle.machine_merge.specs.declared.marks.Marks.{Marks}
 use Rattle.machine_merge.specs.Words.{read_to_of, stage_of, name_of}

@@ -1,6 +1,7 @@
 -- `machine_merge::going::take_set` meets its contract.
 -- Assumes nothing.
-use Rattle.laws.specs.Basics.{◌≡◌, sym, ◌∙◌, ap, ℕ, arith, rules}
+use Rattle.std.specs.Prelude.{◌≡◌}
+use Rattle.laws.specs.Basics.{sym, ◌∙◌, ap, ℕ, arith, rules}
 use Rattle.machines.specs.programs.Numbers.{number_in, at_most}
 use Rattle.machine_merge.specs.Merging.{Naming, FirstHalf}
 use Rattle.machine_merge.proofs.{Leading.set_none, Leading.set_some, Leading.at_most_lem, Arriving.led, Arriving.arrives_first}

@@ -1,6 +1,7 @@
 -- `machine_merge::marks::half_at` meets its contract.
 -- Assumes nothing.
-use Rattle.laws.specs.Basics.{ap, ℕ, ◌+◌, arith, rules}
+use Rattle.std.specs.Prelude.{◌+◌}
+use Rattle.laws.specs.Basics.{ap, ℕ, arith, rules}
 use Rattle.machine_merge.specs.Words.{half_at_of}
 use Rattle.machine_merge.proofs.marks.half_at.Goals as goal
 

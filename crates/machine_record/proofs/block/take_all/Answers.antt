@@ -1,5 +1,6 @@
 -- `machine_record::block::take_all` meets its contract: so far the records in front of a place are taken. Assumes nothing.
-use Rattle.laws.specs.Basics.{◌≡◌, refl, ◌∙◌, ◌+◌, ◌-◌, ◌≤◌, arith, length, rules}
+use Rattle.std.specs.Prelude.{◌≡◌, ◌+◌, ◌-◌, ◌≤◌}
+use Rattle.laws.specs.Basics.{refl, ◌∙◌, arith, length, rules}
 use Rattle.words.specs.Layout.{run_of}
 use Rattle.machine_record.proofs.Blocks.{SoFar, none_so_far, event_at, one_more, all_so_far}
 use Rattle.machine_record.proofs.block.take_all.Goals as goal

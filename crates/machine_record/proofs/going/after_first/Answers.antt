@@ -1,5 +1,6 @@
 -- `machine_record::going::after_first` meets its contract. Assumes nothing.
-use Rattle.laws.specs.Basics.{◌≡◌, ◌∙◌, ap, arith, rules}
+use Rattle.std.specs.Prelude.{◌≡◌}
+use Rattle.laws.specs.Basics.{◌∙◌, ap, arith, rules}
 use Rattle.model.specs.Refusals.{number}
 use Rattle.machines.specs.{Machines.heard, Machines.stepped, Forms.answer_of, Forms.taken_of, Forms.Between}
 use Rattle.machines.proofs.Leading.{stepped_by}

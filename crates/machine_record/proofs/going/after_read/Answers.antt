@@ -1,5 +1,6 @@
 -- `machine_record::going::after_read` meets its contract. Assumes nothing.
-use Rattle.laws.specs.Basics.{◌≡◌, sym, ◌∙◌, ap, arith, rules}
+use Rattle.std.specs.Prelude.{◌≡◌}
+use Rattle.laws.specs.Basics.{sym, ◌∙◌, ap, arith, rules}
 use lib.Seq.{take-add}
 use Rattle.machines.specs.{Machines.stepped, Forms.answer_of, Forms.taken_of, Forms.Between}
 use Rattle.machine_record.specs.{Machine.reading, Machine.machine, Machine.next, Machine.block_taken, Lent.position_of}

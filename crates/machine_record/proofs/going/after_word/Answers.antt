@@ -1,5 +1,6 @@
 -- `machine_record::going::after_word` meets its contract. Assumes nothing.
-use Rattle.laws.specs.Basics.{◌≡◌, ◌∙◌, ap, ℕ, ◌+◌, ◌-◌, arith, take, drop, rules}
+use Rattle.std.specs.Prelude.{◌≡◌, ◌+◌, ◌-◌}
+use Rattle.laws.specs.Basics.{◌∙◌, ap, ℕ, arith, take, drop, rules}
 use Rattle.machines.specs.{programs.Numbers.number_in, Machines.heard, Machines.stepped, Forms.answer_of, Forms.taken_of, Forms.Between}
 use Rattle.machines.proofs.Leading.{stepped_by}
 use Rattle.machine_record.specs.Machine.{naming, machine, ask, next, sized}

@@ -1,5 +1,6 @@
 -- `machine_record::going::start` meets its contract. Assumes nothing.
-use Rattle.laws.specs.Basics.{◌≡◌, refl, sym, ◌∙◌, true, List, ℕ, min, arith, eqb, length, take, drop, length-take-le, rules}
+use Rattle.std.specs.Prelude.{◌≡◌}
+use Rattle.laws.specs.Basics.{refl, sym, ◌∙◌, true, List, ℕ, min, arith, eqb, length, take, drop, length-take-le, rules}
 use Rattle.machine_record.specs.Recorded.{start_number}
 use Rattle.machine_record.proofs.{Leading.led}
 use Rattle.machine_record.proofs.Starting.{accepted, number_is, start_refused, start_fine, long_enough, arrives_started}

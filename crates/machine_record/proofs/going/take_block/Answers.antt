@@ -1,5 +1,6 @@
 -- `machine_record::going::take_block` meets its contract. Assumes nothing.
-use Rattle.laws.specs.Basics.{refl, sym, ◌∙◌, List, ℕ, ◌+◌, ◌-◌, ◌*◌, ◌≤◌, arith, length-take-le, rules}
+use Rattle.std.specs.Prelude.{◌+◌, ◌-◌, ◌*◌, ◌≤◌}
+use Rattle.laws.specs.Basics.{refl, sym, ◌∙◌, List, ℕ, arith, length-take-le, rules}
 use Rattle.whole_runs.specs.Listing.{most_records}
 use Rattle.machine_record.specs.{declared.block.Taken.Taken, declared.marks.Marks.Marks, Lent.longest_trace}
 use Rattle.machine_record.proofs.{Arriving.arrives_write, Arriving.none_to_write, Leading.led}

@@ -1,6 +1,7 @@
 -- `machine_replay::phases::after_first` meets its contract.
 -- Assumes nothing.
-use Rattle.laws.specs.Basics.{◌≡◌, ◌∙◌, ap, true, arith, rules}
+use Rattle.std.specs.Prelude.{◌≡◌}
+use Rattle.laws.specs.Basics.{◌∙◌, ap, true, arith, rules}
 use Rattle.whole_runs.specs.Listing.{listing}
 use Rattle.machines.specs.{Machines.heard_read, Forms.answer_of, Forms.taken_of, Forms.Between}
 use Rattle.machine_replay.specs.Replaying.{opened}

@@ -1,6 +1,7 @@
 -- `machine_replay::phases::after_word` meets its contract.
 -- Assumes nothing.
-use Rattle.laws.specs.Basics.{sym, ◌∙◌, ap, Bool, ◌&&◌, ◌+◌, ◌≤◌, arith, length, rules}
+use Rattle.std.specs.Prelude.{◌&&◌, ◌+◌, ◌≤◌}
+use Rattle.laws.specs.Basics.{sym, ◌∙◌, ap, Bool, arith, length, rules}
 use Rattle.laws.specs.Tests.{same}
 use Rattle.machines.specs.Machines.{Answer, brought}
 use Rattle.machine_replay.specs.Replaying.{opening, next, all_word}

@@ -1,6 +1,7 @@
 -- `machine_replay::phases::is_all` meets its contract.
 -- Assumes nothing.
-use Rattle.laws.specs.Basics.{◌≡◌, ◌+◌, ◌-◌, ◌≤◌, arith, length, rules}
+use Rattle.std.specs.Prelude.{◌≡◌, ◌+◌, ◌-◌, ◌≤◌}
+use Rattle.laws.specs.Basics.{arith, length, rules}
 use Rattle.laws.specs.Tests.{same}
 use Rattle.machines.specs.{Machines.brought, Forms.taken_of, Forms.Between}
 use Rattle.machine_replay.proofs.phases.is_all.Goals as goal

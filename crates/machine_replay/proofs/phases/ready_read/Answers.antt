@@ -1,6 +1,7 @@
 -- `machine_replay::phases::ready_read` meets its contract.
 -- Assumes nothing.
-use Rattle.laws.specs.Basics.{◌≡◌, sym, ◌∙◌, ap, List, ℕ, ◌+◌, ◌-◌, ◌≤◌, ◌<◌, arith, length, take, drop, length-take-le, rules}
+use Rattle.std.specs.Prelude.{◌≡◌, ◌+◌, ◌-◌, ◌≤◌, ◌<◌}
+use Rattle.laws.specs.Basics.{sym, ◌∙◌, ap, List, ℕ, arith, length, take, drop, length-take-le, rules}
 use Rattle.whole_runs.specs.Listing.{records}
 use Rattle.words.specs.Layout.{run_of}
 use Rattle.machines.specs.{Machines.heard_read, Forms.answer_of, Forms.taken_of}

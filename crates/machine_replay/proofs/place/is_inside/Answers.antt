@@ -1,6 +1,7 @@
 -- `machine_replay::place::is_inside` meets its contract.
 -- Assumes nothing.
-use Rattle.laws.specs.Basics.{◌≡◌, sym, Bool, true, false, ◌&&◌, ◌-◌, eqb, ltb, eq-eqb, ne_eqb, lt-ltb, le-ltb, le-leb, lt-leb, pick}
+use Rattle.std.specs.Prelude.{◌≡◌, ◌&&◌, ◌-◌}
+use Rattle.laws.specs.Basics.{sym, Bool, true, false, eqb, ltb, eq-eqb, ne_eqb, lt-ltb, le-ltb, le-leb, lt-leb, pick}
 use Rattle.machine_replay.specs.Standing.{inside}
 use Rattle.machine_replay.proofs.place.is_inside.Goals as goal
 

@@ -1,6 +1,7 @@
 -- `machine_replay::place::store` meets its contract.
 -- Assumes nothing.
-use Rattle.laws.specs.Basics.{◌<◌, arith, length, rules}
+use Rattle.std.specs.Prelude.{◌<◌}
+use Rattle.laws.specs.Basics.{arith, length, rules}
 use Rattle.machine_replay.proofs.{Places.stored}
 use Rattle.machine_replay.proofs.place.store.Goals as goal
 

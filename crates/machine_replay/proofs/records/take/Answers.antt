@@ -1,6 +1,7 @@
 -- `machine_replay::records::take` meets its contract.
 -- Assumes nothing.
-use Rattle.laws.specs.Basics.{◌≡◌, refl, List, ℕ, ◌+◌, ◌-◌, arith, rules, not-true, not-false}
+use Rattle.std.specs.Prelude.{◌≡◌, ◌+◌, ◌-◌}
+use Rattle.laws.specs.Basics.{refl, List, ℕ, arith, rules, not-true, not-false}
 use Rattle.library_replay.specs.declared.block.Progress.{Progress}
 use Rattle.machine_replay.specs.declared.place.Place.{Place}
 use Rattle.machine_replay.proofs.Blocks.{Replayed, waits, stops_refused, stops_last, prints, few_then, inside_block}

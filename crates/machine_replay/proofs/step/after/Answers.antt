@@ -1,6 +1,7 @@
 -- `machine_replay::step::after` meets its contract.
 -- Assumes nothing.
-use Rattle.laws.specs.Basics.{◌≡◌, true, ◌||◌, ℕ, arith, eqb, rules, eq-eqb, ne_eqb, eqb-true, eqb-false, by_eq}
+use Rattle.std.specs.Prelude.{◌≡◌, ◌||◌}
+use Rattle.laws.specs.Basics.{true, ℕ, arith, eqb, rules, eq-eqb, ne_eqb, eqb-true, eqb-false, by_eq}
 use Rattle.laws.specs.Truth.{or_none}
 use Rattle.machines.specs.Machines.{stepped, heard}
 use Rattle.machine_replay.specs.{Replaying.asks, Replaying.next, Standing.between_in, Standing.FromStart}

@@ -1,6 +1,7 @@
 -- `machine_replay::step::request_of` meets its contract.
 -- Assumes nothing.
-use Rattle.laws.specs.Basics.{refl, sym, ◌∙◌, ap, ℕ, ◌-◌, arith, rules, not-true, not-false}
+use Rattle.std.specs.Prelude.{◌-◌}
+use Rattle.laws.specs.Basics.{refl, sym, ◌∙◌, ap, ℕ, arith, rules, not-true, not-false}
 use Rattle.machines.specs.{Machines.Read, Forms.request_of_def, Forms.Placed, Forms.GoesTo}
 use Rattle.machine_replay.specs.{Replaying.asks, Standing.Holds}
 use Rattle.machine_replay.proofs.Places.{in_lists, enough_input, outside_stopped, is_starting, is_counted, is_opening, is_reading, is_printing, is_ending, is_failing, is_stopped}

@@ -1,6 +1,7 @@
 -- `machine_replay::step::step_from` meets its contract.
 -- Assumes nothing.
-use Rattle.laws.specs.Basics.{◌≡◌, refl, sym, ◌∙◌, arith, rules, not-true, not-false}
+use Rattle.std.specs.Prelude.{◌≡◌}
+use Rattle.laws.specs.Basics.{refl, sym, ◌∙◌, arith, rules, not-true, not-false}
 use Rattle.machine_replay.specs.declared.place.Place.{Place}
 use Rattle.machine_replay.specs.Standing.{Holds, state_in, state_of}
 use Rattle.machine_replay.proofs.{Places.narrow_stopped, Places.outside_stopped}

@@ -1,6 +1,7 @@
 -- `machine_simulate::print::write_figures` meets its contract: its five lines stand one after the other.
 -- Assumes nothing.
-use Rattle.laws.specs.Basics.{◌≤◌, arith, length, rules}
+use Rattle.std.specs.Prelude.{◌≤◌}
+use Rattle.laws.specs.Basics.{arith, length, rules}
 use Rattle.listing.proofs.Texts.{then}
 use Rattle.machine_simulate.specs.Text.{longest_text, figures_text}
 use Rattle.machine_simulate.proofs.print.write_figures.Goals as goal

@@ -1,6 +1,7 @@
 -- `machine_simulate::print::write_row` meets its contract: its seven texts stand one after the other.
 -- Assumes nothing.
-use Rattle.laws.specs.Basics.{◌≤◌, arith, length, rules}
+use Rattle.std.specs.Prelude.{◌≤◌}
+use Rattle.laws.specs.Basics.{arith, length, rules}
 use Rattle.listing.proofs.{Bounds.twenty_digits, Texts.then}
 use Rattle.machine_simulate.specs.Text.{longest_text, row_text}
 use Rattle.machine_simulate.proofs.print.write_row.Goals as goal

@@ -1,6 +1,7 @@
 -- `machines::heard::is_done` meets its contract, by the kind of the answer.
 -- Assumes nothing.
-use Rattle.laws.specs.Basics.{◌+◌, leb, length, by_bool}
+use Rattle.std.specs.Prelude.{◌+◌}
+use Rattle.laws.specs.Basics.{leb, length, by_bool}
 use Rattle.machines.specs.{Machines.heard_done, Forms.answer_of}
 use Rattle.machines.proofs.heard.is_done.Goals as goal
 

@@ -1,6 +1,7 @@
 -- `trace::reader::count_after` meets its contract: the callee's answer is the definition's test.
 -- Assumes nothing.
-use Rattle.laws.specs.Basics.{sym, ◌∙◌, ◌+◌, ◌*◌, arith, length, leb-true}
+use Rattle.std.specs.Prelude.{◌+◌, ◌*◌}
+use Rattle.laws.specs.Basics.{sym, ◌∙◌, arith, length, leb-true}
 use Rattle.trace.specs.reader.Reading.{record_left_of, taken_after}
 use Rattle.trace.proofs.reader.count_after.Goals as goal
 

@@ -1,5 +1,6 @@
 -- `words::messages::clear_from` meets its contract. Assumes nothing.
-use Rattle.laws.specs.Basics.{◌≡◌, refl, ◌∙◌, List, ℕ, suc, ◌+◌, ◌-◌, ◌≤◌, ◌<◌, arith, length, rules}
+use Rattle.std.specs.Prelude.{◌≡◌, ◌+◌, ◌-◌, ◌≤◌, ◌<◌}
+use Rattle.laws.specs.Basics.{refl, ◌∙◌, List, ℕ, suc, arith, length, rules}
 use Rattle.words.specs.messages.Places.{cleared, cleared_from}
 use Rattle.words.proofs.messages.clear_from.Given as goal
 

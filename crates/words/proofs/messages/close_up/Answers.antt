@@ -1,5 +1,6 @@
 -- `words::messages::close_up` meets its contract. Assumes nothing.
-use Rattle.laws.specs.Basics.{◌≡◌, ◌∙◌, ap, List, [], ◌∷◌, ℕ, ◌-◌, ◌≤◌, arith, length, set, length-set, rules}
+use Rattle.std.specs.Prelude.{◌≡◌, ◌∷◌, ◌-◌, ◌≤◌}
+use Rattle.laws.specs.Basics.{◌∙◌, ap, List, [], ℕ, arith, length, set, length-set, rules}
 use Rattle.words.specs.{Layout.state_size, Puts.puts, Puts.one, messages.Places.closing, messages.Places.cleared_from, messages.Places.closed_up}
 use Rattle.words.proofs.{Reading.set_is_put, messages.Closed.closing_closed}
 use Rattle.words.proofs.messages.close_up.Goals as goal

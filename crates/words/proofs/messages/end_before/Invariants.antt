@@ -1,5 +1,6 @@
 -- `words::messages::end_before` meets its contract. Assumes nothing.
-use Rattle.laws.specs.Basics.{◌≡◌, refl, sym, ◌∙◌, true, false, List, ℕ, zero, suc, ◌-◌, ◌≤◌, ◌<◌, arith, rules}
+use Rattle.std.specs.Prelude.{◌≡◌, ◌-◌, ◌≤◌, ◌<◌}
+use Rattle.laws.specs.Basics.{refl, sym, ◌∙◌, true, false, List, ℕ, zero, suc, arith, rules}
 use Rattle.words.specs.{Layout.message_in, Layout.is_message, messages.Places.end_below}
 use Rattle.words.proofs.messages.end_before.Given as goal
 

@@ -1,5 +1,6 @@
 -- `words::messages::first_unused` meets its contract. Assumes nothing.
-use Rattle.laws.specs.Basics.{◌≡◌, refl, sym, ◌∙◌, true, List, ℕ, ◌+◌, ◌-◌, ◌≤◌, ◌<◌, arith, rules, not-false}
+use Rattle.std.specs.Prelude.{◌≡◌, ◌+◌, ◌-◌, ◌≤◌, ◌<◌}
+use Rattle.laws.specs.Basics.{refl, sym, ◌∙◌, true, List, ℕ, arith, rules, not-false}
 use native.Mathlib.Numerals.{add-one}
 use Rattle.words.specs.{Layout.word, Layout.low_at, Layout.message_in, Layout.is_message, messages.Places.close_step, messages.Places.closing}
 use Rattle.words.proofs.{messages.Stayed.moved_nowhere}

@@ -1,5 +1,6 @@
 -- `words::messages::gather` meets its contract. Assumes nothing.
-use Rattle.laws.specs.Basics.{◌≡◌, refl, sym, ◌∙◌, ap, List, ℕ, ◌+◌, ◌-◌, ◌≤◌, ◌<◌, arith, length, rules, pick, by_bool}
+use Rattle.std.specs.Prelude.{◌≡◌, ◌+◌, ◌-◌, ◌≤◌, ◌<◌}
+use Rattle.laws.specs.Basics.{refl, sym, ◌∙◌, ap, List, ℕ, arith, length, rules, pick, by_bool}
 use native.Mathlib.Numerals.{add-one}
 use Rattle.words.specs.{Layout.message_in, Layout.is_message, messages.Places.moved_to, messages.Places.close_step, messages.Places.closing}
 use Rattle.words.proofs.messages.gather.Given as goal

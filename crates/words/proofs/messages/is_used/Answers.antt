@@ -1,5 +1,6 @@
 -- `words::messages::is_used` meets its contract. Assumes nothing.
-use Rattle.laws.specs.Basics.{◌≡◌, ◌∙◌, ap, not, ℕ, eqb, rules}
+use Rattle.std.specs.Prelude.{◌≡◌}
+use Rattle.laws.specs.Basics.{◌∙◌, ap, not, ℕ, eqb, rules}
 use Rattle.words.specs.Layout.{is_message}
 use Rattle.words.proofs.messages.is_used.Goals as goal
 

@@ -1,5 +1,6 @@
 -- `words::messages::lows_before` meets its contract. Assumes nothing.
-use Rattle.laws.specs.Basics.{◌≡◌, refl, List, ℕ, suc, ◌+◌, ◌-◌, ◌≤◌, ◌<◌, arith, eqb, rules, pick}
+use Rattle.std.specs.Prelude.{◌≡◌, ◌+◌, ◌-◌, ◌≤◌, ◌<◌}
+use Rattle.laws.specs.Basics.{refl, List, ℕ, suc, arith, eqb, rules, pick}
 use lib.Bits.{bit_or}
 use native.Mathlib.Numerals.{add-one}
 use Rattle.words.specs.{Layout.word, Layout.low_at, messages.Places.lows_below}

@@ -1,5 +1,6 @@
 -- `words::messages::make_room` meets its contract. Assumes nothing.
-use Rattle.laws.specs.Basics.{◌≡◌, refl, ◌∙◌, rules, eq-eqb, ne_eqb}
+use Rattle.std.specs.Prelude.{◌≡◌}
+use Rattle.laws.specs.Basics.{refl, ◌∙◌, rules, eq-eqb, ne_eqb}
 use Rattle.words.specs.{messages.Places.with_room}
 use Rattle.words.proofs.messages.make_room.Goals as goal
 

@@ -1,5 +1,6 @@
 -- `words::messages::move_to` meets its contract. Assumes nothing.
-use Rattle.laws.specs.Basics.{◌≡◌, ◌∙◌, List, ℕ, arith, length-set, rules}
+use Rattle.std.specs.Prelude.{◌≡◌}
+use Rattle.laws.specs.Basics.{◌∙◌, List, ℕ, arith, length-set, rules}
 use Rattle.model.specs.declared.Interval.{Interval}
 use Rattle.words.specs.{Layout.word, Layout.sender_at_of, Layout.receiver_at_of, Layout.carried_at, Layout.vector_in, Layout.message_in, Puts.puts}
 use Rattle.words.proofs.{Reading.set_is_put}

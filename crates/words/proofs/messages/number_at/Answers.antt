@@ -1,5 +1,6 @@
 -- `words::messages::number_at` meets its contract. Assumes nothing.
-use Rattle.laws.specs.Basics.{◌≡◌, ◌+◌, ◌*◌, arith, rules}
+use Rattle.std.specs.Prelude.{◌≡◌, ◌+◌, ◌*◌}
+use Rattle.laws.specs.Basics.{arith, rules}
 use Rattle.words.specs.Layout.{message_in}
 use Rattle.words.proofs.messages.number_at.Goals as goal
 

@@ -1,5 +1,6 @@
 -- `words::messages::place_of` meets its contract. Assumes nothing.
-use Rattle.laws.specs.Basics.{◌≡◌, refl, sym, ◌∙◌, ap, List, ℕ, zero, suc, ◌+◌, ◌-◌, ◌*◌, ◌/◌, ◌%◌, ◌≤◌, ◌<◌, arith, eqb, rules, eq-eqb, ne_eqb, pick, by_eq}
+use Rattle.std.specs.Prelude.{◌≡◌, ◌+◌, ◌-◌, ◌*◌, ◌/◌, ◌%◌, ◌≤◌, ◌<◌}
+use Rattle.laws.specs.Basics.{refl, sym, ◌∙◌, ap, List, ℕ, zero, suc, arith, eqb, rules, eq-eqb, ne_eqb, pick, by_eq}
 use lib.Bits.{bit_or, or_add_and, and_le_l, and_le_r}
 use Rattle.words.specs.Layout.{word, end_of, low_at, high_at, message_in}
 use Rattle.words.specs.declared.messages.Found.TheVariants.{At}

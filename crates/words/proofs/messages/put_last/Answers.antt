@@ -1,5 +1,6 @@
 -- `words::messages::put_last` meets its contract. Assumes nothing.
-use Rattle.laws.specs.Basics.{◌≡◌, refl, ◌∙◌, arith, length-set, rules}
+use Rattle.std.specs.Prelude.{◌≡◌}
+use Rattle.laws.specs.Basics.{refl, ◌∙◌, arith, length-set, rules}
 use Rattle.words.proofs.{Reading.set_is_put}
 use Rattle.words.specs.messages.Places.{put_last_of}
 use Rattle.words.proofs.messages.put_last.Goals as goal

@@ -1,5 +1,6 @@
 -- `words::messages::take_out` meets its contract. Assumes nothing.
-use Rattle.laws.specs.Basics.{◌≡◌, ◌∙◌, List, ℕ, ◌-◌, ◌≤◌, ◌<◌, arith, get_or, set, length-set, rules}
+use Rattle.std.specs.Prelude.{◌≡◌, ◌-◌, ◌≤◌, ◌<◌}
+use Rattle.laws.specs.Basics.{◌∙◌, List, ℕ, arith, get_or, set, length-set, rules}
 use Rattle.words.specs.{Layout.word, Layout.end_of, messages.Places.end_below, messages.Places.cleared, messages.Places.taken_out}
 use Rattle.words.proofs.{Reading.set_is_put, messages.Selected.end_under}
 use Rattle.words.proofs.messages.take_out.Goals as goal

@@ -1,6 +1,7 @@
 -- `words_line::line::find_members` meets its contract. The loop's invariant: the places of the members of the processes passed so far, and whether each has one.
 -- Assumes nothing.
-use Rattle.laws.specs.Basics.{◌≡◌, ◌∙◌, ap, not, ℕ, ◌-◌, ◌≤◌, arith, eqb, length, rules}
+use Rattle.std.specs.Prelude.{◌≡◌, ◌-◌, ◌≤◌}
+use Rattle.laws.specs.Basics.{◌∙◌, ap, not, ℕ, arith, eqb, length, rules}
 use Rattle.laws.specs.{Below.all_and, Loops.set_below, Loops.below_none, Loops.below_length, Loops.step_set, Loops.all_zero, Search.all_below}
 use Rattle.words_line.specs.Line.{past_latest, has_members, pasts_in}
 use Rattle.words_line.proofs.{LineRule.past_most}

@@ -1,5 +1,6 @@
 -- `words_line::line::index_in` meets its contract, by whether the state is stored. Assumes nothing.
-use Rattle.laws.specs.Basics.{◌≡◌, ◌∙◌, ap, ◌+◌, ◌-◌, arith, rules, le-leb, lt-leb}
+use Rattle.std.specs.Prelude.{◌≡◌, ◌+◌, ◌-◌}
+use Rattle.laws.specs.Basics.{◌∙◌, ap, arith, rules, le-leb, lt-leb}
 use Rattle.model.specs.declared.Interval.{Interval}
 use Rattle.model.specs.Words.{live_index_of}
 use Rattle.words.specs.Layout.{word, kept_count_at_of}

@@ -1,6 +1,7 @@
 -- `words_line::line::indexes_of` meets its contract. The loop's invariant: the indexes of the processes passed so far stand.
 -- Assumes nothing.
-use Rattle.laws.specs.Basics.{◌≡◌, ◌-◌, ◌≤◌, arith, get_or, rules}
+use Rattle.std.specs.Prelude.{◌≡◌, ◌-◌, ◌≤◌}
+use Rattle.laws.specs.Basics.{arith, get_or, rules}
 use Rattle.laws.specs.Loops.{set_below, below_none, step_set}
 use Rattle.words_line.specs.Line.{index_in_of, indexes_in}
 use Rattle.words_line.proofs.line.indexes_of.Goals as goal

@@ -1,5 +1,6 @@
 -- `words_line::line::latest_allowed` meets its contract, by whether the live state is within the limits. Assumes nothing.
-use Rattle.laws.specs.Basics.{◌≡◌, sym, ◌∙◌, ap, rules}
+use Rattle.std.specs.Prelude.{◌≡◌}
+use Rattle.laws.specs.Basics.{sym, ◌∙◌, ap, rules}
 use Rattle.words.specs.Layout.{part_at, vector_in}
 use Rattle.words_line.specs.Line.{is_within, past_latest}
 use Rattle.words_line.proofs.line.latest_allowed.Goals as goal

@@ -1,6 +1,7 @@
 -- `words_line::line::latest_kept` meets its contract. The loop's invariant: no checkpoint from place `past` on is within the limits.
 -- Assumes nothing.
-use Rattle.laws.specs.Basics.{◌≡◌, refl, sym, ◌∙◌, ap, true, false, List, ℕ, zero, suc, ◌-◌, ◌≤◌, ◌<◌, arith, rules}
+use Rattle.std.specs.Prelude.{◌≡◌, ◌-◌, ◌≤◌, ◌<◌}
+use Rattle.laws.specs.Basics.{refl, sym, ◌∙◌, ap, true, false, List, ℕ, zero, suc, arith, rules}
 use Rattle.model.specs.declared.Interval.{Interval}
 use Rattle.words.specs.Layout.{stored_at, vector_in}
 use Rattle.words_line.specs.Line.{is_within, past_kept}

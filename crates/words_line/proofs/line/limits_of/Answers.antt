@@ -1,6 +1,7 @@
 -- `words_line::line::limits_of` meets its contract. The loop's invariant: what is left of the failed set is its bits from f on, and the limits passed so far stand.
 -- Assumes nothing.
-use Rattle.laws.specs.Basics.{◌≡◌, ◌∙◌, ap, ℕ, ◌+◌, ◌-◌, ◌/◌, ◌%◌, ◌^◌, ◌≤◌, arith, eqb, rules, pick}
+use Rattle.std.specs.Prelude.{◌≡◌, ◌+◌, ◌-◌, ◌/◌, ◌%◌, ◌^◌, ◌≤◌}
+use Rattle.laws.specs.Basics.{◌∙◌, ap, ℕ, arith, eqb, rules, pick}
 use Rattle.laws.specs.{Bits.bits_all, Bits.bits_next, Loops.set_below, Loops.below_none, Loops.step_set}
 use Rattle.model.specs.declared.Interval.{Interval}
 use Rattle.words.specs.Layout.{word, part_at}

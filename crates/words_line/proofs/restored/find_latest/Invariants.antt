@@ -1,6 +1,7 @@
 -- `words_line::restored::find_latest` meets its contract. The loop's invariant: what is found of the checkpoints passed so far.
 -- Assumes nothing.
-use Rattle.laws.specs.Basics.{◌≡◌, refl, ◌∙◌, ap, List, ℕ, ◌+◌, ◌-◌, ◌≤◌, arith, replicate, rules}
+use Rattle.std.specs.Prelude.{◌≡◌, ◌+◌, ◌-◌, ◌≤◌}
+use Rattle.laws.specs.Basics.{refl, ◌∙◌, ap, List, ℕ, arith, replicate, rules}
 use native.Mathlib.Numerals.{add-one}
 use Rattle.model.specs.declared.Interval.{Interval}
 use Rattle.words.specs.Layout.{word, index_at_of, stored_at, vector_in}

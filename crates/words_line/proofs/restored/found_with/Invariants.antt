@@ -1,6 +1,7 @@
 -- `words_line::restored::found_with` meets its contract. The loop's invariant: the pins passed so far stand.
 -- Assumes nothing.
-use Rattle.laws.specs.Basics.{◌≡◌, refl, ◌∙◌, ◌-◌, ◌≤◌, arith, get_or, rules, pick}
+use Rattle.std.specs.Prelude.{◌≡◌, ◌-◌, ◌≤◌}
+use Rattle.laws.specs.Basics.{refl, ◌∙◌, arith, get_or, rules, pick}
 use Rattle.laws.specs.Loops.{set_below, below_none, step_set, below_all}
 use Rattle.model.specs.Words.{entry, below}
 use Rattle.words_line.specs.Restored.{found_row}

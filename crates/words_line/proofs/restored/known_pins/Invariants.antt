@@ -1,6 +1,7 @@
 -- `words_line::restored::known_pins` meets its contract. The loop's invariant: the pins passed so far stand.
 -- Assumes nothing.
-use Rattle.laws.specs.Basics.{◌≡◌, refl, ◌∙◌, ◌-◌, ◌≤◌, arith, eqb, get_or, rules, pick}
+use Rattle.std.specs.Prelude.{◌≡◌, ◌-◌, ◌≤◌}
+use Rattle.laws.specs.Basics.{refl, ◌∙◌, arith, eqb, get_or, rules, pick}
 use Rattle.laws.specs.Loops.{set_below, below_none, step_set, below_all}
 use Rattle.model.specs.Words.{entry}
 use Rattle.words_line.specs.Restored.{known_row}

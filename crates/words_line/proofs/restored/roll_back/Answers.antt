@@ -1,5 +1,6 @@
 -- `words_line::restored::roll_back` meets its contract. Assumes nothing.
-use Rattle.laws.specs.Basics.{◌≡◌, ◌∙◌, ap, List, [], ◌∷◌, ℕ, arith, rules}
+use Rattle.std.specs.Prelude.{◌≡◌, ◌∷◌}
+use Rattle.laws.specs.Basics.{◌∙◌, ap, List, [], ℕ, arith, rules}
 use Rattle.model.specs.declared.Interval.{Interval}
 use Rattle.model.specs.{Words.entry, Steps.advanced}
 use Rattle.words.specs.{Layout.mark_at, Layout.part_at, Layout.stored_at, Puts.put_from, Puts.puts, Puts.vector_put}

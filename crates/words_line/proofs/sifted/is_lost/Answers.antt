@@ -1,5 +1,6 @@
 -- `words_line::sifted::is_lost` meets its contract. Assumes nothing.
-use Rattle.laws.specs.Basics.{◌≡◌, ◌∙◌, List, ℕ, ◌+◌, ◌<◌, ltb, get_or, rules}
+use Rattle.std.specs.Prelude.{◌≡◌, ◌+◌, ◌<◌}
+use Rattle.laws.specs.Basics.{◌∙◌, List, ℕ, ltb, get_or, rules}
 use Rattle.model.specs.declared.{CheckpointIndex.CheckpointIndex, Interval.Interval}
 use Rattle.words.specs.Layout.{word, sender_at_of, carried_at, interval_of, message_in}
 use Rattle.words.proofs.Same.{vector_word}

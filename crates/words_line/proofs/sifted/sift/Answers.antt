@@ -1,5 +1,6 @@
 -- `words_line::sifted::sift` meets its contract. Assumes nothing.
-use Rattle.laws.specs.Basics.{◌≡◌, ◌∙◌, List, ℕ, ◌≤◌, ◌<◌, arith, length, set, length-set, rules}
+use Rattle.std.specs.Prelude.{◌≡◌, ◌≤◌, ◌<◌}
+use Rattle.laws.specs.Basics.{◌∙◌, List, ℕ, arith, length, set, length-set, rules}
 use Rattle.laws.specs.Lists.{select, table}
 use Rattle.model.specs.declared.CheckpointIndex.{CheckpointIndex}
 use Rattle.words.specs.{Layout.state_size, Layout.end_of, Layout.message_in, messages.Places.end_below}

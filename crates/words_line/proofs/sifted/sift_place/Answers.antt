@@ -1,5 +1,6 @@
 -- `words_line::sifted::sift_place` meets its contract: the place is not in use, or its message is lost, or it remains. Assumes nothing.
-use Rattle.laws.specs.Basics.{◌≡◌, refl, sym, ◌∙◌, true, false, List, ℕ, rules, not-true, not-false, pick}
+use Rattle.std.specs.Prelude.{◌≡◌}
+use Rattle.laws.specs.Basics.{refl, sym, ◌∙◌, true, false, List, ℕ, rules, not-true, not-false, pick}
 use Rattle.model.specs.declared.CheckpointIndex.{CheckpointIndex}
 use Rattle.words.specs.{Layout.message_in, Layout.is_message, messages.Places.cleared}
 use Rattle.words_line.specs.Sifted.{lost_to, remains, sifted_place}

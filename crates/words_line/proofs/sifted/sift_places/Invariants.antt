@@ -1,6 +1,7 @@
 -- `words_line::sifted::sift_places` meets its contract. The loop's invariant: the places passed so far are without the lost messages, and that many are left in them.
 -- Assumes nothing.
-use Rattle.laws.specs.Basics.{◌≡◌, refl, sym, ◌∙◌, ap, true, List, [], ◌∷◌, ℕ, ◌+◌, ◌-◌, ◌≤◌, ◌<◌, arith, length, length-append, rules, pick, by_bool}
+use Rattle.std.specs.Prelude.{◌≡◌, ◌∷◌, ◌+◌, ◌-◌, ◌≤◌, ◌<◌}
+use Rattle.laws.specs.Basics.{refl, sym, ◌∙◌, ap, true, List, [], ℕ, arith, length, length-append, rules, pick, by_bool}
 use native.Mathlib.Numerals.{add-one}
 use Rattle.laws.specs.Lists.{select, table}
 use Rattle.model.specs.declared.{CheckpointIndex.CheckpointIndex, Message.Message}

@@ -1,6 +1,7 @@
 -- `words_line::through::find_starts` meets its contract. The loop's invariant: where the vectors of the pairs passed so far start, and whether each is kept.
 -- Assumes nothing.
-use Rattle.laws.specs.Basics.{◌≡◌, ap, not, ℕ, ◌-◌, ◌≤◌, arith, eqb, rules}
+use Rattle.std.specs.Prelude.{◌≡◌, ◌-◌, ◌≤◌}
+use Rattle.laws.specs.Basics.{ap, not, ℕ, arith, eqb, rules}
 use Rattle.laws.specs.{Below.all_and, Loops.set_below, Loops.below_none, Loops.step_set, Loops.all_zero, Search.all_below}
 use Rattle.words.specs.Layout.{word, kept_count_at_of}
 use Rattle.words_line.specs.Through.{process_of, index_of_def, start_at, starts_in}

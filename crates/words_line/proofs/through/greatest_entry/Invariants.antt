@@ -1,6 +1,7 @@
 -- `words_line::through::greatest_entry` meets its contract. The loop's invariant: the greatest of the entries passed so far.
 -- Assumes nothing.
-use Rattle.laws.specs.Basics.{◌≡◌, refl, ◌∙◌, ap, List, ℕ, ◌+◌, ◌-◌, ◌≤◌, max, arith, get_or, rules}
+use Rattle.std.specs.Prelude.{◌≡◌, ◌+◌, ◌-◌, ◌≤◌}
+use Rattle.laws.specs.Basics.{refl, ◌∙◌, ap, List, ℕ, max, arith, get_or, rules}
 use native.Mathlib.Numerals.{add-one}
 use Rattle.laws.specs.{Loops.either}
 use Rattle.model.specs.declared.Interval.{Interval}

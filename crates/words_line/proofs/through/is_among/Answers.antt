@@ -1,6 +1,7 @@
 -- `words_line::through::is_among` meets its contract. The loop's invariant: whether a pair passed so far names the process.
 -- Assumes nothing.
-use Rattle.laws.specs.Basics.{◌≡◌, refl, ◌-◌, ◌≤◌, arith, eqb, rules}
+use Rattle.std.specs.Prelude.{◌≡◌, ◌-◌, ◌≤◌}
+use Rattle.laws.specs.Basics.{refl, arith, eqb, rules}
 use Rattle.laws.specs.{Loops.any_zero, Search.any_below}
 use Rattle.words_line.specs.Through.{process_of, among_first}
 use Rattle.words_line.proofs.{Iterations.any_or}

@@ -1,6 +1,7 @@
 -- `words_line::through::is_before_some` meets its contract. The loop's invariant: whether the checkpoint comes before a state passed so far.
 -- Assumes nothing.
-use Rattle.laws.specs.Basics.{◌≡◌, ◌∙◌, ap, ◌+◌, ◌-◌, ◌≤◌, arith, ltb, get_or, rules}
+use Rattle.std.specs.Prelude.{◌≡◌, ◌+◌, ◌-◌, ◌≤◌}
+use Rattle.laws.specs.Basics.{◌∙◌, ap, arith, ltb, get_or, rules}
 use Rattle.laws.specs.{Loops.any_zero, Search.any_below}
 use Rattle.model.specs.declared.Interval.{Interval}
 use Rattle.words.specs.Layout.{word}

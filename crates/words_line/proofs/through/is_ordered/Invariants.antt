@@ -1,6 +1,7 @@
 -- `words_line::through::is_ordered` meets its contract. The loop's invariant: whether a checkpoint passed so far comes before one of the states.
 -- Assumes nothing.
-use Rattle.laws.specs.Basics.{◌≡◌, ◌-◌, ◌≤◌, arith, rules}
+use Rattle.std.specs.Prelude.{◌≡◌, ◌-◌, ◌≤◌}
+use Rattle.laws.specs.Basics.{arith, rules}
 use Rattle.laws.specs.{Loops.any_zero, Search.any_below}
 use Rattle.words_line.specs.Through.{process_of, index_of_def, before_some}
 use Rattle.words_line.proofs.{Iterations.any_or}

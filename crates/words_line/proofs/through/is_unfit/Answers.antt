@@ -1,5 +1,6 @@
 -- `words_line::through::is_unfit` meets its contract. Assumes nothing.
-use Rattle.laws.specs.Basics.{◌≡◌, ◌||◌, rules, eq-eqb, ne_eqb, lt-ltb, le-ltb}
+use Rattle.std.specs.Prelude.{◌≡◌, ◌||◌}
+use Rattle.laws.specs.Basics.{rules, eq-eqb, ne_eqb, lt-ltb, le-ltb}
 use Rattle.words_line.proofs.through.is_unfit.Goals as goal
 
 pub returns-then-m-eq0 : goal.returns-then-m-eq0

@@ -1,6 +1,7 @@
 -- `words_line::through::names_absent` meets its contract. The loop's invariant: whether a pair passed so far names a process that is not below n.
 -- Assumes nothing.
-use Rattle.laws.specs.Basics.{◌≡◌, refl, ◌-◌, ◌≤◌, arith, leb, rules}
+use Rattle.std.specs.Prelude.{◌≡◌, ◌-◌, ◌≤◌}
+use Rattle.laws.specs.Basics.{refl, arith, leb, rules}
 use Rattle.laws.specs.{Loops.any_zero, Search.any_below}
 use Rattle.words_line.specs.Through.{process_of}
 use Rattle.words_line.proofs.{Iterations.any_or}

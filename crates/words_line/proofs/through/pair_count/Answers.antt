@@ -1,5 +1,6 @@
 -- `words_line::through::pair_count` meets its contract. Assumes nothing.
-use Rattle.laws.specs.Basics.{◌%◌, eq-eqb, ne_eqb}
+use Rattle.std.specs.Prelude.{◌%◌}
+use Rattle.laws.specs.Basics.{eq-eqb, ne_eqb}
 use Rattle.words_line.specs.Through.{pair_count_of}
 use Rattle.words_line.proofs.through.pair_count.Goals as goal
 

@@ -1,5 +1,6 @@
 -- `words_process::disk::bill_deleted` meets its contract. Assumes nothing.
-use Rattle.laws.specs.Basics.{◌≡◌, refl, ◌∙◌, ap, List, ℕ, ◌+◌, ◌*◌, ◌≤◌, ◌<◌, arith, length, rules}
+use Rattle.std.specs.Prelude.{◌≡◌, ◌+◌, ◌*◌, ◌≤◌, ◌<◌}
+use Rattle.laws.specs.Basics.{refl, ◌∙◌, ap, List, ℕ, arith, length, rules}
 use Rattle.words.proofs.Frames.{disk_stays}
 use Rattle.words_process.proofs.{Billing.deleted_only, Billing.deleted_is, Billing.written_stays}
 use native.Mathlib.Nat.{mul-le-mul, zero-mul}

@@ -1,5 +1,6 @@
 -- `words_process::disk::bill_stored` meets its contract. Assumes nothing.
-use Rattle.laws.specs.Basics.{◌≡◌, refl, ◌∙◌, ap, Bool, true, false, List, ℕ, ◌+◌, arith, length, rules, pick}
+use Rattle.std.specs.Prelude.{◌≡◌, ◌+◌}
+use Rattle.laws.specs.Basics.{refl, ◌∙◌, ap, Bool, true, false, List, ℕ, arith, length, rules, pick}
 use Rattle.words.proofs.Frames.{disk_stays}
 use Rattle.words_process.proofs.{Billing.written_only, Billing.written_is, Billing.deleted_stays}
 use Rattle.words.specs.{Frames.OnlyDisk, Layout.wide4, Puts.puts, Puts.puts4}

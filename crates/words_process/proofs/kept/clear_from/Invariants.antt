@@ -1,5 +1,6 @@
 -- `words_process::kept::clear_from` meets its contract. Assumes nothing.
-use Rattle.laws.specs.Basics.{◌≡◌, refl, ◌∙◌, ◌-◌, ◌≤◌, arith, length, rules}
+use Rattle.std.specs.Prelude.{◌≡◌, ◌-◌, ◌≤◌}
+use Rattle.laws.specs.Basics.{refl, ◌∙◌, arith, length, rules}
 use Rattle.words_process.specs.Kept.{Cleared}
 use Rattle.words_process.proofs.{Collecting.cleared_none, Collecting.cleared_step}
 use Rattle.words_process.proofs.kept.clear_from.Given as goal

@@ -1,5 +1,6 @@
 -- `words_process::kept::store` meets its contract. Assumes nothing.
-use Rattle.laws.specs.Basics.{◌∙◌, ap, [], ◌∷◌, ℕ, arith, set, length-set, rules}
+use Rattle.std.specs.Prelude.{◌∷◌}
+use Rattle.laws.specs.Basics.{◌∙◌, ap, [], ℕ, arith, set, length-set, rules}
 use Rattle.words.specs.{Layout.index_at_of, Layout.cause_at_of, Layout.stored_at, Puts.puts, Puts.vector_put}
 use Rattle.words.proofs.Reading.{set_is_put}
 use Rattle.words_process.proofs.kept.store.Goals as goal

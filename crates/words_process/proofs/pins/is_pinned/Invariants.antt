@@ -1,5 +1,6 @@
 -- `words_process::pins::is_pinned` meets its contract. Assumes nothing.
-use Rattle.laws.specs.Basics.{◌≡◌, sym, ◌∙◌, ap, Bool, ◌||◌, ℕ, ◌+◌, ◌-◌, ◌≤◌, arith, eqb, get_or, rules}
+use Rattle.std.specs.Prelude.{◌≡◌, ◌||◌, ◌+◌, ◌-◌, ◌≤◌}
+use Rattle.laws.specs.Basics.{sym, ◌∙◌, ap, Bool, ℕ, arith, eqb, get_or, rules}
 use native.Mathlib.Numerals.{add-one}
 use Rattle.laws.specs.{Loops.any_zero, Search.any_below, Select.or_swap}
 use Rattle.words_process.proofs.{PinRows.pinned_row}

@@ -1,5 +1,6 @@
 -- `words_process::pins::move_pins` meets its contract. Assumes nothing.
-use Rattle.laws.specs.Basics.{◌≡◌, ◌∙◌, ◌-◌, ◌≤◌, arith, get_or, rules, pick}
+use Rattle.std.specs.Prelude.{◌≡◌, ◌-◌, ◌≤◌}
+use Rattle.laws.specs.Basics.{◌∙◌, arith, get_or, rules, pick}
 use Rattle.laws.specs.Loops.{set_below, below_none, below_all, step_set}
 use Rattle.model.specs.Words.{in_set}
 use Rattle.words_process.specs.Pins.{moved_row}

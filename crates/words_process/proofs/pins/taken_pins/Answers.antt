@@ -1,5 +1,6 @@
 -- `words_process::pins::taken_pins` meets its contract. Assumes nothing.
-use Rattle.laws.specs.Basics.{◌≡◌, ◌∙◌, ap, Bool, List, ℕ, ◌^◌, get_or, rules, pick}
+use Rattle.std.specs.Prelude.{◌≡◌, ◌^◌}
+use Rattle.laws.specs.Basics.{◌∙◌, ap, Bool, List, ℕ, get_or, rules, pick}
 use lib.Bits.{bit_or}
 use Rattle.laws.specs.Tables.{table_same}
 use Rattle.model.specs.Words.{in_set}

@@ -1,5 +1,6 @@
 -- `words_process::steps::advanced` meets its contract. Assumes nothing.
-use Rattle.laws.specs.Basics.{◌≡◌, refl, sym, ◌∙◌, ap, List, ℕ, ◌+◌, ◌-◌, ◌≤◌, ◌<◌, arith, eqb, length, set, length-set, get_or-set_same, get_or-set_other, rules, eq-eqb, ne_eqb, eqb-true, pick, by_eq}
+use Rattle.std.specs.Prelude.{◌≡◌, ◌+◌, ◌-◌, ◌≤◌, ◌<◌}
+use Rattle.laws.specs.Basics.{refl, sym, ◌∙◌, ap, List, ℕ, arith, eqb, length, set, length-set, get_or-set_same, get_or-set_other, rules, eq-eqb, ne_eqb, eqb-true, pick, by_eq}
 use Rattle.laws.specs.{Loops.set_below, Loops.below_none, Loops.below_all, Loops.step_set, Lists.table, Tables.table_is}
 use Rattle.model.specs.declared.Interval.{Interval}
 use Rattle.model.specs.{Words.entry, Steps.advanced}

@@ -1,5 +1,6 @@
 -- `words_process::steps::checkpoint` meets its contract. Assumes nothing.
-use Rattle.laws.specs.Basics.{◌≡◌, ◌∙◌, ap, true, false, List, [], ◌∷◌, ℕ, ◌+◌, ◌-◌, ◌*◌, ◌<◌, arith, length, length-set, sets, rules}
+use Rattle.std.specs.Prelude.{◌≡◌, ◌∷◌, ◌+◌, ◌-◌, ◌*◌, ◌<◌}
+use Rattle.laws.specs.Basics.{◌∙◌, ap, true, false, List, [], ℕ, arith, length, length-set, sets, rules}
 use Rattle.model.specs.declared.{Interval.Interval, CheckpointIndex.CheckpointIndex}
 use Rattle.model.specs.{Sound.sound, Words.basic, Words.entry, Words.live_index_of, Words.blocks_of}
 use Rattle.model.specs.Steps.{listed, settled, gone, deletions, billed, advanced, checkpointed}

@@ -1,5 +1,6 @@
 -- `words_process::steps::receive` meets its contract. Assumes nothing.
-use Rattle.laws.specs.Basics.{◌≡◌, ◌∙◌, ap, Bool, true, false, List, [], ◌∷◌, ℕ, ◌+◌, ◌-◌, ◌*◌, ◌<◌, arith, length, get_or, sets, rules, pick}
+use Rattle.std.specs.Prelude.{◌≡◌, ◌∷◌, ◌+◌, ◌-◌, ◌*◌, ◌<◌}
+use Rattle.laws.specs.Basics.{◌∙◌, ap, Bool, true, false, List, [], ℕ, arith, length, get_or, sets, rules, pick}
 use Rattle.laws.specs.Tables.{length_table}
 use Rattle.model.specs.declared.{Interval.Interval, CheckpointIndex.CheckpointIndex}
 use Rattle.model.specs.{Sound.sound, Words.forced, Words.entry, Words.live_index_of, Words.blocks_of}

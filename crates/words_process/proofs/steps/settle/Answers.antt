@@ -1,5 +1,6 @@
 -- `words_process::steps::settle` meets its contract. Assumes nothing.
-use Rattle.laws.specs.Basics.{◌≡◌, refl, ◌∙◌, ap, not, List, ℕ, ◌-◌, ◌≤◌, ◌<◌, arith, length, length-set, sets, rules}
+use Rattle.std.specs.Prelude.{◌≡◌, ◌-◌, ◌≤◌, ◌<◌}
+use Rattle.laws.specs.Basics.{refl, ◌∙◌, ap, not, List, ℕ, arith, length, length-set, sets, rules}
 use Rattle.laws.specs.{Lists.select, Lists.table, Tables.length_table}
 use Rattle.model.specs.declared.Checkpoint.{Checkpoint}
 use Rattle.model.specs.{Steps.listed, Words.is_pinned}

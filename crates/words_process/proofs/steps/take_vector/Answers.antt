@@ -1,5 +1,6 @@
 -- `words_process::steps::take_vector` meets its contract. Assumes nothing.
-use Rattle.laws.specs.Basics.{◌≡◌, ◌∙◌, ap, Bool, true, false, List, [], ◌∷◌, ℕ, ◌<◌, arith, length, length-set, rules}
+use Rattle.std.specs.Prelude.{◌≡◌, ◌∷◌, ◌<◌}
+use Rattle.laws.specs.Basics.{◌∙◌, ap, Bool, true, false, List, [], ℕ, arith, length, length-set, rules}
 use Rattle.laws.specs.Loops.{either}
 use Rattle.model.specs.declared.Interval.{Interval}
 use Rattle.model.specs.Steps.{advanced, taken_vector, risen}

@@ -1,5 +1,6 @@
 -- `words_process::taking_in::take_entry` meets its contract. Assumes nothing.
-use Rattle.laws.specs.Basics.{◌≡◌, ◌∙◌, ap, List, [], ◌∷◌, ℕ, ◌+◌, ◌^◌, ◌<◌, set, rules, pick}
+use Rattle.std.specs.Prelude.{◌≡◌, ◌∷◌, ◌+◌, ◌^◌, ◌<◌}
+use Rattle.laws.specs.Basics.{◌∙◌, ap, List, [], ℕ, set, rules, pick}
 use Rattle.words.proofs.Reading.{set_is_put}
 use Rattle.words_process.specs.TakingIn.{taken_word, risen_bit}
 use Rattle.words_process.proofs.{TakingIn.or_risen, TakingIn.risen_less}

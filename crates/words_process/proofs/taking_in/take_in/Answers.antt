@@ -1,5 +1,6 @@
 -- `words_process::taking_in::take_in` meets its contract. Assumes nothing.
-use Rattle.laws.specs.Basics.{◌≡◌, refl, ◌∙◌, ◌-◌, ◌^◌, ◌≤◌, ◌<◌, arith, length, rules}
+use Rattle.std.specs.Prelude.{◌≡◌, ◌-◌, ◌^◌, ◌≤◌, ◌<◌}
+use Rattle.laws.specs.Basics.{refl, ◌∙◌, arith, length, rules}
 use Rattle.laws.specs.Bits.{bits_of}
 use Rattle.words.specs.Puts.{put_from}
 use Rattle.words.proofs.Reading.{put_none}

@@ -1,5 +1,6 @@
 -- `words_sound::process::are_kept_sound` meets its contract. Assumes nothing.
-use Rattle.laws.specs.Basics.{ap, ℕ, ◌-◌, rules}
+use Rattle.std.specs.Prelude.{◌-◌}
+use Rattle.laws.specs.Basics.{ap, ℕ, rules}
 use Rattle.words.specs.Layout.{word}
 use Rattle.words_sound.proofs.Judging.{Walked, none_walked, one_walked, walk_stops, walk_misses, walk_ends, last_is_lem}
 use Rattle.words_sound.proofs.process.are_kept_sound.Given as goal

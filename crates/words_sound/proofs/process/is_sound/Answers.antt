@@ -1,5 +1,6 @@
 -- `words_sound::process::is_sound` meets its contract. Assumes nothing.
-use Rattle.laws.specs.Basics.{not, ◌≡◌, ◌∙◌, ap, ℕ, ◌-◌, arith, rules}
+use Rattle.std.specs.Prelude.{◌≡◌, ◌-◌}
+use Rattle.laws.specs.Basics.{not, ◌∙◌, ap, ℕ, arith, rules}
 use Rattle.words.specs.Layout.{word, kept_count_at_of}
 use Rattle.words_sound.proofs.Judging.{numbers_fail, process_whole, numbers_few, numbers_own}
 use Rattle.words_sound.proofs.process.is_sound.Goals as goal

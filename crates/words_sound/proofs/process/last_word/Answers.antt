@@ -1,5 +1,6 @@
 -- `words_sound::process::last_word` meets its contract. Assumes nothing.
-use Rattle.laws.specs.Basics.{◌≡◌, ◌∙◌, ap, ℕ, ◌+◌, ◌-◌, arith, rules}
+use Rattle.std.specs.Prelude.{◌≡◌, ◌+◌, ◌-◌}
+use Rattle.laws.specs.Basics.{◌∙◌, ap, ℕ, arith, rules}
 use Rattle.model.specs.{declared.Interval.Interval, declared.CheckpointIndex.CheckpointIndex, Words.last_stored_of}
 use Rattle.words_sound.proofs.process.last_word.Goals as goal
 

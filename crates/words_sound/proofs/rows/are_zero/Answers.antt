@@ -1,5 +1,6 @@
 -- `words_sound::rows::are_zero` meets its contract: the gathered word is 0 exactly if every word so far is. Assumes nothing.
-use Rattle.laws.specs.Basics.{◌≡◌, refl, ◌&&◌, ◌-◌, ◌≤◌, arith, eqb, get_or, rules}
+use Rattle.std.specs.Prelude.{◌≡◌, ◌&&◌, ◌-◌, ◌≤◌}
+use Rattle.laws.specs.Basics.{refl, arith, eqb, get_or, rules}
 use lib.Bits.{bit_or}
 use Rattle.laws.specs.Search.{all_below}
 use Rattle.words_sound.proofs.{rows.Ors.or_zero, rows.Ors.or_step}

@@ -1,5 +1,6 @@
 -- `words_sound::rows::is_within` meets its contract: the gathered word is 0 exactly if every entry so far is within its limit. Assumes nothing.
-use Rattle.laws.specs.Basics.{◌≡◌, refl, ◌∙◌, ap, ℕ, ◌-◌, ◌≤◌, arith, eqb, leb, rules}
+use Rattle.std.specs.Prelude.{◌≡◌, ◌-◌, ◌≤◌}
+use Rattle.laws.specs.Basics.{refl, ◌∙◌, ap, ℕ, arith, eqb, leb, rules}
 use Rattle.laws.specs.Search.{all_below}
 use Rattle.model.specs.Words.{entry}
 use Rattle.words_sound.proofs.{rows.Ors.or_step, rows.Ors.less_zero}

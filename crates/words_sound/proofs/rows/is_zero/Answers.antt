@@ -1,5 +1,6 @@
 -- `words_sound::rows::is_zero` meets its contract: the gathered word is 0 exactly if every word so far is. Assumes nothing.
-use Rattle.laws.specs.Basics.{◌≡◌, refl, ◌-◌, ◌≤◌, arith, eqb, get_or, rules}
+use Rattle.std.specs.Prelude.{◌≡◌, ◌-◌, ◌≤◌}
+use Rattle.laws.specs.Basics.{refl, arith, eqb, get_or, rules}
 use Rattle.laws.specs.Search.{all_below}
 use Rattle.words_sound.proofs.{rows.Ors.or_step}
 use Rattle.words_sound.proofs.rows.is_zero.Goals as goal

@@ -1,5 +1,6 @@
 -- `words_sound::rows::limits_where` meets its contract. Assumes nothing.
-use Rattle.laws.specs.Basics.{◌≡◌, refl, ◌∙◌, ◌-◌, ◌≤◌, arith, eqb, rules, pick}
+use Rattle.std.specs.Prelude.{◌≡◌, ◌-◌, ◌≤◌}
+use Rattle.laws.specs.Basics.{refl, ◌∙◌, arith, eqb, rules, pick}
 use Rattle.laws.specs.Loops.{set_below, below_none, step_set, below_all}
 use Rattle.model.specs.Words.{entry}
 use Rattle.words_sound.proofs.rows.limits_where.Goals as goal

@@ -1,5 +1,6 @@
 -- `words_sound::rows::over_by` meets its contract. Assumes nothing.
-use Rattle.laws.specs.Basics.{◌≡◌, ◌∙◌, ap, ℕ, ◌-◌, ◌≤◌, arith, get_or, rules}
+use Rattle.std.specs.Prelude.{◌≡◌, ◌-◌, ◌≤◌}
+use Rattle.laws.specs.Basics.{◌∙◌, ap, ℕ, arith, get_or, rules}
 use lib.Bits.{bit_or}
 use Rattle.laws.specs.Loops.{set_below, below_none, step_set, below_all}
 use Rattle.model.specs.Words.{entry}

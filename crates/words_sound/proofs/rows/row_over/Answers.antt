@@ -1,5 +1,6 @@
 -- `words_sound::rows::row_over` meets its contract. Assumes nothing.
-use Rattle.laws.specs.Basics.{◌≡◌, ◌∙◌, ◌-◌, ◌≤◌, arith, get_or, rules}
+use Rattle.std.specs.Prelude.{◌≡◌, ◌-◌, ◌≤◌}
+use Rattle.laws.specs.Basics.{◌∙◌, arith, get_or, rules}
 use Rattle.laws.specs.Loops.{set_below, below_none, step_set, below_all}
 use Rattle.words_sound.proofs.rows.row_over.Goals as goal
 

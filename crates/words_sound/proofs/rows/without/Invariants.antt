@@ -1,5 +1,6 @@
 -- `words_sound::rows::without` meets its contract. Assumes nothing.
-use Rattle.laws.specs.Basics.{◌≡◌, ◌∙◌, ◌-◌, ◌≤◌, arith, eqb, get_or, rules, pick}
+use Rattle.std.specs.Prelude.{◌≡◌, ◌-◌, ◌≤◌}
+use Rattle.laws.specs.Basics.{◌∙◌, arith, eqb, get_or, rules, pick}
 use Rattle.laws.specs.Loops.{set_below, below_none, step_set, below_all}
 use Rattle.words_sound.proofs.rows.without.Given as goal
 

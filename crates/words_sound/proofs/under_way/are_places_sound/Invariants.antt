@@ -1,5 +1,6 @@
 -- `words_sound::under_way::are_places_sound` meets its contract. Assumes nothing.
-use Rattle.laws.specs.Basics.{◌-◌, arith, rules}
+use Rattle.std.specs.Prelude.{◌-◌}
+use Rattle.laws.specs.Basics.{arith, rules}
 use Rattle.laws.specs.Loops.{either}
 use Rattle.words_sound.proofs.Judging.{Read, none_read, one_read, none_there, read_fails, all_read}
 use Rattle.words_sound.proofs.under_way.are_places_sound.Given as goal

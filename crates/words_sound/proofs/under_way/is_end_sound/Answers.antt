@@ -1,5 +1,6 @@
 -- `words_sound::under_way::is_end_sound` meets its contract. Assumes nothing.
-use Rattle.laws.specs.Basics.{ap, not, ℕ, ◌-◌, eqb, rules, eq-eqb, ne_eqb}
+use Rattle.std.specs.Prelude.{◌-◌}
+use Rattle.laws.specs.Basics.{ap, not, ℕ, eqb, rules, eq-eqb, ne_eqb}
 use Rattle.words_sound.proofs.under_way.is_end_sound.Goals as goal
 
 pub returns-then-end-eq0 : goal.returns-then-end-eq0

@@ -1,5 +1,6 @@
 -- `in_place_recover::process::owns::own_then` meets its contract, by whether the member is stored. Assumes nothing.
-use Rattle.laws.specs.Basics.{◌≤◌, arith, ltb, leb, rules, ltb-true, leb-true}
+use Rattle.std.specs.Prelude.{◌≤◌}
+use Rattle.laws.specs.Basics.{arith, ltb, leb, rules, ltb-true, leb-true}
 use Rattle.laws.specs.Truth.{and_out}
 use Rattle.words.specs.Layout.{word, kept_count_at_of}
 use Rattle.in_place_recover.specs.Restored.{restored_own}

@@ -1,5 +1,6 @@
 -- `in_place_recover::process::restore::restore_live` meets its contract, by whether a pin becomes none. Assumes nothing.
-use Rattle.laws.specs.Basics.{sym, ◌∙◌, ap, List, ◌*◌, length, sets, rules}
+use Rattle.std.specs.Prelude.{◌*◌}
+use Rattle.laws.specs.Basics.{sym, ◌∙◌, ap, List, length, sets, rules}
 use Rattle.model.specs.declared.Checkpoint.{Checkpoint}
 use Rattle.model.specs.Steps.{listed}
 use Rattle.whole_runs.specs.Outcomes.{pairs}

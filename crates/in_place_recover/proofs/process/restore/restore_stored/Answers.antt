@@ -1,5 +1,6 @@
 -- `in_place_recover::process::restore::restore_stored` meets its contract. Assumes nothing.
-use Rattle.laws.specs.Basics.{◌∙◌, ap, List, ◌*◌, arith, length, sets, rules}
+use Rattle.std.specs.Prelude.{◌*◌}
+use Rattle.laws.specs.Basics.{◌∙◌, ap, List, arith, length, sets, rules}
 use Rattle.model.specs.{declared.Checkpoint.Checkpoint, declared.Disk.Disk, Steps.listed}
 use Rattle.whole_runs.specs.Outcomes.{pairs}
 use Rattle.in_place_recover.proofs.ProcessRestoring.{stored_ready, stored_gone, stored_moves}

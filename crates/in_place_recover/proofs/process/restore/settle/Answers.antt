@@ -1,5 +1,6 @@
 -- `in_place_recover::process::restore::settle` meets its contract. Assumes nothing.
-use Rattle.laws.specs.Basics.{◌∙◌, ap, List, ◌*◌, arith, length, length-set, sets, rules}
+use Rattle.std.specs.Prelude.{◌*◌}
+use Rattle.laws.specs.Basics.{◌∙◌, ap, List, arith, length, length-set, sets, rules}
 use Rattle.model.specs.declared.Checkpoint.{Checkpoint}
 use Rattle.model.specs.Steps.{listed}
 use Rattle.whole_runs.specs.Outcomes.{pairs}

@@ -1,5 +1,6 @@
 -- `library_calls::run_words::fill::are_nothing` meets its contract. Assumes nothing.
-use Rattle.laws.specs.Basics.{◌≡◌, ◌&&◌, ◌≤◌, drop}
+use Rattle.std.specs.Prelude.{◌≡◌, ◌&&◌, ◌≤◌}
+use Rattle.laws.specs.Basics.{drop}
 use Rattle.laws.specs.{Tests.every}
 use Rattle.model.specs.Sound.{is_nothing_of}
 use Rattle.library_calls.proofs.run_words.fill.are_nothing.Given as goal

@@ -1,5 +1,6 @@
 -- `library_calls::run_words::fill::fill` meets its contract. Assumes nothing.
-use Rattle.laws.specs.Basics.{◌≡◌, ◌∙◌, ◌&&◌, length}
+use Rattle.std.specs.Prelude.{◌≡◌, ◌&&◌}
+use Rattle.laws.specs.Basics.{◌∙◌, length}
 use Rattle.library_calls.proofs.{run_words.Sizes.sizes, run_words.Filling.count_most, run_words.Filling.fill_ends}
 use Rattle.library_calls.proofs.run_words.fill.fill.Goals as goal
 

@@ -1,5 +1,6 @@
 -- `library_calls::run_words::fill::is_zero` meets its contract. Assumes nothing.
-use Rattle.laws.specs.Basics.{◌≡◌, refl, ◌∙◌, arith, eqb, rules}
+use Rattle.std.specs.Prelude.{◌≡◌}
+use Rattle.laws.specs.Basics.{refl, ◌∙◌, arith, eqb, rules}
 use Rattle.laws.specs.Search.{all_below}
 use Rattle.model.specs.Words.{entry}
 use Rattle.words_sound.proofs.rows.Ors.{or_step}

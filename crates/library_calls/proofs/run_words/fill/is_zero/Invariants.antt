@@ -1,5 +1,6 @@
 -- `library_calls::run_words::fill::is_zero` meets its contract. Assumes nothing.
-use Rattle.laws.specs.Basics.{◌≡◌, ◌≤◌, eqb}
+use Rattle.std.specs.Prelude.{◌≡◌, ◌≤◌}
+use Rattle.laws.specs.Basics.{eqb}
 use Rattle.laws.specs.Search.{all_below}
 use Rattle.model.specs.Words.{entry}
 use Rattle.library_calls.proofs.run_words.fill.is_zero.Given as goal

@@ -1,5 +1,6 @@
 -- `library_calls::run_words::fill::put_kept` meets its contract. Assumes nothing.
-use Rattle.laws.specs.Basics.{◌≡◌, refl, ◌∙◌, [], ◌/◌, ◌%◌, arith, get_or, length-set, rules}
+use Rattle.std.specs.Prelude.{◌≡◌, ◌/◌, ◌%◌}
+use Rattle.laws.specs.Basics.{refl, ◌∙◌, [], arith, get_or, length-set, rules}
 use Rattle.laws.specs.{Below.all_and, Loops.iter_none, Loops.iter_more, Loops.all_zero}
 use Rattle.model.specs.Words.{past_end}
 use Rattle.library_calls.specs.{run_words.Fits.place_fits, run_words.Fits.kept_fits, run_words.Filled.kept_filled}

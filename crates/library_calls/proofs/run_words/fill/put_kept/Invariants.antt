@@ -1,5 +1,6 @@
 -- `library_calls::run_words::fill::put_kept` meets its contract. Assumes nothing.
-use Rattle.laws.specs.Basics.{◌≡◌, [], ◌/◌, ◌%◌, ◌≤◌, length, get_or}
+use Rattle.std.specs.Prelude.{◌≡◌, ◌/◌, ◌%◌, ◌≤◌}
+use Rattle.laws.specs.Basics.{[], length, get_or}
 use Rattle.laws.specs.{Loops.iter, Search.all_below}
 use Rattle.model.specs.Words.{past_end}
 use Rattle.library_calls.specs.{run_words.Fits.place_fits, run_words.Filled.kept_filled}

@@ -1,5 +1,6 @@
 -- `library_calls::run_words::fill::put_messages` meets its contract. Assumes nothing.
-use Rattle.laws.specs.Basics.{◌≡◌, refl, ◌∙◌, arith, get_or, rules}
+use Rattle.std.specs.Prelude.{◌≡◌}
+use Rattle.laws.specs.Basics.{refl, ◌∙◌, arith, get_or, rules}
 use Rattle.laws.specs.{Below.all_and, Loops.iter_none, Loops.iter_more, Loops.all_zero}
 use Rattle.library_calls.specs.{run_words.Fits.past_messages, run_words.Fits.one_fits, run_words.Fits.messages_fit_of, run_words.Filled.messages_filled}
 use Rattle.library_calls.proofs.run_words.fill.put_messages.Goals as goal

@@ -1,5 +1,6 @@
 -- `library_calls::run_words::fill::put_messages` meets its contract. Assumes nothing.
-use Rattle.laws.specs.Basics.{◌≡◌, ◌≤◌, length, get_or}
+use Rattle.std.specs.Prelude.{◌≡◌, ◌≤◌}
+use Rattle.laws.specs.Basics.{length, get_or}
 use Rattle.laws.specs.{Loops.iter, Search.all_below}
 use Rattle.library_calls.specs.{run_words.Fits.past_messages, run_words.Fits.one_fits, run_words.Filled.messages_filled}
 use Rattle.library_calls.proofs.run_words.fill.put_messages.Given as goal

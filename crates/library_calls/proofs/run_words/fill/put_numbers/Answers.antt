@@ -1,5 +1,6 @@
 -- `library_calls::run_words::fill::put_numbers` meets its contract. Assumes nothing.
-use Rattle.laws.specs.Basics.{◌≡◌, sym, ◌∙◌, arith, length, length-set}
+use Rattle.std.specs.Prelude.{◌≡◌}
+use Rattle.laws.specs.Basics.{sym, ◌∙◌, arith, length, length-set}
 use Rattle.library_calls.proofs.{run_words.Steps.numbers_put}
 use Rattle.library_calls.proofs.run_words.fill.put_numbers.Goals as goal
 

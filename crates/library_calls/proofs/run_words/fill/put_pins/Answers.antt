@@ -1,5 +1,6 @@
 -- `library_calls::run_words::fill::put_pins` meets its contract. Assumes nothing.
-use Rattle.laws.specs.Basics.{◌≡◌, refl, arith, get_or, length-set, rules}
+use Rattle.std.specs.Prelude.{◌≡◌}
+use Rattle.laws.specs.Basics.{refl, arith, get_or, length-set, rules}
 use Rattle.laws.specs.{Below.all_and, Loops.all_zero}
 use Rattle.model.specs.declared.Pin.TheVariants.{Nothing}
 use Rattle.words.proofs.Reading.{put_none, put_step}

@@ -1,5 +1,6 @@
 -- `library_calls::run_words::fill::put_pins` meets its contract. Assumes nothing.
-use Rattle.laws.specs.Basics.{◌≡◌, ◌≤◌, length, get_or}
+use Rattle.std.specs.Prelude.{◌≡◌, ◌≤◌}
+use Rattle.laws.specs.Basics.{length, get_or}
 use Rattle.laws.specs.{Search.all_below}
 use Rattle.model.specs.declared.Pin.TheVariants.{Nothing}
 use Rattle.words.specs.Puts.{put_from}

@@ -1,5 +1,6 @@
 -- `library_calls::run_words::fill::put_rows` meets its contract. Assumes nothing.
-use Rattle.laws.specs.Basics.{◌≡◌, false, [], ◌≤◌, length, get_or}
+use Rattle.std.specs.Prelude.{◌≡◌, ◌≤◌}
+use Rattle.laws.specs.Basics.{false, [], length, get_or}
 use Rattle.laws.specs.{Loops.iter, Search.all_below}
 use Rattle.library_calls.specs.{run_words.Fits.row_fits_of, run_words.Filled.rows_filled}
 use Rattle.library_calls.proofs.run_words.fill.put_rows.Given as goal

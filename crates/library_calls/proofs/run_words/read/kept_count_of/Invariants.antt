@@ -1,5 +1,5 @@
 -- `library_calls::run_words::read::kept_count_of` meets its contract. Assumes nothing.
-use Rattle.laws.specs.Basics.{◌≡◌, ◌≤◌}
+use Rattle.std.specs.Prelude.{◌≡◌, ◌≤◌}
 use Rattle.laws.specs.Loops.{set_below}
 use Rattle.words.specs.Layout.{word, kept_count_at_of}
 use Rattle.library_calls.proofs.run_words.read.kept_count_of.Given as goal

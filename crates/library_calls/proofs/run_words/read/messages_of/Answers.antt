@@ -1,5 +1,6 @@
 -- `library_calls::run_words::read::messages_of` meets its contract. Assumes nothing.
-use Rattle.laws.specs.Basics.{◌≡◌, refl, ◌∙◌, ap, arith, replicate, rules}
+use Rattle.std.specs.Prelude.{◌≡◌}
+use Rattle.laws.specs.Basics.{refl, ◌∙◌, ap, arith, replicate, rules}
 use Rattle.laws.specs.{Lists.select, Lists.table, Prefixes.placed_none}
 use Rattle.model.specs.declared.Message.{Message}
 use Rattle.model.specs.Words.{no_message}

@@ -1,5 +1,6 @@
 -- `library_calls::run_words::read::messages_of` meets its contract. Assumes nothing.
-use Rattle.laws.specs.Basics.{◌≡◌, ◌≤◌, length}
+use Rattle.std.specs.Prelude.{◌≡◌, ◌≤◌}
+use Rattle.laws.specs.Basics.{length}
 use Rattle.laws.specs.{Lists.placed}
 use Rattle.model.specs.Words.{no_message}
 use Rattle.library_calls.proofs.run_words.Tables.{first_messages}

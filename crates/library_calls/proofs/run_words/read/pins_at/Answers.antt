@@ -1,5 +1,6 @@
 -- `library_calls::run_words::read::pins_at` meets its contract. Assumes nothing.
-use Rattle.laws.specs.Basics.{◌≡◌, refl, ◌∙◌, ◌+◌, arith, rules}
+use Rattle.std.specs.Prelude.{◌≡◌, ◌+◌}
+use Rattle.laws.specs.Basics.{refl, ◌∙◌, arith, rules}
 use Rattle.laws.specs.Loops.{below_none, step_set, below_all}
 use Rattle.words.specs.Layout.{word, pin_of_def, pins_in}
 use Rattle.library_calls.proofs.run_words.read.pins_at.Goals as goal

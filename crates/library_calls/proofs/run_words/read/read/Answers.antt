@@ -1,5 +1,6 @@
 -- `library_calls::run_words::read::read` meets its contract. Assumes nothing.
-use Rattle.laws.specs.Basics.{◌≡◌, sym, ◌∙◌, ap, List, ◌*◌, ◌%◌, ◌≤◌, arith, length, rules}
+use Rattle.std.specs.Prelude.{◌≡◌, ◌*◌, ◌%◌, ◌≤◌}
+use Rattle.laws.specs.Basics.{sym, ◌∙◌, ap, List, arith, length, rules}
 use Rattle.model.specs.declared.{Interval.Interval, Pin.Pin, Checkpoint.Checkpoint}
 use Rattle.words.specs.Layout.{count_of}
 use Rattle.words.proofs.View.{fits_size, fits_end, end_most}

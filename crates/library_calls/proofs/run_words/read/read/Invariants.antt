@@ -1,5 +1,5 @@
 -- `library_calls::run_words::read::read` meets its contract. Assumes nothing.
-use Rattle.laws.specs.Basics.{◌≡◌, ◌≤◌}
+use Rattle.std.specs.Prelude.{◌≡◌, ◌≤◌}
 use Rattle.library_calls.proofs.run_words.Tables.{so_far}
 use Rattle.library_calls.proofs.run_words.read.read.Given as goal
 

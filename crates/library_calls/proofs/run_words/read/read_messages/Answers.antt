@@ -1,5 +1,6 @@
 -- `library_calls::run_words::read::read_messages` meets its contract. Assumes nothing.
-use Rattle.laws.specs.Basics.{◌≡◌, arith, length}
+use Rattle.std.specs.Prelude.{◌≡◌}
+use Rattle.laws.specs.Basics.{arith, length}
 use Rattle.words.proofs.View.{fits_size, fits_end, end_most}
 use Rattle.library_calls.proofs.{run_words.ReadOut.count_same, run_words.ReadOut.messages_ends}
 use Rattle.library_calls.proofs.run_words.read.read_messages.Goals as goal

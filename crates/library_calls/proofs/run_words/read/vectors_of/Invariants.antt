@@ -1,5 +1,5 @@
 -- `library_calls::run_words::read::vectors_of` meets its contract. Assumes nothing.
-use Rattle.laws.specs.Basics.{◌≡◌, ◌≤◌}
+use Rattle.std.specs.Prelude.{◌≡◌, ◌≤◌}
 use Rattle.laws.specs.Loops.{set_below}
 use Rattle.words.specs.Layout.{part_at, vector_in}
 use Rattle.library_calls.proofs.run_words.read.vectors_of.Given as goal

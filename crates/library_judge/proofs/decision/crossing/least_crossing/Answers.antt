@@ -1,6 +1,7 @@
 -- `library_judge::decision::crossing::least_crossing` meets its contract.
 -- Assumes nothing.
-use Rattle.laws.specs.Basics.{◌≡◌, arith, rules}
+use Rattle.std.specs.Prelude.{◌≡◌}
+use Rattle.laws.specs.Basics.{arith, rules}
 use Rattle.library_judge.specs.decision.Crossings.{least_none, least_more}
 use Rattle.library_judge.proofs.decision.crossing.least_crossing.Goals as goal
 

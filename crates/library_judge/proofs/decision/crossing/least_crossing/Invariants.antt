@@ -1,6 +1,6 @@
 -- `library_judge::decision::crossing::least_crossing` meets its contract.
 -- Assumes nothing.
-use Rattle.laws.specs.Basics.{◌≡◌, ◌≤◌}
+use Rattle.std.specs.Prelude.{◌≡◌, ◌≤◌}
 use Rattle.library_judge.specs.decision.Crossings.{least_crossing_of}
 use Rattle.library_judge.proofs.decision.crossing.least_crossing.Given as goal
 

@@ -1,6 +1,7 @@
 -- `library_judge::decision::crossing::near_end` meets its contract.
 -- Assumes nothing.
-use Rattle.laws.specs.Basics.{◌≡◌, false, ℕ, ◌≤◌, ◌<◌}
+use Rattle.std.specs.Prelude.{◌≡◌, ◌≤◌, ◌<◌}
+use Rattle.laws.specs.Basics.{false, ℕ}
 use Rattle.library_judge.specs.decision.Crossings.{least_crossing_of}
 use Rattle.library_judge.proofs.decision.crossing.near_end.Given as goal
 

@@ -1,6 +1,7 @@
 -- `library_judge::decision::flat::put_row` meets its contract.
 -- Assumes nothing.
-use Rattle.laws.specs.Basics.{◌≡◌, refl, arith, length-set, rules}
+use Rattle.std.specs.Prelude.{◌≡◌}
+use Rattle.laws.specs.Basics.{refl, arith, length-set, rules}
 use Rattle.library_judge.specs.decision.Rows.{put_row_of, put_none, put_more}
 use Rattle.library_judge.proofs.decision.flat.put_row.Goals as goal
 

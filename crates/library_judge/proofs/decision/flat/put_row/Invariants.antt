@@ -1,6 +1,7 @@
 -- `library_judge::decision::flat::put_row` meets its contract.
 -- Assumes nothing.
-use Rattle.laws.specs.Basics.{◌≡◌, ◌≤◌, length}
+use Rattle.std.specs.Prelude.{◌≡◌, ◌≤◌}
+use Rattle.laws.specs.Basics.{length}
 use Rattle.library_judge.specs.decision.Rows.{put_first}
 use Rattle.library_judge.proofs.decision.flat.put_row.Given as goal
 

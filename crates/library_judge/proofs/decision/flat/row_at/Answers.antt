@@ -1,6 +1,7 @@
 -- `row_at` meets its contract: the entries below f are those of the row.
 -- Assumes nothing.
-use Rattle.laws.specs.Basics.{◌≡◌, refl, ◌∙◌, List, ℕ, ◌+◌, ◌*◌, arith, get_or, replicate, length-replicate, rules}
+use Rattle.std.specs.Prelude.{◌≡◌, ◌+◌, ◌*◌}
+use Rattle.laws.specs.Basics.{refl, ◌∙◌, List, ℕ, arith, get_or, replicate, length-replicate, rules}
 use Rattle.laws.specs.Loops.{below_none, below_all, step_set}
 use Rattle.model.specs.declared.Interval.{Interval}
 use Rattle.library_judge.specs.decision.Rows.{row_of}

@@ -1,6 +1,7 @@
 -- `row_at` meets its contract: the entries below f are those of the row.
 -- Assumes nothing.
-use Rattle.laws.specs.Basics.{◌≡◌, List, ℕ, ◌+◌, ◌*◌, ◌≤◌, get_or}
+use Rattle.std.specs.Prelude.{◌≡◌, ◌+◌, ◌*◌, ◌≤◌}
+use Rattle.laws.specs.Basics.{List, ℕ, get_or}
 use Rattle.laws.specs.Loops.{set_below}
 use Rattle.model.specs.declared.Interval.{Interval}
 use Rattle.library_judge.proofs.decision.flat.row_at.Given as goal

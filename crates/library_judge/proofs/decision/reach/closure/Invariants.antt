@@ -1,6 +1,7 @@
 -- `library_judge::decision::reach::closure` meets its contract.
 -- Assumes nothing.
-use Rattle.laws.specs.Basics.{◌≡◌, false, ◌+◌}
+use Rattle.std.specs.Prelude.{◌≡◌, ◌+◌}
+use Rattle.laws.specs.Basics.{false}
 use Rattle.library_judge.proofs.decision.Passes.{Lowered, Closed, total, mark}
 use Rattle.library_judge.proofs.decision.reach.closure.Given as goal
 

@@ -1,6 +1,7 @@
 -- `library_judge::decision::reach::first_row` meets its contract.
 -- Assumes nothing.
-use Rattle.laws.specs.Basics.{◌≡◌, ℕ, ◌-◌, ◌≤◌, ◌<◌, get_or}
+use Rattle.std.specs.Prelude.{◌≡◌, ◌-◌, ◌≤◌, ◌<◌}
+use Rattle.laws.specs.Basics.{ℕ, get_or}
 use Rattle.library_judge.specs.decision.Rows.{entry_at}
 use Rattle.library_judge.proofs.decision.reach.first_row.Given as goal
 

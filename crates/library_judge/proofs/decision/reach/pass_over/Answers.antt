@@ -1,6 +1,7 @@
 -- `library_judge::decision::reach::pass_over` meets its contract.
 -- Assumes nothing.
-use Rattle.laws.specs.Basics.{◌≡◌, refl, sym, ◌∙◌, ap, ◌-◌, arith, rules}
+use Rattle.std.specs.Prelude.{◌≡◌, ◌-◌}
+use Rattle.laws.specs.Basics.{refl, sym, ◌∙◌, ap, arith, rules}
 use Rattle.library_judge.specs.decision.Reach.{passed, passed_one}
 use Rattle.library_judge.proofs.decision.reach.pass_over.Goals as goal
 

@@ -1,6 +1,6 @@
 -- `library_judge::decision::reach::pass_over` meets its contract.
 -- Assumes nothing.
-use Rattle.laws.specs.Basics.{◌≡◌, ◌≤◌}
+use Rattle.std.specs.Prelude.{◌≡◌, ◌≤◌}
 use Rattle.library_judge.specs.decision.Reach.{passed}
 use Rattle.library_judge.proofs.decision.reach.pass_over.Given as goal
 

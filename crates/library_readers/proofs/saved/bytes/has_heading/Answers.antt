@@ -1,5 +1,6 @@
 -- `library_readers::saved::bytes::has_heading` meets its contract. Assumes nothing.
-use Rattle.laws.specs.Basics.{◌≡◌, true, ◌-◌, ◌≤◌, arith, eqb, get_or, rules}
+use Rattle.std.specs.Prelude.{◌≡◌, ◌-◌, ◌≤◌}
+use Rattle.laws.specs.Basics.{true, arith, eqb, get_or, rules}
 use Rattle.laws.specs.{Loops.all_zero, Search.all_below}
 use Rattle.library_readers.specs.saved.Format.{heading, has_heading_of}
 use Rattle.library_readers.proofs.{saved.Parts.head_off, saved.Parts.head_on}

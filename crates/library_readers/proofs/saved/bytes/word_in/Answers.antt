@@ -1,5 +1,6 @@
 -- `library_readers::saved::bytes::word_in` meets its contract. Assumes nothing.
-use Rattle.laws.specs.Basics.{◌≡◌, ◌+◌, ◌*◌, arith, rules}
+use Rattle.std.specs.Prelude.{◌≡◌, ◌+◌, ◌*◌}
+use Rattle.laws.specs.Basics.{arith, rules}
 use Rattle.library_readers.specs.saved.Format.{word_in_of}
 use Rattle.library_readers.proofs.saved.bytes.word_in.Goals as goal
 

@@ -1,5 +1,6 @@
 -- `library_readers::saved::bytes::write_heading` meets its contract. Assumes nothing.
-use Rattle.laws.specs.Basics.{◌≡◌, refl, ◌∙◌, ap, List, ℕ, ◌-◌, ◌≤◌, arith, length, get_or, length-set, sets, rules}
+use Rattle.std.specs.Prelude.{◌≡◌, ◌-◌, ◌≤◌}
+use Rattle.laws.specs.Basics.{refl, ◌∙◌, ap, List, ℕ, arith, length, get_or, length-set, sets, rules}
 use Rattle.laws.specs.{Below.below_written, Loops.set_below, Loops.below_none, Loops.step_set}
 use Rattle.library_readers.specs.saved.Format.{heading}
 use Rattle.library_readers.proofs.{saved.Parts.heading_table}

@@ -1,5 +1,6 @@
 -- `library_readers::saved::bytes::write_words` meets its contract. Assumes nothing.
-use Rattle.laws.specs.Basics.{◌≡◌, refl, ◌∙◌, ap, List, ℕ, ◌-◌, ◌≤◌, ◌<◌, arith, length, take, sets, rules}
+use Rattle.std.specs.Prelude.{◌≡◌, ◌-◌, ◌≤◌, ◌<◌}
+use Rattle.laws.specs.Basics.{refl, ◌∙◌, ap, List, ℕ, arith, length, take, sets, rules}
 use lib.Seq.{take_all}
 use Rattle.library_readers.specs.saved.Format.{word_bytes}
 use Rattle.library_readers.proofs.{saved.Parts.none_written, saved.Parts.one_written}

@@ -1,5 +1,6 @@
 -- `library_readers::saved::checksum::crc32c_of` meets its contract: after k iterations, what is left of the first k bytes. Assumes nothing.
-use Rattle.laws.specs.Basics.{◌≡◌, refl, sym, ◌∙◌, ap, List, ℕ, ◌+◌, ◌-◌, ◌≤◌, ◌<◌, arith, length, get_or, take, rules}
+use Rattle.std.specs.Prelude.{◌≡◌, ◌+◌, ◌-◌, ◌≤◌, ◌<◌}
+use Rattle.laws.specs.Basics.{refl, sym, ◌∙◌, ap, List, ℕ, arith, length, get_or, take, rules}
 use lib.Bits.{bit_xor}
 use Rattle.laws.specs.Prefixes.{take_more}
 use Rattle.library_readers.specs.saved.Castagnoli.{ones, byte_taken, remainder, crc32c}

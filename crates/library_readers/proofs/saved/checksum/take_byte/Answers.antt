@@ -1,5 +1,6 @@
 -- `library_readers::saved::checksum::take_byte` meets its contract. Assumes nothing.
-use Rattle.laws.specs.Basics.{◌≡◌, ◌∙◌, ap, ℕ, ◌-◌, ◌≤◌, arith, rules}
+use Rattle.std.specs.Prelude.{◌≡◌, ◌-◌, ◌≤◌}
+use Rattle.laws.specs.Basics.{◌∙◌, ap, ℕ, arith, rules}
 use lib.Bits.{bit_xor}
 use Rattle.laws.specs.Loops.{iter, iter_none, iter_more}
 use Rattle.library_readers.specs.saved.Castagnoli.{bit_taken, byte_taken}

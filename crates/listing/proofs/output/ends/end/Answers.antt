@@ -1,6 +1,7 @@
 -- `listing::output::ends::end` meets its contract: nothing is left over, one to three bytes are, or the last record was taken before.
 -- Assumes nothing.
-use Rattle.laws.specs.Basics.{◌≤◌, arith, length, rules}
+use Rattle.std.specs.Prelude.{◌≤◌}
+use Rattle.laws.specs.Basics.{arith, length, rules}
 use Rattle.listing.proofs.{output.Endings.left_over, output.Endings.none_left, output.Endings.past_left}
 use Rattle.listing.proofs.output.ends.end.Goals as goal
 

@@ -1,6 +1,7 @@
 -- `listing::output::line::print` meets its contract: the line is no longer than the room.
 -- Assumes nothing.
-use Rattle.laws.specs.Basics.{◌≤◌, arith, rules}
+use Rattle.std.specs.Prelude.{◌≤◌}
+use Rattle.laws.specs.Basics.{arith, rules}
 use Rattle.listing.proofs.{output.Lines.line_fits}
 use Rattle.listing.proofs.output.line.print.Goals as goal
 

@@ -1,6 +1,7 @@
 -- `machines::programs::numbers::number_in` meets its contract. The loop's invariant: the number that the first i digits are.
 -- Assumes nothing.
-use Rattle.laws.specs.Basics.{◌≡◌, refl, ◌∙◌, ap, some, arith, length, rules}
+use Rattle.std.specs.Prelude.{◌≡◌}
+use Rattle.laws.specs.Basics.{refl, ◌∙◌, ap, some, arith, length, rules}
 use Rattle.laws.specs.Loops.{iter_more}
 use Rattle.machines.specs.programs.Numbers.{stands_for}
 use Rattle.machines.proofs.programs.Digits.{no_word, first_value, number_is}

@@ -1,6 +1,7 @@
 -- `machines::programs::numbers::number_in` meets its contract. The loop's invariant: the number that the first i digits are.
 -- Assumes nothing.
-use Rattle.laws.specs.Basics.{◌≡◌, some, ◌-◌, ◌≤◌, length, get_or}
+use Rattle.std.specs.Prelude.{◌≡◌, ◌-◌, ◌≤◌}
+use Rattle.laws.specs.Basics.{some, length, get_or}
 use Rattle.laws.specs.Loops.{iter}
 use Rattle.machines.specs.programs.Numbers.{grown, stands_for}
 use Rattle.machines.proofs.programs.numbers.number_in.Given as goal

@@ -1,6 +1,7 @@
 -- `machines::programs::text::write_word` meets its contract. The loop's invariant: the first k bytes stand in their places.
 -- Assumes nothing.
-use Rattle.laws.specs.Basics.{◌≡◌, refl, ◌∙◌, ap, arith, length, take}
+use Rattle.std.specs.Prelude.{◌≡◌}
+use Rattle.laws.specs.Basics.{refl, ◌∙◌, ap, arith, length, take}
 use lib.Seq.{length-sets}
 use Rattle.machines.proofs.{programs.Texts.one_copied, programs.Texts.all_copied}
 use Rattle.machines.proofs.programs.text.write_word.Goals as goal

@@ -1,6 +1,7 @@
 -- `machines::programs::text::write_word` meets its contract. The loop's invariant: the first k bytes stand in their places.
 -- Assumes nothing.
-use Rattle.laws.specs.Basics.{◌≡◌, ◌-◌, ◌≤◌, length, take, sets}
+use Rattle.std.specs.Prelude.{◌≡◌, ◌-◌, ◌≤◌}
+use Rattle.laws.specs.Basics.{length, take, sets}
 use Rattle.machines.proofs.programs.text.write_word.Given as goal
 
 abbrev pub invariant-loop-k : goal.invariant-loop-k

@@ -1,6 +1,7 @@
 -- `machines::replay_input::buffer::keep` meets its contract: so far the first k bytes are moved.
 -- Assumes nothing.
-use Rattle.laws.specs.Basics.{◌≡◌, refl, ◌∙◌, ap, ◌-◌, arith, length, take, drop}
+use Rattle.std.specs.Prelude.{◌≡◌, ◌-◌}
+use Rattle.laws.specs.Basics.{refl, ◌∙◌, ap, arith, length, take, drop}
 use lib.Seq.{length-sets}
 use Rattle.machines.proofs.{replay_input.Moves.one_moved}
 use Rattle.machines.proofs.replay_input.buffer.keep.Goals as goal

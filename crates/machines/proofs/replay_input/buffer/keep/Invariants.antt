@@ -1,6 +1,7 @@
 -- `machines::replay_input::buffer::keep` meets its contract: so far the first k bytes are moved.
 -- Assumes nothing.
-use Rattle.laws.specs.Basics.{◌≡◌, ◌-◌, ◌≤◌, take, drop, sets}
+use Rattle.std.specs.Prelude.{◌≡◌, ◌-◌, ◌≤◌}
+use Rattle.laws.specs.Basics.{take, drop, sets}
 use Rattle.machines.proofs.replay_input.buffer.keep.Given as goal
 
 abbrev pub invariant-loop-k : goal.invariant-loop-k

@@ -1,6 +1,7 @@
 -- `theory_recording::spacing::draws::chosen_receiver` meets its contract.
 -- Assumes nothing.
-use Rattle.laws.specs.Basics.{refl, ℕ, ◌+◌, ◌-◌, ◌/◌, ◌%◌, ◌^◌, ◌≤◌, ◌<◌, arith, rules}
+use Rattle.std.specs.Prelude.{◌+◌, ◌-◌, ◌/◌, ◌%◌, ◌^◌, ◌≤◌, ◌<◌}
+use Rattle.laws.specs.Basics.{refl, ℕ, arith, rules}
 use Rattle.std.proofs.Common.{mod-lt}
 use Rattle.theory_recording.specs.spacing.Spacing.{chosen_receiver_of}
 use Rattle.theory_recording.proofs.spacing.draws.chosen_receiver.Goals as goal

@@ -1,6 +1,7 @@
 -- `theory_recording::spacing::draws::low_product` meets its contract.
 -- Assumes nothing.
-use Rattle.laws.specs.Basics.{ℕ, ◌+◌, ◌*◌, ◌^◌, ◌<◌, rules}
+use Rattle.std.specs.Prelude.{◌+◌, ◌*◌, ◌^◌, ◌<◌}
+use Rattle.laws.specs.Basics.{ℕ, rules}
 use mathlib.Core.Path.{subst⁻¹}
 use Rattle.std.proofs.Common.{lt_of_le_of_lt, le_of_lt, mul-le-mul_left, mul-lt-mul_of_pos_right, pow_pos, pow-add}
 use Rattle.theory_recording.proofs.spacing.draws.low_product.Goals as goal

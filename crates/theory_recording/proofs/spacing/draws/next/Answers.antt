@@ -1,6 +1,7 @@
 -- `theory_recording::spacing::draws::next` meets its contract.
 -- Assumes nothing.
-use Rattle.laws.specs.Basics.{◌≡◌, ℕ, ◌+◌, ◌*◌, ◌%◌, ◌^◌, arith}
+use Rattle.std.specs.Prelude.{◌≡◌, ◌+◌, ◌*◌, ◌%◌, ◌^◌}
+use Rattle.laws.specs.Basics.{ℕ, arith}
 use Rattle.theory_recording.specs.spacing.Spacing.{generated}
 use Rattle.theory_recording.proofs.spacing.draws.next.Goals as goal
 

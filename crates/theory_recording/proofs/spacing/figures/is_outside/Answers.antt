@@ -1,6 +1,7 @@
 -- `theory_recording::spacing::figures::is_outside` meets its contract.
 -- Assumes nothing.
-use Rattle.laws.specs.Basics.{◌≡◌, true, ℕ, ◌≤◌, ◌<◌, ltb, rules, ltb-true, ltb-false, le-leb, lt-leb, by_bool}
+use Rattle.std.specs.Prelude.{◌≡◌, ◌≤◌, ◌<◌}
+use Rattle.laws.specs.Basics.{true, ℕ, ltb, rules, ltb-true, ltb-false, le-leb, lt-leb, by_bool}
 use Rattle.theory_recording.specs.spacing.Spacing.{out_of_range}
 use Rattle.theory_recording.proofs.spacing.figures.is_outside.Goals as goal
 

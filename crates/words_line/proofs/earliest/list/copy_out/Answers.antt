@@ -1,5 +1,6 @@
 -- `words_line::earliest::list::copy_out` meets its contract. Assumes nothing.
-use Rattle.laws.specs.Basics.{◌≡◌, refl, ◌∙◌, ap, List, ℕ, zero, suc, ◌+◌, arith, rules, length, get_or}
+use Rattle.std.specs.Prelude.{◌≡◌, ◌+◌}
+use Rattle.laws.specs.Basics.{refl, ◌∙◌, ap, List, ℕ, zero, suc, arith, rules, length, get_or}
 use native.Mathlib.Numerals.{add-one}
 use Rattle.model.specs.declared.Named.{Named}
 use Rattle.words_line.specs.declared.earliest.list.Copied.{Copied}

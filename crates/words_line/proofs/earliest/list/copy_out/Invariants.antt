@@ -1,5 +1,6 @@
 -- The loop's invariant: what is copied so far is the copy of the first k elements.
-use Rattle.laws.specs.Basics.{◌≡◌, ◌≤◌, ◌-◌, length}
+use Rattle.std.specs.Prelude.{◌≡◌, ◌≤◌, ◌-◌}
+use Rattle.laws.specs.Basics.{length}
 use Rattle.words_line.specs.earliest.Copying.{copy_to}
 use Rattle.words_line.proofs.earliest.list.copy_out.Given as goal
 

@@ -1,5 +1,6 @@
 -- `words_line::earliest::pairs::pairs_of` meets its contract. Assumes nothing.
-use Rattle.laws.specs.Basics.{◌≡◌, refl, ◌≤◌, ◌<◌, arith, ltb, leb, replicate, rules, ltb-true, leb-true}
+use Rattle.std.specs.Prelude.{◌≡◌, ◌≤◌, ◌<◌}
+use Rattle.laws.specs.Basics.{refl, arith, ltb, leb, replicate, rules, ltb-true, leb-true}
 use Rattle.laws.specs.Truth.{and_out}
 use Rattle.words_line.specs.earliest.Copying.{IsCopy}
 use Rattle.words_line.proofs.earliest.Naming.{process_low, whole_same, rest_same, same_numbers, not_whole}

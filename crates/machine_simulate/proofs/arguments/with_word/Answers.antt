@@ -1,8 +1,8 @@
--- `machine_simulate::words::with_word` meets its contract.
+-- `machine_simulate::arguments::with_word` meets its contract.
 -- Assumes nothing.
 use Rattle.laws.specs.Basics.{rules}
 use Rattle.machine_simulate.proofs.Numbers.{word_first, word_second, word_third, word_fourth}
-use Rattle.machine_simulate.proofs.words.with_word.Goals as goal
+use Rattle.machine_simulate.proofs.arguments.with_word.Goals as goal
 
 pub returns-then-i-eq2 : goal.returns-then-i-eq2
 returns-then-i-eq2 c =

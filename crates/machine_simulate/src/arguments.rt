@@ -1,5 +1,6 @@
 // The words that the program is started with: numbers (`machines::programs::numbers`), and a spacing or two with a hyphen between.
-ghost use Rattle.laws.specs.Basics.{◌≡◌, ◌≤◌, length};
+ghost use Rattle.std.specs.Prelude.{◌≡◌, ◌≤◌};
+ghost use Rattle.laws.specs.Basics.{length};
 ghost use Rattle.machine_simulate.specs.Arguments.{hyphen_or, hyphen_in_of, spacings_in, is_wrong_of, is_refused, no_numbers, with_word};
 
 use machines::programs::numbers::{GREATEST, NO_NUMBER, number_in};

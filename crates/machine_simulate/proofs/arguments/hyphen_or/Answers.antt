@@ -1,8 +1,8 @@
--- `machine_simulate::words::hyphen_or` meets its contract.
+-- `machine_simulate::arguments::hyphen_or` meets its contract.
 -- Assumes nothing.
 use Rattle.laws.specs.Basics.{rules}
 use Rattle.machine_simulate.proofs.{Numbers.hyphen_known, Numbers.hyphen_here, Numbers.no_hyphen}
-use Rattle.machine_simulate.proofs.words.hyphen_or.Goals as goal
+use Rattle.machine_simulate.proofs.arguments.hyphen_or.Goals as goal
 
 pub returns-then-place-size : goal.returns-then-place-size
 returns-then-place-size c =

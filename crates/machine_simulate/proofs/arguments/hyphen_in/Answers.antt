@@ -1,9 +1,10 @@
--- `machine_simulate::words::hyphen_in` meets its contract. The loop's invariant: the first hyphen of the bytes passed.
+-- `machine_simulate::arguments::hyphen_in` meets its contract. The loop's invariant: the first hyphen of the bytes passed.
 -- Assumes nothing.
-use Rattle.laws.specs.Basics.{◌≡◌, ◌-◌, ◌≤◌, arith, length, get_or, rules}
+use Rattle.std.specs.Prelude.{◌≡◌, ◌-◌, ◌≤◌}
+use Rattle.laws.specs.Basics.{arith, length, get_or, rules}
 use Rattle.laws.specs.Loops.{iter, iter_none, iter_more}
 use Rattle.machine_simulate.specs.Arguments.{hyphen_or, hyphen_in_of}
-use Rattle.machine_simulate.proofs.words.hyphen_in.Goals as goal
+use Rattle.machine_simulate.proofs.arguments.hyphen_in.Goals as goal
 
 pub loop-i-init : goal.loop-i-init
 loop-i-init c =

@@ -1,8 +1,8 @@
--- `machine_simulate::words::is_refused` meets its contract.
+-- `machine_simulate::arguments::is_refused` meets its contract.
 -- Assumes nothing.
 use Rattle.laws.specs.Basics.{rules}
 use Rattle.machine_simulate.specs.Arguments.{is_refused}
-use Rattle.machine_simulate.proofs.words.is_refused.Goals as goal
+use Rattle.machine_simulate.proofs.arguments.is_refused.Goals as goal
 
 pub returns : goal.returns
 unfolding is_refused

@@ -1,10 +1,11 @@
--- `machine_simulate::words::spacings_in` meets its contract.
+-- `machine_simulate::arguments::spacings_in` meets its contract.
 -- Assumes nothing.
-use Rattle.laws.specs.Basics.{sym, ◌∙◌, ap, ◌+◌, ◌-◌, arith, length, drop, length-drop, length-take-le, rules}
+use Rattle.std.specs.Prelude.{◌+◌, ◌-◌}
+use Rattle.laws.specs.Basics.{sym, ◌∙◌, ap, arith, length, drop, length-drop, length-take-le, rules}
 use lib.Seq.{take_all}
 use Rattle.machines.specs.programs.Numbers.{number_in}
 use Rattle.machine_simulate.proofs.{Numbers.one_spacing, Numbers.two_spacings}
-use Rattle.machine_simulate.proofs.words.spacings_in.Goals as goal
+use Rattle.machine_simulate.proofs.arguments.spacings_in.Goals as goal
 
 pub slice_bounds-number_in-end : goal.slice_bounds-number_in-end
 slice_bounds-number_in-end c =
