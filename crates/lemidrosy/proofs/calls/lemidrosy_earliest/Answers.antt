@@ -14,4 +14,4 @@ shape_of-line c =
 
 pub returns : goal.returns
 returns c =
-    let g = (c.earliest-answer.ensures.value, (c.earliest-answer.ensures.line_after, c.earliest-answer.ensures.earliest_promise)) in record { fact = (c.of_line.ensures ∙ ap line_code c.earliest-answer.ensures.value, c.earliest-answer.ensures.line_after); earliest_promise = c.earliest-answer.ensures.earliest_promise }
+    record { fact = (c.of_line.ensures ∙ ap line_code c.earliest-answer.ensures.value, c.earliest-answer.ensures.line_after); earliest_promise = c.earliest-answer.ensures.earliest_promise }

@@ -14,4 +14,4 @@ shape_of-line c =
 
 pub returns : goal.returns
 returns c =
-    let g = (c.line-answer.ensures.value, (c.line-answer.ensures.line_after, (c.line-answer.ensures.line_promise, c.line-answer.ensures.empty_line_promise))) in record { fact = (c.of_line.ensures ∙ ap line_code c.line-answer.ensures.value, c.line-answer.ensures.line_after, rw c.line-answer.ensures.value at c.line-answer.ensures.empty_line_promise); line_promise = c.line-answer.ensures.line_promise }
+    record { fact = (c.of_line.ensures ∙ ap line_code c.line-answer.ensures.value, c.line-answer.ensures.line_after, rw c.line-answer.ensures.value at c.line-answer.ensures.empty_line_promise); line_promise = c.line-answer.ensures.line_promise }

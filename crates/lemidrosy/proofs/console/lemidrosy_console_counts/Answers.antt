@@ -10,4 +10,4 @@ of_line-requires c =
 
 pub returns : goal.returns
 returns c =
-    let g = (c.counts-answer.ensures.value, c.counts-answer.ensures.line_after) in (c.of_line.ensures ∙ ap line_code c.counts-answer.ensures.value, c.counts-answer.ensures.line_after)
+    (c.of_line.ensures ∙ ap line_code c.counts-answer.ensures.value, c.counts-answer.ensures.line_after)

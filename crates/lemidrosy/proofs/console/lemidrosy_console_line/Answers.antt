@@ -10,4 +10,4 @@ of_line-requires c =
 
 pub returns : goal.returns
 returns c =
-    let g = (c.line-answer.ensures.value, c.line-answer.ensures.line_after) in (c.of_line.ensures ∙ ap line_code c.line-answer.ensures.value, c.line-answer.ensures.line_after)
+    (c.of_line.ensures ∙ ap line_code c.line-answer.ensures.value, c.line-answer.ensures.line_after)

@@ -10,4 +10,4 @@ of_list-requires c =
 
 pub returns : goal.returns
 returns c =
-    let g = (c.list-answer.ensures.value, c.list-answer.ensures.deleted_after) in (c.of_list.ensures ∙ ap list_code c.list-answer.ensures.value, c.list-answer.ensures.deleted_after)
+    (c.of_list.ensures ∙ ap list_code c.list-answer.ensures.value, c.list-answer.ensures.deleted_after)

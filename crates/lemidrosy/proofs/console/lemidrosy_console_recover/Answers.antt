@@ -11,4 +11,4 @@ of_recover-requires c =
 
 pub returns : goal.returns
 returns c =
-    let g = (c.recover-answer.ensures.w_after, (c.recover-answer.ensures.value, (c.recover-answer.ensures.deleted_after, (c.recover-answer.ensures.line_after, (c.recover-answer.ensures.w_unchanged, c.recover-answer.ensures.leaves))))) in let h = g.1.1.1.1 in (c.of_recover.ensures ∙ ap recover_code g.1.0, g.1.1.0, g.1.1.1.0, changed _ _ _ _ _ g.1.0 g.0 h.0 h.1)
+    let h = g.1.1.1.1 in (c.of_recover.ensures ∙ ap recover_code g.1.0, g.1.1.0, g.1.1.1.0, changed _ _ _ _ _ g.1.0 g.0 h.0 h.1)
