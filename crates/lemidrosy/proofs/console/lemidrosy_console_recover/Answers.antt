@@ -11,4 +11,5 @@ of_recover-requires c =
 
 pub returns : goal.returns
 returns c =
-    let h = g.1.1.1.1 in (c.of_recover.ensures ∙ ap recover_code g.1.0, g.1.1.0, g.1.1.1.0, changed _ _ _ _ _ g.1.0 g.0 h.0 h.1)
+    let g = c.recover-answer.ensures in
+    (c.of_recover.ensures ∙ ap recover_code g.value, g.deleted_after, g.line_after, changed _ _ _ _ _ g.value g.w_after g.w_unchanged g.leaves)
