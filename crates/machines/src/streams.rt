@@ -1,7 +1,7 @@
 // What a program holds of the system while it runs: the streams that it is started with, the file that it opened last, and why the last call failed that did. No contract
 // can say what a stream brings or takes.
 ghost use Rattle.laws.specs.Basics.{length};
-ghost use Rattle.std.specs.Prelude.{IfOk, ◌≤◌};
+ghost use Rattle.std.specs.Prelude.{◌≡◌, ◌≤◌, IfOk, IsTrue, None, pos};
 
 use crate::Source;
 use std::fs::File;
@@ -33,7 +33,10 @@ pub struct Streams {
 
 impl Streams {
     // The streams of a program that has opened no file yet.
-    pub fn new(input: Stdin, output: Stdout, errors: Stderr) -> Streams {
+    pub fn new(input: Stdin, output: Stdout, errors: Stderr) -> Streams
+        ensures no_file { result.file ≡ None }
+        ensures no_error { result.error ≡ pos 0 }
+    {
         Streams {
             input,
             output,
@@ -75,7 +78,9 @@ impl Streams {
     }
 
     // Writes all of these bytes to standard output, and hands back whether they are written.
-    pub fn write(&mut self, bytes: &[u8]) -> bool {
+    pub fn write(&mut self, bytes: &[u8]) -> bool
+        ensures { IsTrue result → self.new ≡ self.old }
+    {
         match Print::write_all(&self.output, bytes) {
             Ok(()) => true,
             Err(error) => {
