@@ -26,14 +26,17 @@ returns-then-short c =
 
 pub recover_within-requires : goal.recover_within-requires
 recover_within-requires c =
-    let n = count_of c.args.w.now in let room = or_none (ltb (length c.args.deleted.now) (2 * n * n)) (ltb (length c.args.line.now) n) ((let long' : let a = c.args in let n = count_of a.w.now in (ltb (length a.deleted.now) (2 * n * n) || ltb (length a.line.now) n) ≡ false = sym c.is_too_short-short.ensures ∙ c.if-short.false in long')) in (
+    let long : let a = c.args in let n = count_of a.w.now in (ltb (length a.deleted.now) (2 * n * n) || ltb (length a.line.now) n) ≡ false = sym c.is_too_short-short.ensures ∙ c.if-short.false in
+    let accepted : c.recovery_admission-admission.result ≡ Accepted = search rules in
+    let n = count_of c.args.w.now in let room = or_none (ltb (length c.args.deleted.now) (2 * n * n)) (ltb (length c.args.line.now) n) long in (
       c.requires,
       refl,
       ltb-false (length c.args.deleted.now) (2 * n * n) room.0,
       ltb-false (length c.args.line.now) n room.1,
-      sym c.recovery_admission-admission.ensures ∙ (let accepted' : c.recovery_admission-admission.result ≡ Accepted = search rules in accepted'),
+      sym c.recovery_admission-admission.ensures ∙ accepted,
     )
 
 pub returns-in-Refused : goal.returns-in-Refused
 returns-in-Refused c =
-    let z = set_refused c.args.w.now c.requires c.args.failed c.args.deleted.now c.args.line.now ((let long' : let a = c.args in let n = count_of a.w.now in (ltb (length a.deleted.now) (2 * n * n) || ltb (length a.line.now) n) ≡ false = sym c.is_too_short-short.ensures ∙ c.if-short.false in long')) _ (sym c.recovery_admission-admission.ensures ∙ c.in-Refused.is) in record { w_after = z.0; value = z.1.0; deleted_after = z.1.1.0; line_after = z.1.1.1.0; w_unchanged = z.1.1.1.1.0; leaves = z.1.1.1.1.1 }
+    let long : let a = c.args in let n = count_of a.w.now in (ltb (length a.deleted.now) (2 * n * n) || ltb (length a.line.now) n) ≡ false = sym c.is_too_short-short.ensures ∙ c.if-short.false in
+    let z = set_refused c.args.w.now c.requires c.args.failed c.args.deleted.now c.args.line.now long _ (sym c.recovery_admission-admission.ensures ∙ c.in-Refused.is) in record { w_after = z.0; value = z.1.0; deleted_after = z.1.1.0; line_after = z.1.1.1.0; w_unchanged = z.1.1.1.1.0; leaves = z.1.1.1.1.1 }

@@ -16,7 +16,9 @@ loop-p-init c =
 
 pub offset_bounds-pasts-p : goal.offset_bounds-pasts-p
 offset_bounds-pasts-p c =
-    let few = (let room' : c.loop-p.p < 16 = omega (arith, (let below' : c.loop-p.p < count_of c.args.w.now = omega (arith, c.requires.1, c.loop-p-test.true) in below'), (sound_words c.args.w.now c.requires.0).few) in room') in search rules
+    let below : c.loop-p.p < count_of c.args.w.now = omega (arith, c.requires.1, c.loop-p-test.true) in
+    let room : c.loop-p.p < 16 = omega (arith, below, (sound_words c.args.w.now c.requires.0).few) in
+    let few = room in search rules
 
 pub bounds-pasts-p : goal.bounds-pasts-p
 bounds-pasts-p c =
@@ -28,8 +30,10 @@ overflow_cast-past c =
 
 pub restore-less-requires : goal.restore-less-requires
 restore-less-requires c =
-    let w = c.args.w.now in let h = c.requires.0 in let l = c.loop-p in let lt = (let below' : c.loop-p.p < count_of c.args.w.now = omega (arith, c.requires.1, c.loop-p-test.true) in below') in let disk = still_disk w h c.args.pasts.now c.args.owns l.p lt l.w l.invariant.1 in record {
-      w_len = (still_size w h c.args.pasts.now c.args.owns l.p lt l.w l.invariant.1, (let room' : c.loop-p.p < 16 = omega (arith, (let below' : c.loop-p.p < count_of c.args.w.now = omega (arith, c.requires.1, c.loop-p-test.true) in below'), (sound_words c.args.w.now c.requires.0).few) in room'), disk.0, disk.1);
+    let below : c.loop-p.p < count_of c.args.w.now = omega (arith, c.requires.1, c.loop-p-test.true) in
+    let room : c.loop-p.p < 16 = omega (arith, below, (sound_words c.args.w.now c.requires.0).few) in
+    let w = c.args.w.now in let h = c.requires.0 in let l = c.loop-p in let lt = below in let disk = still_disk w h c.args.pasts.now c.args.owns l.p lt l.w l.invariant.1 in record {
+      w_len = (still_size w h c.args.pasts.now c.args.owns l.p lt l.w l.invariant.1, room, disk.0, disk.1);
       restorable = still_restorable w h c.args.pasts.now c.args.owns l.p lt l.w l.invariant.1 (c.requires.3.1 l.p c.loop-p-test.true);
       p_in_bounds = (
         omega (arith, l.invariant.2, l.invariant.4, still_room w h c.args.pasts.now c.args.owns l.p lt l.w l.invariant.1 c.args.n (length c.args.deleted.now) c.requires.1 c.requires.2),
@@ -39,11 +43,13 @@ restore-less-requires c =
 
 pub overflow_add-gone : goal.overflow_add-gone
 overflow_add-gone c =
-    let w = c.args.w.now in let h = c.requires.0 in let l = c.loop-p in let lt = (let below' : c.loop-p.p < count_of c.args.w.now = omega (arith, c.requires.1, c.loop-p-test.true) in below') in omega (arith, more_counted w h c.args.pasts.now c.args.owns l.p lt l.w l.invariant.1 l.gone _ l.invariant.4 c.restore-less.ensures.value, losses_few w h c.args.pasts.now c.args.owns (l.p + 1) (omega arith))
+    let below : c.loop-p.p < count_of c.args.w.now = omega (arith, c.requires.1, c.loop-p-test.true) in
+    let w = c.args.w.now in let h = c.requires.0 in let l = c.loop-p in let lt = below in omega (arith, more_counted w h c.args.pasts.now c.args.owns l.p lt l.w l.invariant.1 l.gone _ l.invariant.4 c.restore-less.ensures.value, losses_few w h c.args.pasts.now c.args.owns (l.p + 1) (omega arith))
 
 pub loop-p-preserved : goal.loop-p-preserved
 loop-p-preserved c =
-    let w = c.args.w.now in let h = c.requires.0 in let l = c.loop-p in let lt = (let below' : c.loop-p.p < count_of c.args.w.now = omega (arith, c.requires.1, c.loop-p-test.true) in below') in let e = c.restore-less.ensures in (search rules, one_more w h c.args.pasts.now c.args.owns l.p lt l.w l.invariant.1 _ _ e.value e.moves, c.restore-less.auto.deleted ∙ l.invariant.2, more_listed w h c.args.pasts.now c.args.owns l.p lt l.w l.invariant.1 c.args.deleted.now l.deleted _ l.gone l.invariant.4 l.invariant.3 e.deleted_after, more_counted w h c.args.pasts.now c.args.owns l.p lt l.w l.invariant.1 l.gone _ l.invariant.4 e.value)
+    let below : c.loop-p.p < count_of c.args.w.now = omega (arith, c.requires.1, c.loop-p-test.true) in
+    let w = c.args.w.now in let h = c.requires.0 in let l = c.loop-p in let lt = below in let e = c.restore-less.ensures in (search rules, one_more w h c.args.pasts.now c.args.owns l.p lt l.w l.invariant.1 _ _ e.value e.moves, c.restore-less.auto.deleted ∙ l.invariant.2, more_listed w h c.args.pasts.now c.args.owns l.p lt l.w l.invariant.1 c.args.deleted.now l.deleted _ l.gone l.invariant.4 l.invariant.3 e.deleted_after, more_counted w h c.args.pasts.now c.args.owns l.p lt l.w l.invariant.1 l.gone _ l.invariant.4 e.value)
 
 pub shape_of-w : goal.shape_of-w
 shape_of-w c =

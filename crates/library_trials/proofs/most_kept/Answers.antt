@@ -16,16 +16,19 @@ loop-p-init c =
 pub overflow_add-count : goal.overflow_add-count
 unfolding greatest_below
 overflow_add-count c =
-    let few = (let below' : c.loop-p.p < 16 = omega (arith, c.loop-p-test.true, (sound_words c.args.w.now c.requires.0).few, c.requires.1) in below') in search rules
+    let below : c.loop-p.p < 16 = omega (arith, c.loop-p-test.true, (sound_words c.args.w.now c.requires.0).few, c.requires.1) in
+    let few = below in search rules
 
 pub offset_bounds-w-p : goal.offset_bounds-w-p
 unfolding greatest_below
 offset_bounds-w-p c =
-    let few = (let below' : c.loop-p.p < 16 = omega (arith, c.loop-p-test.true, (sound_words c.args.w.now c.requires.0).few, c.requires.1) in below') in search rules
+    let below : c.loop-p.p < 16 = omega (arith, c.loop-p-test.true, (sound_words c.args.w.now c.requires.0).few, c.requires.1) in
+    let few = below in search rules
 
 pub bounds-w-p : goal.bounds-w-p
 bounds-w-p c =
-    omega (arith, (let below' : c.loop-p.p < 16 = omega (arith, c.loop-p-test.true, (sound_words c.args.w.now c.requires.0).few, c.requires.1) in below'), (sound_words c.args.w.now c.requires.0).size)
+    let below : c.loop-p.p < 16 = omega (arith, c.loop-p-test.true, (sound_words c.args.w.now c.requires.0).few, c.requires.1) in
+    omega (arith, below, (sound_words c.args.w.now c.requires.0).size)
 
 pub overflow_cast-count : goal.overflow_cast-count
 unfolding greatest_below

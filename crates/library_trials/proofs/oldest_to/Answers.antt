@@ -26,11 +26,13 @@ number_at-number-requires c =
 
 pub overflow_add-to : goal.overflow_add-to
 overflow_add-to c =
-    let few = (let in_use' : c.loop-k.k < 64 = omega (arith, c.loop-k-test.true, (sound_words c.args.w.now c.requires).end) in in_use') in search rules
+    let in_use : c.loop-k.k < 64 = omega (arith, c.loop-k-test.true, (sound_words c.args.w.now c.requires).end) in
+    let few = in_use in search rules
 
 pub offset_bounds-w-k : goal.offset_bounds-w-k
 offset_bounds-w-k c =
-    let few = (let in_use' : c.loop-k.k < 64 = omega (arith, c.loop-k-test.true, (sound_words c.args.w.now c.requires).end) in in_use') in search rules
+    let in_use : c.loop-k.k < 64 = omega (arith, c.loop-k-test.true, (sound_words c.args.w.now c.requires).end) in
+    let few = in_use in search rules
 
 pub bounds-w-k : goal.bounds-w-k
 bounds-w-k c =
@@ -43,19 +45,22 @@ overflow_cast-to c =
 pub returns-then-number-to : goal.returns-then-number-to
 unfolding found_in_of
 returns-then-number-to c =
-    let l = c.loop-k in rw (oldest_at c.args.w.now c.requires c.args.p l.k (omega arith) l.invariant.1 ((let tested' : (b : Bool) → (not (eqb c.number_at-number.result 0) && eqb (word c.args.w.now (receiver_at_of c.loop-k.k)) c.args.p) ≡ b
-    → is_to c.args.p (message_in c.args.w.now c.loop-k.k) ≡ b = λ b e. to_is c.args.w.now c.args.p c.loop-k.k c.number_at-number.result b c.number_at-number.ensures e in tested') true c.if-number-to.true)) (ap (λ (x : ℕ). record { found = true; number = x }) c.number_at-number.ensures)
+    let tested : (b : Bool) → (not (eqb c.number_at-number.result 0) && eqb (word c.args.w.now (receiver_at_of c.loop-k.k)) c.args.p) ≡ b
+    → is_to c.args.p (message_in c.args.w.now c.loop-k.k) ≡ b = λ b e. to_is c.args.w.now c.args.p c.loop-k.k c.number_at-number.result b c.number_at-number.ensures e in
+    let l = c.loop-k in rw (oldest_at c.args.w.now c.requires c.args.p l.k (omega arith) l.invariant.1 (tested true c.if-number-to.true)) (ap (λ (x : ℕ). record { found = true; number = x }) c.number_at-number.ensures)
 
 pub overflow_step-k : goal.overflow_step-k
 overflow_step-k c =
-    let few = (let in_use' : c.loop-k.k < 64 = omega (arith, c.loop-k-test.true, (sound_words c.args.w.now c.requires).end) in in_use') in search rules
+    let in_use : c.loop-k.k < 64 = omega (arith, c.loop-k-test.true, (sound_words c.args.w.now c.requires).end) in
+    let few = in_use in search rules
 
 pub loop-k-preserved : goal.loop-k-preserved
 loop-k-preserved c =
+    let tested : (b : Bool) → (not (eqb c.number_at-number.result 0) && eqb (word c.args.w.now (receiver_at_of c.loop-k.k)) c.args.p) ≡ b
+    → is_to c.args.p (message_in c.args.w.now c.loop-k.k) ≡ b = λ b e. to_is c.args.w.now c.args.p c.loop-k.k c.number_at-number.result b c.number_at-number.ensures e in
     let l = c.loop-k in (
       search rules,
-      one_more c.args.w.now c.args.p l.k l.invariant.1 ((let tested' : (b : Bool) → (not (eqb c.number_at-number.result 0) && eqb (word c.args.w.now (receiver_at_of c.loop-k.k)) c.args.p) ≡ b
-          → is_to c.args.p (message_in c.args.w.now c.loop-k.k) ≡ b = λ b e. to_is c.args.w.now c.args.p c.loop-k.k c.number_at-number.result b c.number_at-number.ensures e in tested') false c.if-number-to.false),
+      one_more c.args.w.now c.args.p l.k l.invariant.1 (tested false c.if-number-to.false),
     )
 
 pub returns : goal.returns

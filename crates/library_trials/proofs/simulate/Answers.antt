@@ -25,14 +25,17 @@ returns-then-is_outside-3 c =
 
 pub run_steps-z-requires : goal.run_steps-z-requires
 run_steps-z-requires c =
-    let a = c.args in let range = trial_out a.n a.spacing a.steps ((let inside' : trial_refusal c.args.n c.args.spacing c.args.steps ≡ none = let a = c.args in all_inside a.n a.spacing a.steps a.seed (sym c.is_outside.ensures ∙ c.if-is_outside.false) (sym c.is_outside-2.ensures ∙ c.if-is_outside-2.false) (sym c.is_outside-3.ensures ∙ c.if-is_outside-3.false) in inside')) in (range.some_process, range.few_processes, range.some_spacing, range.few_steps, refl)
+    let inside : trial_refusal c.args.n c.args.spacing c.args.steps ≡ none = let a = c.args in all_inside a.n a.spacing a.steps a.seed (sym c.is_outside.ensures ∙ c.if-is_outside.false) (sym c.is_outside-2.ensures ∙ c.if-is_outside-2.false) (sym c.is_outside-3.ensures ∙ c.if-is_outside-3.false) in
+    let a = c.args in let range = trial_out a.n a.spacing a.steps inside in (range.some_process, range.few_processes, range.some_spacing, range.few_steps, refl)
 
 pub result_of-requires : goal.result_of-requires
 unfolding trial_of
 result_of-requires c =
-    let a = c.args in let range = trial_out a.n a.spacing a.steps ((let inside' : trial_refusal c.args.n c.args.spacing c.args.steps ≡ none = let a = c.args in all_inside a.n a.spacing a.steps a.seed (sym c.is_outside.ensures ∙ c.if-is_outside.false) (sym c.is_outside-2.ensures ∙ c.if-is_outside-2.false) (sym c.is_outside-3.ensures ∙ c.if-is_outside-3.false) in inside')) in small_forced a.n a.spacing a.steps a.seed _ range.few_steps c.run_steps-z.ensures
+    let inside : trial_refusal c.args.n c.args.spacing c.args.steps ≡ none = let a = c.args in all_inside a.n a.spacing a.steps a.seed (sym c.is_outside.ensures ∙ c.if-is_outside.false) (sym c.is_outside-2.ensures ∙ c.if-is_outside-2.false) (sym c.is_outside-3.ensures ∙ c.if-is_outside-3.false) in
+    let a = c.args in let range = trial_out a.n a.spacing a.steps inside in small_forced a.n a.spacing a.steps a.seed _ range.few_steps c.run_steps-z.ensures
 
 pub returns : goal.returns
 unfolding TrialsAgree
 returns c =
-    let a = c.args in record { value = c.result_of.ensures c.run_steps-z.new.w ∙ figures_are a.n a.spacing a.steps a.seed _ ((let inside' : trial_refusal c.args.n c.args.spacing c.args.steps ≡ none = let a = c.args in all_inside a.n a.spacing a.steps a.seed (sym c.is_outside.ensures ∙ c.if-is_outside.false) (sym c.is_outside-2.ensures ∙ c.if-is_outside-2.false) (sym c.is_outside-3.ensures ∙ c.if-is_outside-3.false) in inside')) c.run_steps-z.ensures; agrees_with_replay = trials_agree a.n a.spacing a.steps a.seed }
+    let inside : trial_refusal c.args.n c.args.spacing c.args.steps ≡ none = let a = c.args in all_inside a.n a.spacing a.steps a.seed (sym c.is_outside.ensures ∙ c.if-is_outside.false) (sym c.is_outside-2.ensures ∙ c.if-is_outside-2.false) (sym c.is_outside-3.ensures ∙ c.if-is_outside-3.false) in
+    let a = c.args in record { value = c.result_of.ensures c.run_steps-z.new.w ∙ figures_are a.n a.spacing a.steps a.seed _ inside c.run_steps-z.ensures; agrees_with_replay = trials_agree a.n a.spacing a.steps a.seed }

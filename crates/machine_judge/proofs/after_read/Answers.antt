@@ -10,11 +10,13 @@ use Rattle.machine_judge.proofs.after_read.Goals as goal
 
 pub overflow_add-buffered : goal.overflow_add-buffered
 overflow_add-buffered c =
-    omega (arith, (let fits' : (size : ℕ) → c.read-taken.result ≡ taken.Brought size → c.args.buffered + size ≤ most_read = λ size e. let asks = c.wanted in brought_fits c.args.input.now c.args.buffered c.requires.1 c.requires.0.1 c.args.answer asks.result asks.ensures c.read-taken.result size c.read-taken.ensures e in fits') _ c.in-Brought.is)
+    let fits : (size : ℕ) → c.read-taken.result ≡ taken.Brought size → c.args.buffered + size ≤ most_read = λ size e. let asks = c.wanted in brought_fits c.args.input.now c.args.buffered c.requires.1 c.requires.0.1 c.args.answer asks.result asks.ensures c.read-taken.result size c.read-taken.ensures e in
+    omega (arith, fits _ c.in-Brought.is)
 
 pub go_on-requires : goal.go_on-requires
 go_on-requires c =
-    (c.requires.0, (let fits' : (size : ℕ) → c.read-taken.result ≡ taken.Brought size → c.args.buffered + size ≤ most_read = λ size e. let asks = c.wanted in brought_fits c.args.input.now c.args.buffered c.requires.1 c.requires.0.1 c.args.answer asks.result asks.ensures c.read-taken.result size c.read-taken.ensures e in fits') _ c.in-Brought.is)
+    let fits : (size : ℕ) → c.read-taken.result ≡ taken.Brought size → c.args.buffered + size ≤ most_read = λ size e. let asks = c.wanted in brought_fits c.args.input.now c.args.buffered c.requires.1 c.requires.0.1 c.args.answer asks.result asks.ensures c.read-taken.result size c.read-taken.ensures e in
+    (c.requires.0, fits _ c.in-Brought.is)
 
 pub returns-in-Brought : goal.returns-in-Brought
 returns-in-Brought c =

@@ -14,7 +14,8 @@ returns-then-lacks_room c =
 
 pub read-m-requires : goal.read-m-requires
 read-m-requires c =
-    ((let room' : EnoughRoom (length ((c.args.memory.now))) (length ((c.args.input.now))) (length ((c.args.out.now))) = room_by _ _ _ (sym c.lacks_room.ensures ∙ c.if-lacks_room.false) in room')).0
+    let room : EnoughRoom (length c.args.memory.now) (length c.args.input.now) (length c.args.out.now) = room_by _ _ _ (sym c.lacks_room.ensures ∙ c.if-lacks_room.false) in
+    room.0
 
 pub returns-then-not-in_bounds : goal.returns-then-not-in_bounds
 returns-then-not-in_bounds c =
@@ -22,15 +23,20 @@ returns-then-not-in_bounds c =
 
 pub on-next-requires : goal.on-next-requires
 on-next-requires c =
-    let (fits, short) = bounded _ _ ((let inside' : in_bounds_of c.read-m.result (length ((c.args.out.now))) ≡ true = sym c.in_bounds.ensures ∙ not_out _ _ (ap not c.if-not-in_bounds.false) in inside')) in
-    let (one, two, three) = (let room' : EnoughRoom (length ((c.args.memory.now))) (length ((c.args.input.now))) (length ((c.args.out.now))) = room_by _ _ _ (sym c.lacks_room.ensures ∙ c.if-lacks_room.false) in room') in
+    let inside : in_bounds_of c.read-m.result (length c.args.out.now) ≡ true = sym c.in_bounds.ensures ∙ not_out _ _ (ap not c.if-not-in_bounds.false) in
+    let room : EnoughRoom (length c.args.memory.now) (length c.args.input.now) (length c.args.out.now) = room_by _ _ _ (sym c.lacks_room.ensures ∙ c.if-lacks_room.false) in
+    let (fits, short) = bounded _ _ inside in
+    let (one, two, three) = room in
     (fits, two, three, short)
 
 pub put-requires : goal.put-requires
 put-requires c =
-    ((let room' : EnoughRoom (length ((c.args.memory.now))) (length ((c.args.input.now))) (length ((c.args.out.now))) = room_by _ _ _ (sym c.lacks_room.ensures ∙ c.if-lacks_room.false) in room')).0
+    let room : EnoughRoom (length c.args.memory.now) (length c.args.input.now) (length c.args.out.now) = room_by _ _ _ (sym c.lacks_room.ensures ∙ c.if-lacks_room.false) in
+    room.0
 
 pub returns : goal.returns
 returns c =
-    let on = c.on-next in let put = c.put in step_stands ((c.args.memory.now)) ((c.args.input.now)) ((c.args.out.now)) _ _ _ _ _ _ ((let room' : EnoughRoom (length ((c.args.memory.now))) (length ((c.args.input.now))) (length ((c.args.out.now))) = room_by _ _ _ (sym c.lacks_room.ensures ∙ c.if-lacks_room.false) in room')) c.read-m.ensures ((let inside' : in_bounds_of c.read-m.result (length ((c.args.out.now))) ≡ true = sym c.in_bounds.ensures ∙ not_out _ _ (ap not c.if-not-in_bounds.false) in inside'))
+    let room : EnoughRoom (length c.args.memory.now) (length c.args.input.now) (length c.args.out.now) = room_by _ _ _ (sym c.lacks_room.ensures ∙ c.if-lacks_room.false) in
+    let inside : in_bounds_of c.read-m.result (length c.args.out.now) ≡ true = sym c.in_bounds.ensures ∙ not_out _ _ (ap not c.if-not-in_bounds.false) in
+    let on = c.on-next in let put = c.put in step_stands c.args.memory.now c.args.input.now c.args.out.now _ _ _ _ _ _ room c.read-m.ensures inside
     put.auto.memory on.auto.out put.ensures on.ensures c.request.ensures

@@ -12,20 +12,25 @@ returns-then-not-has_room c =
 
 pub read-m-requires : goal.read-m-requires
 read-m-requires c =
-    (enough_room _ _ _ _ _ ((let room' : has_room_of (length c.args.memory.now) (length c.args.words.now) (length c.args.input.now) (length c.args.out.now) (length c.args.lines.now) ≡ true = sym c.has_room.ensures ∙ c.if-not-has_room.false in room'))).memory_room
+    let room : has_room_of (length c.args.memory.now) (length c.args.words.now) (length c.args.input.now) (length c.args.out.now) (length c.args.lines.now) ≡ true = sym c.has_room.ensures ∙ c.if-not-has_room.false in
+    (enough_room _ _ _ _ _ room).memory_room
 
 pub returns-then-not-in_bounds : goal.returns-then-not-in_bounds
 returns-then-not-in_bounds c =
-    not_state _ _ _ _ _ _ (no_bounds _ _ _ _ _ _ ((let room' : has_room_of (length c.args.memory.now) (length c.args.words.now) (length c.args.input.now) (length c.args.out.now) (length c.args.lines.now) ≡ true = sym c.has_room.ensures ∙ c.if-not-has_room.false in room'))
+    let room : has_room_of (length c.args.memory.now) (length c.args.words.now) (length c.args.input.now) (length c.args.out.now) (length c.args.lines.now) ≡ true = sym c.has_room.ensures ∙ c.if-not-has_room.false in
+    not_state _ _ _ _ _ _ (no_bounds _ _ _ _ _ _ room
     (ap (λ (m : Marks). in_bounds_of m (length c.args.out.now)) (sym c.read-m.ensures) ∙ sym c.in_bounds.ensures ∙ c.if-not-in_bounds.true))
 
 pub on-next-requires : goal.on-next-requires
 on-next-requires c =
-    let b = bounded _ _ ((let inside' : in_bounds_of c.read-m.result (length c.args.out.now) ≡ true = sym c.in_bounds.ensures ∙ c.if-not-in_bounds.false in inside')) in let r = enough_room _ _ _ _ _ ((let room' : has_room_of (length c.args.memory.now) (length c.args.words.now) (length c.args.input.now) (length c.args.out.now) (length c.args.lines.now) ≡ true = sym c.has_room.ensures ∙ c.if-not-has_room.false in room')) in (b.left, b.done, b.kept, b.pending, r.words_room, r.input_room, r.out_room, r.lines_room)
+    let inside : in_bounds_of c.read-m.result (length c.args.out.now) ≡ true = sym c.in_bounds.ensures ∙ c.if-not-in_bounds.false in
+    let room : has_room_of (length c.args.memory.now) (length c.args.words.now) (length c.args.input.now) (length c.args.out.now) (length c.args.lines.now) ≡ true = sym c.has_room.ensures ∙ c.if-not-has_room.false in
+    let b = bounded _ _ inside in let r = enough_room _ _ _ _ _ room in (b.left, b.done, b.kept, b.pending, r.words_room, r.input_room, r.out_room, r.lines_room)
 
 pub put-requires : goal.put-requires
 put-requires c =
-    (enough_room _ _ _ _ _ ((let room' : has_room_of (length c.args.memory.now) (length c.args.words.now) (length c.args.input.now) (length c.args.out.now) (length c.args.lines.now) ≡ true = sym c.has_room.ensures ∙ c.if-not-has_room.false in room'))).memory_room
+    let room : has_room_of (length c.args.memory.now) (length c.args.words.now) (length c.args.input.now) (length c.args.out.now) (length c.args.lines.now) ≡ true = sym c.has_room.ensures ∙ c.if-not-has_room.false in
+    (enough_room _ _ _ _ _ room).memory_room
 
 pub request-requires : goal.request-requires
 request-requires c =
@@ -33,4 +38,6 @@ request-requires c =
 
 pub returns : goal.returns
 returns c =
-    let before = (let room' : has_room_of (length c.args.memory.now) (length c.args.words.now) (length c.args.input.now) (length c.args.out.now) (length c.args.lines.now) ≡ true = sym c.has_room.ensures ∙ c.if-not-has_room.false in room') in let next = c.on-next in let put = c.put in step_stands _ _ _ _ _ _ _ _ _ _ _ _ _ _ before c.read-m.ensures ((let inside' : in_bounds_of c.read-m.result (length c.args.out.now) ≡ true = sym c.in_bounds.ensures ∙ c.if-not-in_bounds.false in inside')) (room_kept _ _ _ _ _ _ _ _ _ _ put.auto.memory c.on-next.auto.words c.on-next.auto.input c.on-next.auto.out c.on-next.auto.lines before) put.ensures next.ensures c.request.ensures
+    let room : has_room_of (length c.args.memory.now) (length c.args.words.now) (length c.args.input.now) (length c.args.out.now) (length c.args.lines.now) ≡ true = sym c.has_room.ensures ∙ c.if-not-has_room.false in
+    let inside : in_bounds_of c.read-m.result (length c.args.out.now) ≡ true = sym c.in_bounds.ensures ∙ c.if-not-in_bounds.false in
+    let before = room in let next = c.on-next in let put = c.put in step_stands _ _ _ _ _ _ _ _ _ _ _ _ _ _ before c.read-m.ensures inside (room_kept _ _ _ _ _ _ _ _ _ _ put.auto.memory c.on-next.auto.words c.on-next.auto.input c.on-next.auto.out c.on-next.auto.lines before) put.ensures next.ensures c.request.ensures

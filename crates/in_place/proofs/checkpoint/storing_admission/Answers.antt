@@ -10,7 +10,8 @@ use Rattle.in_place.proofs.checkpoint.storing_admission.Goals as goal
 
 pub own_of-own-requires : goal.own_of-own-requires
 own_of-own-requires c =
-    (let known' : (length c.args.w.now ≡ 6464) × (c.args.i < 16) = let h = sound_words c.args.w.now c.requires.0 in (h.size, omega (arith, h.few, c.requires.1)) in known')
+    let known : (length c.args.w.now ≡ 6464) × (c.args.i < 16) = let h = sound_words c.args.w.now c.requires.0 in (h.size, omega (arith, h.few, c.requires.1)) in
+    known
 
 pub returns-then-full : goal.returns-then-full
 returns-then-full c =
@@ -18,19 +19,23 @@ returns-then-full c =
 
 pub wide4-written-requires : goal.wide4-written-requires
 wide4-written-requires c =
-    omega (arith, ((let known' : (length c.args.w.now ≡ 6464) × (c.args.i < 16) = let h = sound_words c.args.w.now c.requires.0 in (h.size, omega (arith, h.few, c.requires.1)) in known')).0)
+    let known : (length c.args.w.now ≡ 6464) × (c.args.i < 16) = let h = sound_words c.args.w.now c.requires.0 in (h.size, omega (arith, h.few, c.requires.1)) in
+    omega (arith, known.0)
 
 pub overflow_add-i : goal.overflow_add-i
 overflow_add-i c =
-    let k = (let known' : (length c.args.w.now ≡ 6464) × (c.args.i < 16) = let h = sound_words c.args.w.now c.requires.0 in (h.size, omega (arith, h.few, c.requires.1)) in known') in search rules
+    let known : (length c.args.w.now ≡ 6464) × (c.args.i < 16) = let h = sound_words c.args.w.now c.requires.0 in (h.size, omega (arith, h.few, c.requires.1)) in
+    let k = known in search rules
 
 pub offset_bounds-w-i : goal.offset_bounds-w-i
 offset_bounds-w-i c =
-    let k = (let known' : (length c.args.w.now ≡ 6464) × (c.args.i < 16) = let h = sound_words c.args.w.now c.requires.0 in (h.size, omega (arith, h.few, c.requires.1)) in known') in search rules
+    let known : (length c.args.w.now ≡ 6464) × (c.args.i < 16) = let h = sound_words c.args.w.now c.requires.0 in (h.size, omega (arith, h.few, c.requires.1)) in
+    let k = known in search rules
 
 pub bounds-w-i : goal.bounds-w-i
 bounds-w-i c =
-    let k = (let known' : (length c.args.w.now ≡ 6464) × (c.args.i < 16) = let h = sound_words c.args.w.now c.requires.0 in (h.size, omega (arith, h.few, c.requires.1)) in known') in omega (arith, k.0, k.1)
+    let known : (length c.args.w.now ≡ 6464) × (c.args.i < 16) = let h = sound_words c.args.w.now c.requires.0 in (h.size, omega (arith, h.few, c.requires.1)) in
+    let k = known in omega (arith, k.0, k.1)
 
 pub returns-then-past : goal.returns-then-past
 returns-then-past c =

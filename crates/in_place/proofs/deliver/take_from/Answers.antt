@@ -9,11 +9,13 @@ use Rattle.in_place.proofs.deliver.take_from.Goals as goal
 
 pub own_of-own-requires : goal.own_of-own-requires
 own_of-own-requires c =
-    let k = sound_words c.args.w.now c.requires.w_value.0 in (k.size, omega (arith, k.few, (let in_run' : c.args.i < count_of c.args.w.now = omega (arith, c.requires.i_value.0, receiver_in c.args.w.now c.requires.w_value.0 (message_in c.args.w.now c.args.k).number c.args.k c.requires.w_value.1) in in_run')))
+    let in_run : c.args.i < count_of c.args.w.now = omega (arith, c.requires.i_value.0, receiver_in c.args.w.now c.requires.w_value.0 (message_in c.args.w.now c.args.k).number c.args.k c.requires.w_value.1) in
+    let k = sound_words c.args.w.now c.requires.w_value.0 in (k.size, omega (arith, k.few, in_run))
 
 pub receive-received-requires : goal.receive-received-requires
 receive-received-requires c =
-    let p = c.requires.w_value in (p.0, (let in_run' : c.args.i < count_of c.args.w.now = omega (arith, c.requires.i_value.0, receiver_in c.args.w.now c.requires.w_value.0 (message_in c.args.w.now c.args.k).number c.args.k c.requires.w_value.1) in in_run'), own_early c.args.w.now p.0 c.args.deleted.now c.args.k p.1 p.2 c.args.i ((let in_run' : c.args.i < count_of c.args.w.now = omega (arith, c.requires.i_value.0, receiver_in c.args.w.now c.requires.w_value.0 (message_in c.args.w.now c.args.k).number c.args.k c.requires.w_value.1) in in_run')) c.args.forced c.requires.i_value.3, p.2)
+    let in_run : c.args.i < count_of c.args.w.now = omega (arith, c.requires.i_value.0, receiver_in c.args.w.now c.requires.w_value.0 (message_in c.args.w.now c.args.k).number c.args.k c.requires.w_value.1) in
+    let p = c.requires.w_value in (p.0, in_run, own_early c.args.w.now p.0 c.args.deleted.now c.args.k p.1 p.2 c.args.i in_run c.args.forced c.requires.i_value.3, p.2)
 
 pub take_out-requires : goal.take_out-requires
 take_out-requires c =
@@ -21,7 +23,8 @@ take_out-requires c =
 
 pub answer_of-answer-requires : goal.answer_of-answer-requires
 answer_of-answer-requires c =
-    omega (arith, (sound_part c.args.w.now c.requires.w_value.0 c.args.i ((let in_run' : c.args.i < count_of c.args.w.now = omega (arith, c.requires.i_value.0, receiver_in c.args.w.now c.requires.w_value.0 (message_in c.args.w.now c.args.k).number c.args.k c.requires.w_value.1) in in_run'))).own_some, ap (λ (x : Interval). x.0) c.own_of-own.ensures)
+    let in_run : c.args.i < count_of c.args.w.now = omega (arith, c.requires.i_value.0, receiver_in c.args.w.now c.requires.w_value.0 (message_in c.args.w.now c.args.k).number c.args.k c.requires.w_value.1) in
+    omega (arith, (sound_part c.args.w.now c.requires.w_value.0 c.args.i in_run).own_some, ap (λ (x : Interval). x.0) c.own_of-own.ensures)
 
 pub returns : goal.returns
 returns c =

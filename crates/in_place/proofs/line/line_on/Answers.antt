@@ -22,13 +22,17 @@ returns-then-short c =
 
 pub line_within-requires : goal.line_within-requires
 line_within-requires c =
-    (c.requires, refl, ltb-false (length c.args.line.now) (count_of c.args.w.now) ((let long' : let a = c.args in ltb (length a.line.now) (count_of a.w.now) ≡ false = sym c.is_line_short-short.ensures ∙ c.if-short.false in long')))
+    let long : let a = c.args in ltb (length a.line.now) (count_of a.w.now) ≡ false = sym c.is_line_short-short.ensures ∙ c.if-short.false in
+    (c.requires, refl, ltb-false (length c.args.line.now) (count_of c.args.w.now) long)
 
 pub returns-in-Refused : goal.returns-in-Refused
 unfolding refused
 returns-in-Refused c =
-    rw (line_refused c.args.w.now c.requires c.args.failed c.args.line.now ((let long' : let a = c.args in ltb (length a.line.now) (count_of a.w.now) ≡ false = sym c.is_line_short-short.ensures ∙ c.if-short.false in long')) _ (sym c.recovery_admission-admission.ensures ∙ c.in-Refused.is)) (record { w_value = refl; value = refl; line_after = refl })
+    let long : let a = c.args in ltb (length a.line.now) (count_of a.w.now) ≡ false = sym c.is_line_short-short.ensures ∙ c.if-short.false in
+    rw (line_refused c.args.w.now c.requires c.args.failed c.args.line.now long _ (sym c.recovery_admission-admission.ensures ∙ c.in-Refused.is)) (record { w_value = refl; value = refl; line_after = refl })
 
 pub returns-in-Accepted : goal.returns-in-Accepted
 returns-in-Accepted c =
-    rw (line_passed c.args.w.now c.requires c.args.failed c.args.line.now ((let long' : let a = c.args in ltb (length a.line.now) (count_of a.w.now) ≡ false = sym c.is_line_short-short.ensures ∙ c.if-short.false in long')) (sym c.recovery_admission-admission.ensures ∙ (let accepted' : c.recovery_admission-admission.result ≡ Accepted = search rules in accepted'))) (record { w_value = refl; value = c.line_within.ensures.value; line_after = c.line_within.ensures.line_after })
+    let long : let a = c.args in ltb (length a.line.now) (count_of a.w.now) ≡ false = sym c.is_line_short-short.ensures ∙ c.if-short.false in
+    let accepted : c.recovery_admission-admission.result ≡ Accepted = search rules in
+    rw (line_passed c.args.w.now c.requires c.args.failed c.args.line.now long (sym c.recovery_admission-admission.ensures ∙ accepted)) (record { w_value = refl; value = c.line_within.ensures.value; line_after = c.line_within.ensures.line_after })

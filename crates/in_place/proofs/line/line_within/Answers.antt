@@ -17,4 +17,5 @@ write_line-requires c =
 
 pub returns : goal.returns
 returns c =
-    let found = c.members_of-members.ensures.indexes_value ((let there' : no_member_of (run_of c.args.w.now) c.args.failed ≡ false = not-true _ (sym c.members_of-members.ensures.all_value ∙ not-false _ c.if-not-members.false) in there')) in let line = line_found c.args.w.now c.requires.0 c.args.n c.requires.1 c.args.failed ((let there' : no_member_of (run_of c.args.w.now) c.args.failed ≡ false = not-true _ (sym c.members_of-members.ensures.all_value ∙ not-false _ c.if-not-members.false) in there')) _ found in rw ((let there' : no_member_of (run_of c.args.w.now) c.args.failed ≡ false = not-true _ (sym c.members_of-members.ensures.all_value ∙ not-false _ c.if-not-members.false) in there')) (record { value = refl; line_after = c.write_line.ensures ∙ ap (λ (x : List ℕ). sets c.args.line.now 0 x) line })
+    let there : no_member_of (run_of c.args.w.now) c.args.failed ≡ false = not-true _ (sym c.members_of-members.ensures.all_value ∙ not-false _ c.if-not-members.false) in
+    let found = c.members_of-members.ensures.indexes_value there in let line = line_found c.args.w.now c.requires.0 c.args.n c.requires.1 c.args.failed there _ found in rw there (record { value = refl; line_after = c.write_line.ensures ∙ ap (λ (x : List ℕ). sets c.args.line.now 0 x) line })

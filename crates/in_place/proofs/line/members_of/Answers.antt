@@ -21,15 +21,17 @@ returns-then-not-all c =
 
 pub indexes_of-indexes-requires : goal.indexes_of-indexes-requires
 indexes_of-indexes-requires c =
+    let there : no_member_of (run_of c.args.w.now) c.args.failed ≡ false = members_there c.args.w.now c.requires.0 c.args.n c.requires.1 c.args.failed _ c.limits_of-limits.ensures _ c.find_members-all.ensures.value c.if-not-all.false in
     let w = c.args.w.now in let n = c.args.n in let k = sound_words w c.requires.0 in (
       k.size,
       omega (arith, k.few, c.requires.1),
       some_own w c.requires.0 n c.requires.1,
       most_kept_count w c.requires.0 n c.requires.1,
       all_used w c.requires.0 n c.requires.1,
-      members_found w c.requires.0 n c.requires.1 c.args.failed _ c.limits_of-limits.ensures _ c.find_members-all.ensures.pasts_after ((let there' : no_member_of (run_of c.args.w.now) c.args.failed ≡ false = members_there c.args.w.now c.requires.0 c.args.n c.requires.1 c.args.failed _ c.limits_of-limits.ensures _ c.find_members-all.ensures.value (c.if-not-all.false) in there')),
+      members_found w c.requires.0 n c.requires.1 c.args.failed _ c.limits_of-limits.ensures _ c.find_members-all.ensures.pasts_after there,
     )
 
 pub returns : goal.returns
 returns c =
-    let found = indexes_found c.args.w.now c.requires.0 c.args.n c.requires.1 c.args.failed _ c.limits_of-limits.ensures _ c.find_members-all.ensures.pasts_after _ c.indexes_of-indexes.ensures in rw ((let there' : no_member_of (run_of c.args.w.now) c.args.failed ≡ false = members_there c.args.w.now c.requires.0 c.args.n c.requires.1 c.args.failed _ c.limits_of-limits.ensures _ c.find_members-all.ensures.value (c.if-not-all.false) in there')) (record { all_value = c.if-not-all.false; indexes_value = λ h. found })
+    let there : no_member_of (run_of c.args.w.now) c.args.failed ≡ false = members_there c.args.w.now c.requires.0 c.args.n c.requires.1 c.args.failed _ c.limits_of-limits.ensures _ c.find_members-all.ensures.value c.if-not-all.false in
+    let found = indexes_found c.args.w.now c.requires.0 c.args.n c.requires.1 c.args.failed _ c.limits_of-limits.ensures _ c.find_members-all.ensures.pasts_after _ c.indexes_of-indexes.ensures in rw there (record { all_value = c.if-not-all.false; indexes_value = λ h. found })

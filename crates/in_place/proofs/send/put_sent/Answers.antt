@@ -21,50 +21,69 @@ make_room-requires c =
 
 pub wide2-number-requires : goal.wide2-number-requires
 wide2-number-requires c =
-    let g = (let enough_room' : EnoughRoom c.args.w.now c.make_room.new.w = rw c.make_room.ensures (with_room_lem c.args.w.now c.requires.0 c.requires.3) in enough_room') in omega (arith, g.long)
+    let enough_room : EnoughRoom c.args.w.now c.make_room.new.w = rw c.make_room.ensures (with_room_lem c.args.w.now c.requires.0 c.requires.3) in
+    let g = enough_room in omega (arith, g.long)
 
 pub overflow_add-number : goal.overflow_add-number
 overflow_add-number c =
-    omega (arith, (let last_is' : c.wide2-number.result ≡ wide2 c.args.w.now 2 = let g = (let enough_room' : EnoughRoom c.args.w.now c.make_room.new.w = rw c.make_room.ensures (with_room_lem c.args.w.now c.requires.0 c.requires.3) in enough_room') in c.wide2-number.ensures ∙ rw (g.rest 2 (omega arith) (λ z. omega arith), g.rest 3 (omega arith) (λ z. omega arith)) in last_is'), c.requires.4)
+    let enough_room : EnoughRoom c.args.w.now c.make_room.new.w = rw c.make_room.ensures (with_room_lem c.args.w.now c.requires.0 c.requires.3) in
+    let last_is : c.wide2-number.result ≡ wide2 c.args.w.now 2 = let g = enough_room in c.wide2-number.ensures ∙ rw (g.rest 2 (omega arith) (λ z. omega arith), g.rest 3 (omega arith) (λ z. omega arith)) in
+    omega (arith, last_is, c.requires.4)
 
 pub overflow_mul-i : goal.overflow_mul-i
 overflow_mul-i c =
-    omega (arith, (let few' : c.args.i < 16 = let h = sound_words c.args.w.now c.requires.0 in omega (arith, c.requires.1, h.few) in few'))
+    let few : c.args.i < 16 = let h = sound_words c.args.w.now c.requires.0 in omega (arith, c.requires.1, h.few) in
+    omega (arith, few)
 
 pub overflow_add-i : goal.overflow_add-i
 overflow_add-i c =
-    omega (arith, (let few' : c.args.i < 16 = let h = sound_words c.args.w.now c.requires.0 in omega (arith, c.requires.1, h.few) in few'))
+    let few : c.args.i < 16 = let h = sound_words c.args.w.now c.requires.0 in omega (arith, c.requires.1, h.few) in
+    omega (arith, few)
 
 pub vector_at-vector-requires : goal.vector_at-vector-requires
 vector_at-vector-requires c =
-    omega (arith, ((let enough_room' : EnoughRoom c.args.w.now c.make_room.new.w = rw c.make_room.ensures (with_room_lem c.args.w.now c.requires.0 c.requires.3) in enough_room')).long, (let few' : c.args.i < 16 = let h = sound_words c.args.w.now c.requires.0 in omega (arith, c.requires.1, h.few) in few'))
+    let enough_room : EnoughRoom c.args.w.now c.make_room.new.w = rw c.make_room.ensures (with_room_lem c.args.w.now c.requires.0 c.requires.3) in
+    let few : c.args.i < 16 = let h = sound_words c.args.w.now c.requires.0 in omega (arith, c.requires.1, h.few) in
+    omega (arith, enough_room.long, few)
 
 pub put_last-requires : goal.put_last-requires
 put_last-requires c =
-    let g = (let enough_room' : EnoughRoom c.args.w.now c.make_room.new.w = rw c.make_room.ensures (with_room_lem c.args.w.now c.requires.0 c.requires.3) in enough_room') in (g.long, g.room, omega (arith, g.rest 1 (omega arith) (λ z. omega arith), c.requires.3), (let few' : c.args.i < 16 = let h = sound_words c.args.w.now c.requires.0 in omega (arith, c.requires.1, h.few) in few'), (let few_to' : c.args.j < 16 = let h = sound_words c.args.w.now c.requires.0 in omega (arith, c.requires.2, h.few) in few_to'))
+    let enough_room : EnoughRoom c.args.w.now c.make_room.new.w = rw c.make_room.ensures (with_room_lem c.args.w.now c.requires.0 c.requires.3) in
+    let few : c.args.i < 16 = let h = sound_words c.args.w.now c.requires.0 in omega (arith, c.requires.1, h.few) in
+    let few_to : c.args.j < 16 = let h = sound_words c.args.w.now c.requires.0 in omega (arith, c.requires.2, h.few) in
+    let g = enough_room in (g.long, g.room, omega (arith, g.rest 1 (omega arith) (λ z. omega arith), c.requires.3), few, few_to)
 
 pub put2-requires : goal.put2-requires
 put2-requires c =
-    omega (arith, c.put_last.auto.w, ((let enough_room' : EnoughRoom c.args.w.now c.make_room.new.w = rw c.make_room.ensures (with_room_lem c.args.w.now c.requires.0 c.requires.3) in enough_room')).long)
+    let enough_room : EnoughRoom c.args.w.now c.make_room.new.w = rw c.make_room.ensures (with_room_lem c.args.w.now c.requires.0 c.requires.3) in
+    omega (arith, c.put_last.auto.w, enough_room.long)
 
 pub overflow_add-w : goal.overflow_add-w
 overflow_add-w c =
-    omega (arith, (let from_few' : c.args.i < 16 = (let few' : c.args.i < 16 = let h = sound_words c.args.w.now c.requires.0 in omega (arith, c.requires.1, h.few) in few') in from_few'))
+    let few : c.args.i < 16 = let h = sound_words c.args.w.now c.requires.0 in omega (arith, c.requires.1, h.few) in
+    let from_few : c.args.i < 16 = few in
+    omega (arith, from_few)
 
 pub offset_bounds-w-i : goal.offset_bounds-w-i
 offset_bounds-w-i c =
-    omega (arith, (let from_few' : c.args.i < 16 = (let few' : c.args.i < 16 = let h = sound_words c.args.w.now c.requires.0 in omega (arith, c.requires.1, h.few) in few') in from_few'))
+    let few : c.args.i < 16 = let h = sound_words c.args.w.now c.requires.0 in omega (arith, c.requires.1, h.few) in
+    let from_few : c.args.i < 16 = few in
+    omega (arith, from_few)
 
 pub bounds-w-i : goal.bounds-w-i
 bounds-w-i c =
-    omega (arith, c.put2.auto.w, c.put_last.auto.w, ((let enough_room' : EnoughRoom c.args.w.now c.make_room.new.w = rw c.make_room.ensures (with_room_lem c.args.w.now c.requires.0 c.requires.3) in enough_room')).long, (let few' : c.args.i < 16 = let h = sound_words c.args.w.now c.requires.0 in omega (arith, c.requires.1, h.few) in few'))
+    let enough_room : EnoughRoom c.args.w.now c.make_room.new.w = rw c.make_room.ensures (with_room_lem c.args.w.now c.requires.0 c.requires.3) in
+    let few : c.args.i < 16 = let h = sound_words c.args.w.now c.requires.0 in omega (arith, c.requires.1, h.few) in
+    omega (arith, c.put2.auto.w, c.put_last.auto.w, enough_room.long, few)
 
 pub shape_of-w : goal.shape_of-w
 shape_of-w c =
     simp length-set (c.put2.auto.w ∙ c.put_last.auto.w ∙ c.make_room.auto.w)
 
 pub returns : goal.returns
-returns c = (
-  sent_by c.args.w.now _ _ _ c.args.i c.args.j _ _ c.make_room.ensures c.wide2-number.ensures c.vector_at-vector.ensures c.put_last.ensures c.put2.ensures,
-  ap (λ (k : ℕ). k + 1) ((let last_is' : c.wide2-number.result ≡ wide2 c.args.w.now 2 = let g = (let enough_room' : EnoughRoom c.args.w.now c.make_room.new.w = rw c.make_room.ensures (with_room_lem c.args.w.now c.requires.0 c.requires.3) in enough_room') in c.wide2-number.ensures ∙ rw (g.rest 2 (omega arith) (λ z. omega arith), g.rest 3 (omega arith) (λ z. omega arith)) in last_is')),
-)
+returns c =
+    let enough_room : EnoughRoom c.args.w.now c.make_room.new.w = rw c.make_room.ensures (with_room_lem c.args.w.now c.requires.0 c.requires.3) in
+    let last_is : c.wide2-number.result ≡ wide2 c.args.w.now 2 = let g = enough_room in c.wide2-number.ensures ∙ rw (g.rest 2 (omega arith) (λ z. omega arith), g.rest 3 (omega arith) (λ z. omega arith)) in (
+      sent_by c.args.w.now _ _ _ c.args.i c.args.j _ _ c.make_room.ensures c.wide2-number.ensures c.vector_at-vector.ensures c.put_last.ensures c.put2.ensures,
+      ap (λ (k : ℕ). k + 1) last_is,
+    )

@@ -40,11 +40,14 @@ wide2-last-requires c =
 
 pub put_sent-number-requires : goal.put_sent-number-requires
 put_sent-number-requires c =
-    let p = send_places c.args.w.now c.requires c.args.i c.args.j ((let judged' : let a = c.args in send_admission_of a.i a.j (word a.w.now 0) (word a.w.now 1) (wide2 a.w.now 2) ≡ c.send_admission-admission.result = let a = c.args in ap (send_admission_of a.i a.j (word a.w.now 0) (word a.w.now 1)) (sym c.wide2-last.ensures) ∙ sym c.send_admission-admission.ensures in judged') ∙ (let accepted' : c.send_admission-admission.result ≡ Accepted = search rules in accepted')) in (c.requires, p.0, p.1, p.2, p.3)
+    let judged : let a = c.args in send_admission_of a.i a.j (word a.w.now 0) (word a.w.now 1) (wide2 a.w.now 2) ≡ c.send_admission-admission.result = let a = c.args in ap (send_admission_of a.i a.j (word a.w.now 0) (word a.w.now 1)) (sym c.wide2-last.ensures) ∙ sym c.send_admission-admission.ensures in
+    let accepted : c.send_admission-admission.result ≡ Accepted = search rules in
+    let p = send_places c.args.w.now c.requires c.args.i c.args.j (judged ∙ accepted) in (c.requires, p.0, p.1, p.2, p.3)
 
 pub returns-in-Refused : goal.returns-in-Refused
 returns-in-Refused c =
-    rw (send_refused c.args.w.now c.requires c.args.i c.args.j _ ((let judged' : let a = c.args in send_admission_of a.i a.j (word a.w.now 0) (word a.w.now 1) (wide2 a.w.now 2) ≡ c.send_admission-admission.result = let a = c.args in ap (send_admission_of a.i a.j (word a.w.now 0) (word a.w.now 1)) (sym c.wide2-last.ensures) ∙ sym c.send_admission-admission.ensures in judged') ∙ c.in-Refused.is)) (record { w_after = refl; value = refl; w_unchanged = λ why q. refl; leaves = same_words c.args.w.now })
+    let judged : let a = c.args in send_admission_of a.i a.j (word a.w.now 0) (word a.w.now 1) (wide2 a.w.now 2) ≡ c.send_admission-admission.result = let a = c.args in ap (send_admission_of a.i a.j (word a.w.now 0) (word a.w.now 1)) (sym c.wide2-last.ensures) ∙ sym c.send_admission-admission.ensures in
+    rw (send_refused c.args.w.now c.requires c.args.i c.args.j _ (judged ∙ c.in-Refused.is)) (record { w_after = refl; value = refl; w_unchanged = λ why q. refl; leaves = same_words c.args.w.now })
 
 pub shape_of-w-in-Accepted : goal.shape_of-w-in-Accepted
 shape_of-w-in-Accepted c =
@@ -52,4 +55,6 @@ shape_of-w-in-Accepted c =
 
 pub returns-in-Accepted : goal.returns-in-Accepted
 returns-in-Accepted c =
-    let z = sent c.args.w.now c.requires c.args.i c.args.j ((let judged' : let a = c.args in send_admission_of a.i a.j (word a.w.now 0) (word a.w.now 1) (wide2 a.w.now 2) ≡ c.send_admission-admission.result = let a = c.args in ap (send_admission_of a.i a.j (word a.w.now 0) (word a.w.now 1)) (sym c.wide2-last.ensures) ∙ sym c.send_admission-admission.ensures in judged') ∙ (let accepted' : c.send_admission-admission.result ≡ Accepted = search rules in accepted')) _ _ c.put_sent-number.ensures.0 c.put_sent-number.ensures.1 in record { w_after = z.0; value = z.1.0; w_unchanged = z.1.1.0; leaves = z.1.1.1 }
+    let judged : let a = c.args in send_admission_of a.i a.j (word a.w.now 0) (word a.w.now 1) (wide2 a.w.now 2) ≡ c.send_admission-admission.result = let a = c.args in ap (send_admission_of a.i a.j (word a.w.now 0) (word a.w.now 1)) (sym c.wide2-last.ensures) ∙ sym c.send_admission-admission.ensures in
+    let accepted : c.send_admission-admission.result ≡ Accepted = search rules in
+    let z = sent c.args.w.now c.requires c.args.i c.args.j (judged ∙ accepted) _ _ c.put_sent-number.ensures.0 c.put_sent-number.ensures.1 in record { w_after = z.0; value = z.1.0; w_unchanged = z.1.1.0; leaves = z.1.1.1 }

@@ -23,7 +23,8 @@ loop-p-init c =
 
 pub overflow_cast-w : goal.overflow_cast-w
 overflow_cast-w c =
-    omega (arith, (let small' : get_or c.args.block_counts.now c.loop-p.p 0 ≤ 65535 = unfold is_block_count_of in let k = get_or c.args.block_counts.now c.loop-p.p 0 in leb-true k 65535 (and_right (leb 1 k) (leb k 65535) (all_out c.args.n (λ q. is_block_count_of (get_or c.args.block_counts.now q 0)) c.requires.3 c.loop-p.p c.loop-p-test.true)) in small'))
+    let small : get_or c.args.block_counts.now c.loop-p.p 0 ≤ 65535 = unfold is_block_count_of in let k = get_or c.args.block_counts.now c.loop-p.p 0 in leb-true k 65535 (and_right (leb 1 k) (leb k 65535) (all_out c.args.n (λ q. is_block_count_of (get_or c.args.block_counts.now q 0)) c.requires.3 c.loop-p.p c.loop-p-test.true)) in
+    omega (arith, small)
 
 pub bounds-w-p : goal.bounds-w-p
 bounds-w-p c =

@@ -22,71 +22,92 @@ loop-p-init c =
 
 pub overflow_mul-w : goal.overflow_mul-w
 overflow_mul-w c =
-    omega (arith, (let small' : c.loop-p.p < 16 = omega (arith, c.loop-p-test.true, c.requires.1) in small'))
+    let small : c.loop-p.p < 16 = omega (arith, c.loop-p-test.true, c.requires.1) in
+    omega (arith, small)
 
 pub overflow_add-w : goal.overflow_add-w
 overflow_add-w c =
-    omega (arith, (let small' : c.loop-p.p < 16 = omega (arith, c.loop-p-test.true, c.requires.1) in small'))
+    let small : c.loop-p.p < 16 = omega (arith, c.loop-p-test.true, c.requires.1) in
+    omega (arith, small)
 
 pub overflow_add-w-in-loop-p : goal.overflow_add-w-in-loop-p
 overflow_add-w-in-loop-p c =
-    omega (arith, (let small' : c.loop-p.p < 16 = omega (arith, c.loop-p-test.true, c.requires.1) in small'))
+    let small : c.loop-p.p < 16 = omega (arith, c.loop-p-test.true, c.requires.1) in
+    omega (arith, small)
 
 pub offset_bounds-w-p : goal.offset_bounds-w-p
 offset_bounds-w-p c =
-    omega (arith, (let small' : c.loop-p.p < 16 = omega (arith, c.loop-p-test.true, c.requires.1) in small'))
+    let small : c.loop-p.p < 16 = omega (arith, c.loop-p-test.true, c.requires.1) in
+    omega (arith, small)
 
 pub bounds-w-p : goal.bounds-w-p
 bounds-w-p c =
-    omega (arith, (let small' : c.loop-p.p < 16 = omega (arith, c.loop-p-test.true, c.requires.1) in small'), (let long' : length c.loop-p.w ≡ 6464 = c.loop-p.invariant.1 ∙ c.requires.0 in long'))
+    let small : c.loop-p.p < 16 = omega (arith, c.loop-p-test.true, c.requires.1) in
+    let long : length c.loop-p.w ≡ 6464 = c.loop-p.invariant.1 ∙ c.requires.0 in
+    omega (arith, small, long)
 
 pub overflow_mul-w-in-loop-p : goal.overflow_mul-w-in-loop-p
 overflow_mul-w-in-loop-p c =
-    omega (arith, (let small' : c.loop-p.p < 16 = omega (arith, c.loop-p-test.true, c.requires.1) in small'))
+    let small : c.loop-p.p < 16 = omega (arith, c.loop-p-test.true, c.requires.1) in
+    omega (arith, small)
 
 pub overflow_add-w-in-loop-p-2 : goal.overflow_add-w-in-loop-p-2
 overflow_add-w-in-loop-p-2 c =
-    omega (arith, (let small' : c.loop-p.p < 16 = omega (arith, c.loop-p-test.true, c.requires.1) in small'))
+    let small : c.loop-p.p < 16 = omega (arith, c.loop-p-test.true, c.requires.1) in
+    omega (arith, small)
 
 pub overflow_add-w-in-loop-p-3 : goal.overflow_add-w-in-loop-p-3
 overflow_add-w-in-loop-p-3 c =
-    omega (arith, (let small' : c.loop-p.p < 16 = omega (arith, c.loop-p-test.true, c.requires.1) in small'))
+    let small : c.loop-p.p < 16 = omega (arith, c.loop-p-test.true, c.requires.1) in
+    omega (arith, small)
 
 pub offset_bounds-w-p-in-loop-p : goal.offset_bounds-w-p-in-loop-p
 offset_bounds-w-p-in-loop-p c =
-    omega (arith, (let small' : c.loop-p.p < 16 = omega (arith, c.loop-p-test.true, c.requires.1) in small'))
+    let small : c.loop-p.p < 16 = omega (arith, c.loop-p-test.true, c.requires.1) in
+    omega (arith, small)
 
 pub bounds-w-p-in-loop-p : goal.bounds-w-p-in-loop-p
 bounds-w-p-in-loop-p c =
-    simp length-set (omega (arith, (let small' : c.loop-p.p < 16 = omega (arith, c.loop-p-test.true, c.requires.1) in small'), (let long' : length c.loop-p.w ≡ 6464 = c.loop-p.invariant.1 ∙ c.requires.0 in long')))
+    let small : c.loop-p.p < 16 = omega (arith, c.loop-p-test.true, c.requires.1) in
+    let long : length c.loop-p.w ≡ 6464 = c.loop-p.invariant.1 ∙ c.requires.0 in
+    simp length-set (omega (arith, small, long))
 
 pub overflow_mul-w-in-loop-p-2 : goal.overflow_mul-w-in-loop-p-2
 overflow_mul-w-in-loop-p-2 c =
-    omega (arith, (let small' : c.loop-p.p < 16 = omega (arith, c.loop-p-test.true, c.requires.1) in small'))
+    let small : c.loop-p.p < 16 = omega (arith, c.loop-p-test.true, c.requires.1) in
+    omega (arith, small)
 
 pub overflow_add-w-in-loop-p-4 : goal.overflow_add-w-in-loop-p-4
 overflow_add-w-in-loop-p-4 c =
-    omega (arith, (let small' : c.loop-p.p < 16 = omega (arith, c.loop-p-test.true, c.requires.1) in small'))
+    let small : c.loop-p.p < 16 = omega (arith, c.loop-p-test.true, c.requires.1) in
+    omega (arith, small)
 
 pub offset_bounds-w-p-in-loop-p-2 : goal.offset_bounds-w-p-in-loop-p-2
 offset_bounds-w-p-in-loop-p-2 c =
-    omega (arith, (let small' : c.loop-p.p < 16 = omega (arith, c.loop-p-test.true, c.requires.1) in small'))
+    let small : c.loop-p.p < 16 = omega (arith, c.loop-p-test.true, c.requires.1) in
+    omega (arith, small)
 
 pub bounds-w-p-in-loop-p-2 : goal.bounds-w-p-in-loop-p-2
 bounds-w-p-in-loop-p-2 c =
-    simp length-set (omega (arith, (let small' : c.loop-p.p < 16 = omega (arith, c.loop-p-test.true, c.requires.1) in small'), (let long' : length c.loop-p.w ≡ 6464 = c.loop-p.invariant.1 ∙ c.requires.0 in long')))
+    let small : c.loop-p.p < 16 = omega (arith, c.loop-p-test.true, c.requires.1) in
+    let long : length c.loop-p.w ≡ 6464 = c.loop-p.invariant.1 ∙ c.requires.0 in
+    simp length-set (omega (arith, small, long))
 
 pub overflow_add-w-in-loop-p-5 : goal.overflow_add-w-in-loop-p-5
 overflow_add-w-in-loop-p-5 c =
-    omega (arith, (let small' : c.loop-p.p < 16 = omega (arith, c.loop-p-test.true, c.requires.1) in small'))
+    let small : c.loop-p.p < 16 = omega (arith, c.loop-p-test.true, c.requires.1) in
+    omega (arith, small)
 
 pub offset_bounds-w-p-in-loop-p-3 : goal.offset_bounds-w-p-in-loop-p-3
 offset_bounds-w-p-in-loop-p-3 c =
-    omega (arith, (let small' : c.loop-p.p < 16 = omega (arith, c.loop-p-test.true, c.requires.1) in small'))
+    let small : c.loop-p.p < 16 = omega (arith, c.loop-p-test.true, c.requires.1) in
+    omega (arith, small)
 
 pub bounds-w-p-in-loop-p-3 : goal.bounds-w-p-in-loop-p-3
 bounds-w-p-in-loop-p-3 c =
-    simp length-set (omega (arith, (let small' : c.loop-p.p < 16 = omega (arith, c.loop-p-test.true, c.requires.1) in small'), (let long' : length c.loop-p.w ≡ 6464 = c.loop-p.invariant.1 ∙ c.requires.0 in long')))
+    let small : c.loop-p.p < 16 = omega (arith, c.loop-p-test.true, c.requires.1) in
+    let long : length c.loop-p.w ≡ 6464 = c.loop-p.invariant.1 ∙ c.requires.0 in
+    simp length-set (omega (arith, small, long))
 
 pub loop-p-preserved : goal.loop-p-preserved
 loop-p-preserved c =

@@ -24,23 +24,30 @@ overflow_cast-w c =
 
 pub bounds-w-0 : goal.bounds-w-0
 bounds-w-0 c =
-    omega (arith, (let long' : length c.args.w.now ≡ 6464 = ap length c.requires.0 ∙ zeros_length in long'))
+    let long : length c.args.w.now ≡ 6464 = ap length c.requires.0 ∙ zeros_length in
+    omega (arith, long)
 
 pub put_counts-requires : goal.put_counts-requires
 put_counts-requires c =
-    ((let set_length' : length (set c.args.w.now 0 c.args.n) ≡ length c.args.w.now = length-set {A = ℕ} c.args.w.now 0 c.args.n in set_length') ∙ (let long' : length c.args.w.now ≡ 6464 = ap length c.requires.0 ∙ zeros_length in long'), c.requires.1, c.requires.2, c.requires.3)
+    let set_length : length (set c.args.w.now 0 c.args.n) ≡ length c.args.w.now = length-set {A = ℕ} c.args.w.now 0 c.args.n in
+    let long : length c.args.w.now ≡ 6464 = ap length c.requires.0 ∙ zeros_length in
+    (set_length ∙ long, c.requires.1, c.requires.2, c.requires.3)
 
 pub put_firsts-requires : goal.put_firsts-requires
 put_firsts-requires c =
-    (c.put_counts.auto.w ∙ (let set_length' : length (set c.args.w.now 0 c.args.n) ≡ length c.args.w.now = length-set {A = ℕ} c.args.w.now 0 c.args.n in set_length') ∙ (let long' : length c.args.w.now ≡ 6464 = ap length c.requires.0 ∙ zeros_length in long'), c.requires.1)
+    let set_length : length (set c.args.w.now 0 c.args.n) ≡ length c.args.w.now = length-set {A = ℕ} c.args.w.now 0 c.args.n in
+    let long : length c.args.w.now ≡ 6464 = ap length c.requires.0 ∙ zeros_length in
+    (c.put_counts.auto.w ∙ set_length ∙ long, c.requires.1)
 
 pub put4-requires : goal.put4-requires
 put4-requires c =
-    omega (arith, c.put_firsts.auto.w, c.put_counts.auto.w, length-set c.args.w.now 0 c.args.n, (let long' : length c.args.w.now ≡ 6464 = ap length c.requires.0 ∙ zeros_length in long'))
+    let long : length c.args.w.now ≡ 6464 = ap length c.requires.0 ∙ zeros_length in
+    omega (arith, c.put_firsts.auto.w, c.put_counts.auto.w, length-set c.args.w.now 0 c.args.n, long)
 
 pub shape_of-w : goal.shape_of-w
 shape_of-w c =
-    c.put4.auto.w ∙ c.put_firsts.auto.w ∙ c.put_counts.auto.w ∙ (let set_length' : length (set c.args.w.now 0 c.args.n) ≡ length c.args.w.now = length-set {A = ℕ} c.args.w.now 0 c.args.n in set_length')
+    let set_length : length (set c.args.w.now 0 c.args.n) ≡ length c.args.w.now = length-set {A = ℕ} c.args.w.now 0 c.args.n in
+    c.put4.auto.w ∙ c.put_firsts.auto.w ∙ c.put_counts.auto.w ∙ set_length
 
 pub returns : goal.returns
 returns c =

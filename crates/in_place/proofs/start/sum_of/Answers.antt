@@ -19,15 +19,18 @@ loop-p-init c =
 
 pub overflow_cast-sum : goal.overflow_cast-sum
 overflow_cast-sum c =
-    omega (arith, (let small' : get_or c.args.block_counts.now c.loop-p.p 0 ≤ 4294967295 = omega (arith, c.shared_slice_known-1.given c.loop-p.p) in small'))
+    let small : get_or c.args.block_counts.now c.loop-p.p 0 ≤ 4294967295 = omega (arith, c.shared_slice_known-1.given c.loop-p.p) in
+    omega (arith, small)
 
 pub overflow_add-sum : goal.overflow_add-sum
 overflow_add-sum c =
-    let l = c.loop-p in omega (arith, (let small' : get_or c.args.block_counts.now c.loop-p.p 0 ≤ 4294967295 = omega (arith, c.shared_slice_known-1.given c.loop-p.p) in small'), l.invariant.2, l.invariant.0, c.requires.0)
+    let small : get_or c.args.block_counts.now c.loop-p.p 0 ≤ 4294967295 = omega (arith, c.shared_slice_known-1.given c.loop-p.p) in
+    let l = c.loop-p in omega (arith, small, l.invariant.2, l.invariant.0, c.requires.0)
 
 pub loop-p-preserved : goal.loop-p-preserved
 loop-p-preserved c =
-    let l = c.loop-p in let a = c.args in (search rules, one_more (λ q. get_or a.block_counts.now q 0) l.p l.sum l.invariant.1, omega (arith, (let small' : get_or c.args.block_counts.now c.loop-p.p 0 ≤ 4294967295 = omega (arith, c.shared_slice_known-1.given c.loop-p.p) in small'), l.invariant.2))
+    let small : get_or c.args.block_counts.now c.loop-p.p 0 ≤ 4294967295 = omega (arith, c.shared_slice_known-1.given c.loop-p.p) in
+    let l = c.loop-p in let a = c.args in (search rules, one_more (λ q. get_or a.block_counts.now q 0) l.p l.sum l.invariant.1, omega (arith, small, l.invariant.2))
 
 pub returns : goal.returns
 returns c =

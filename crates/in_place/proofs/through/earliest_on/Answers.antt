@@ -25,39 +25,49 @@ returns-then-short c =
 
 pub names_absent-absent-requires : goal.names_absent-absent-requires
 names_absent-absent-requires c =
-    ((let pairs_in' : 2 * c.pair_count-m.result ≤ length c.args.named.now = omega (arith, c.pair_count-m.ensures, pairs_fit (length c.args.named.now)) in pairs_in'), (sound_words c.args.w.now c.requires).few)
+    let pairs_in : 2 * c.pair_count-m.result ≤ length c.args.named.now = omega (arith, c.pair_count-m.ensures, pairs_fit (length c.args.named.now)) in
+    (pairs_in, (sound_words c.args.w.now c.requires).few)
 
 pub returns-then-absent : goal.returns-then-absent
 unfolding refused
 returns-then-absent c =
-    rw (reach_absent c.args.w.now c.requires c.args.named.now c.args.line.now ((let long' : let a = c.args in ltb (length a.line.now) (count_of a.w.now) ≡ false = sym c.is_line_short-short.ensures ∙ c.if-short.false in long')) (sym ((let absent' : let a = c.args in c.names_absent-absent.result ≡ some_absent (count_of a.w.now) (named_in a.named.now) = let a = c.args in c.names_absent-absent.ensures
+    let long : let a = c.args in ltb (length a.line.now) (count_of a.w.now) ≡ false = sym c.is_line_short-short.ensures ∙ c.if-short.false in
+    let absent : let a = c.args in c.names_absent-absent.result ≡ some_absent (count_of a.w.now) (named_in a.named.now) = let a = c.args in c.names_absent-absent.ensures
     ∙ ap (λ (m : ℕ). any_below m (λ k. leb (count_of a.w.now) (process_of a.named.now k))) c.pair_count-m.ensures
-    ∙ sym (absent_is a.named.now (count_of a.w.now)) in absent')) ∙ c.if-absent.true)) (record { w_value = refl; value = refl; line_after = refl })
+    ∙ sym (absent_is a.named.now (count_of a.w.now)) in
+    rw (reach_absent c.args.w.now c.requires c.args.named.now c.args.line.now long (sym absent ∙ c.if-absent.true)) (record { w_value = refl; value = refl; line_after = refl })
 
 pub is_unfit-unfit-requires : goal.is_unfit-unfit-requires
 is_unfit-unfit-requires c =
-    (let pairs_in' : 2 * c.pair_count-m.result ≤ length c.args.named.now = omega (arith, c.pair_count-m.ensures, pairs_fit (length c.args.named.now)) in pairs_in')
+    let pairs_in : 2 * c.pair_count-m.result ≤ length c.args.named.now = omega (arith, c.pair_count-m.ensures, pairs_fit (length c.args.named.now)) in
+    pairs_in
 
 pub returns-then-unfit : goal.returns-then-unfit
 unfolding refused
 returns-then-unfit c =
-    rw (reach_unfit c.args.w.now c.requires c.args.named.now c.args.line.now ((let long' : let a = c.args in ltb (length a.line.now) (count_of a.w.now) ≡ false = sym c.is_line_short-short.ensures ∙ c.if-short.false in long')) (sym ((let absent' : let a = c.args in c.names_absent-absent.result ≡ some_absent (count_of a.w.now) (named_in a.named.now) = let a = c.args in c.names_absent-absent.ensures
+    let long : let a = c.args in ltb (length a.line.now) (count_of a.w.now) ≡ false = sym c.is_line_short-short.ensures ∙ c.if-short.false in
+    let absent : let a = c.args in c.names_absent-absent.result ≡ some_absent (count_of a.w.now) (named_in a.named.now) = let a = c.args in c.names_absent-absent.ensures
     ∙ ap (λ (m : ℕ). any_below m (λ k. leb (count_of a.w.now) (process_of a.named.now k))) c.pair_count-m.ensures
-    ∙ sym (absent_is a.named.now (count_of a.w.now)) in absent')) ∙ c.if-absent.false) (sym ((let unfits' : let a = c.args in c.is_unfit-unfit.result ≡ unfit (count_of a.w.now) (named_in a.named.now) = let a = c.args in c.is_unfit-unfit.ensures
+    ∙ sym (absent_is a.named.now (count_of a.w.now)) in
+    let unfits : let a = c.args in c.is_unfit-unfit.result ≡ unfit (count_of a.w.now) (named_in a.named.now) = let a = c.args in c.is_unfit-unfit.ensures
     ∙ ap (λ (m : ℕ). eqb m 0 || ltb (count_of a.w.now) m || twice_in a.named.now m) c.pair_count-m.ensures
-    ∙ sym (unfit_is a.named.now (count_of a.w.now)) in unfits')) ∙ c.if-unfit.true)) (record { w_value = refl; value = refl; line_after = refl })
+    ∙ sym (unfit_is a.named.now (count_of a.w.now)) in
+    rw (reach_unfit c.args.w.now c.requires c.args.named.now c.args.line.now long (sym absent ∙ c.if-absent.false) (sym unfits ∙ c.if-unfit.true)) (record { w_value = refl; value = refl; line_after = refl })
 
 pub line_through-requires : goal.line_through-requires
 line_through-requires c =
+    let long : let a = c.args in ltb (length a.line.now) (count_of a.w.now) ≡ false = sym c.is_line_short-short.ensures ∙ c.if-short.false in
+    let absent : let a = c.args in c.names_absent-absent.result ≡ some_absent (count_of a.w.now) (named_in a.named.now) = let a = c.args in c.names_absent-absent.ensures
+    ∙ ap (λ (m : ℕ). any_below m (λ k. leb (count_of a.w.now) (process_of a.named.now k))) c.pair_count-m.ensures
+    ∙ sym (absent_is a.named.now (count_of a.w.now)) in
+    let unfits : let a = c.args in c.is_unfit-unfit.result ≡ unfit (count_of a.w.now) (named_in a.named.now) = let a = c.args in c.is_unfit-unfit.ensures
+    ∙ ap (λ (m : ℕ). eqb m 0 || ltb (count_of a.w.now) m || twice_in a.named.now m) c.pair_count-m.ensures
+    ∙ sym (unfit_is a.named.now (count_of a.w.now)) in
     record {
-      w_value = (c.requires, refl, ltb-false (length c.args.line.now) (count_of c.args.w.now) ((let long' : let a = c.args in ltb (length a.line.now) (count_of a.w.now) ≡ false = sym c.is_line_short-short.ensures ∙ c.if-short.false in long')), c.pair_count-m.ensures);
+      w_value = (c.requires, refl, ltb-false (length c.args.line.now) (count_of c.args.w.now) long, c.pair_count-m.ensures);
       named_value = (
-        sym ((let absent' : let a = c.args in c.names_absent-absent.result ≡ some_absent (count_of a.w.now) (named_in a.named.now) = let a = c.args in c.names_absent-absent.ensures
-            ∙ ap (λ (m : ℕ). any_below m (λ k. leb (count_of a.w.now) (process_of a.named.now k))) c.pair_count-m.ensures
-            ∙ sym (absent_is a.named.now (count_of a.w.now)) in absent')) ∙ c.if-absent.false,
-        sym ((let unfits' : let a = c.args in c.is_unfit-unfit.result ≡ unfit (count_of a.w.now) (named_in a.named.now) = let a = c.args in c.is_unfit-unfit.ensures
-            ∙ ap (λ (m : ℕ). eqb m 0 || ltb (count_of a.w.now) m || twice_in a.named.now m) c.pair_count-m.ensures
-            ∙ sym (unfit_is a.named.now (count_of a.w.now)) in unfits')) ∙ c.if-unfit.false,
+        sym absent ∙ c.if-absent.false,
+        sym unfits ∙ c.if-unfit.false,
       );
     }
 

@@ -26,11 +26,11 @@ fill-requires c =
 
 pub read-run-requires : goal.read-run-requires
 read-run-requires c =
-    let a = c.args in small_readable _ (checkpoint_outcome a.s a.i a.deleted.now).run ((let after' : let a = c.args in run_of c.checkpoint-answer.new.w ≡ (checkpoint_outcome a.s a.i a.deleted.now).run = let a = c.args in c.checkpoint-answer.ensures.w_after ∙ ap (λ (x : Run). (checkpoint_outcome x a.i a.deleted.now).run) (c.fill.ensures.1 ((let whole' : sound c.args.s ≡ true = let a = c.args in let d = a.deleted.now in accepted a.s _ c.fill.ensures (λ x. (checkpoint_outcome x a.i d).answer) _ (λ t e. (checkpoint_unsound t e a.i d).1.0) _ c.checkpoint-answer.ensures.value
-    (not_refused _ _ _ c.in-Stored.is) in whole'))) in after'))
-    (checkpoint_small a.s ((let whole' : sound c.args.s ≡ true = let a = c.args in let d = a.deleted.now in accepted a.s _ c.fill.ensures (λ x. (checkpoint_outcome x a.i d).answer) _ (λ t e. (checkpoint_unsound t e a.i d).1.0) _ c.checkpoint-answer.ensures.value
-    (not_refused _ _ _ c.in-Stored.is) in whole')) (sound_small a.s (sizes a.s _ c.well_formed.0) ((let whole' : sound c.args.s ≡ true = let a = c.args in let d = a.deleted.now in accepted a.s _ c.fill.ensures (λ x. (checkpoint_outcome x a.i d).answer) _ (λ t e. (checkpoint_unsound t e a.i d).1.0) _ c.checkpoint-answer.ensures.value
-    (not_refused _ _ _ c.in-Stored.is) in whole'))) a.i a.deleted.now)
+    let whole : sound c.args.s ≡ true = let a = c.args in let d = a.deleted.now in accepted a.s _ c.fill.ensures (λ x. (checkpoint_outcome x a.i d).answer) _ (λ t e. (checkpoint_unsound t e a.i d).1.0) _ c.checkpoint-answer.ensures.value
+    (not_refused _ _ _ c.in-Stored.is) in
+    let after : let a = c.args in run_of c.checkpoint-answer.new.w ≡ (checkpoint_outcome a.s a.i a.deleted.now).run = let a = c.args in c.checkpoint-answer.ensures.w_after ∙ ap (λ (x : Run). (checkpoint_outcome x a.i a.deleted.now).run) (c.fill.ensures.1 whole) in
+    let a = c.args in small_readable _ (checkpoint_outcome a.s a.i a.deleted.now).run after
+    (checkpoint_small a.s whole (sound_small a.s (sizes a.s _ c.well_formed.0) whole) a.i a.deleted.now)
 
 pub shape_of-deleted-in-Refused : goal.shape_of-deleted-in-Refused
 shape_of-deleted-in-Refused c =
@@ -38,16 +38,14 @@ shape_of-deleted-in-Refused c =
 
 pub returns-in-Refused : goal.returns-in-Refused
 returns-in-Refused c =
+    let said : let a = c.args in (c.checkpoint-answer.result ≡ (checkpoint_outcome a.s a.i a.deleted.now).answer) × (c.checkpoint-answer.new.deleted ≡ (checkpoint_outcome a.s a.i a.deleted.now).deleted) = let a = c.args in let d = a.deleted.now in (
+      c.checkpoint-answer.ensures.value ∙ says a.s _ c.fill.ensures (λ x. (checkpoint_outcome x a.i d).answer) _ (λ t e. (checkpoint_unsound t e a.i d).1.0),
+      c.checkpoint-answer.ensures.deleted_after ∙ says a.s _ c.fill.ensures (λ x. (checkpoint_outcome x a.i d).deleted) d (λ t e. (checkpoint_unsound t e a.i d).1.1),
+    ) in
     let a = c.args in let d = a.deleted.now in let g = c.checkpoint-answer.ensures in let run = stays a.s _ c.fill.ensures (λ x. (checkpoint_outcome x a.i d).run) (λ t e. (checkpoint_unsound t e a.i d).0) _ (g.w_unchanged _ c.in-Refused.is) g.w_after in record {
       run_value = run;
-      answer_value = ((let said' : let a = c.args in (c.checkpoint-answer.result ≡ (checkpoint_outcome a.s a.i a.deleted.now).answer) × (c.checkpoint-answer.new.deleted ≡ (checkpoint_outcome a.s a.i a.deleted.now).deleted) = let a = c.args in let d = a.deleted.now in (
-        c.checkpoint-answer.ensures.value ∙ says a.s _ c.fill.ensures (λ x. (checkpoint_outcome x a.i d).answer) _ (λ t e. (checkpoint_unsound t e a.i d).1.0),
-        c.checkpoint-answer.ensures.deleted_after ∙ says a.s _ c.fill.ensures (λ x. (checkpoint_outcome x a.i d).deleted) d (λ t e. (checkpoint_unsound t e a.i d).1.1),
-      ) in said')).0;
-      deleted_after = ((let said' : let a = c.args in (c.checkpoint-answer.result ≡ (checkpoint_outcome a.s a.i a.deleted.now).answer) × (c.checkpoint-answer.new.deleted ≡ (checkpoint_outcome a.s a.i a.deleted.now).deleted) = let a = c.args in let d = a.deleted.now in (
-        c.checkpoint-answer.ensures.value ∙ says a.s _ c.fill.ensures (λ x. (checkpoint_outcome x a.i d).answer) _ (λ t e. (checkpoint_unsound t e a.i d).1.0),
-        c.checkpoint-answer.ensures.deleted_after ∙ says a.s _ c.fill.ensures (λ x. (checkpoint_outcome x a.i d).deleted) d (λ t e. (checkpoint_unsound t e a.i d).1.1),
-      ) in said')).1;
+      answer_value = said.0;
+      deleted_after = said.1;
       state_promise = checkpoint_promise a.s a.i d a.s run;
     }
 
@@ -57,16 +55,16 @@ shape_of-deleted-in-Stored c =
 
 pub returns-in-Stored : goal.returns-in-Stored
 returns-in-Stored c =
-    let a = c.args in let run = c.read-run.ensures ∙ (let after' : let a = c.args in run_of c.checkpoint-answer.new.w ≡ (checkpoint_outcome a.s a.i a.deleted.now).run = let a = c.args in c.checkpoint-answer.ensures.w_after ∙ ap (λ (x : Run). (checkpoint_outcome x a.i a.deleted.now).run) (c.fill.ensures.1 ((let whole' : sound c.args.s ≡ true = let a = c.args in let d = a.deleted.now in accepted a.s _ c.fill.ensures (λ x. (checkpoint_outcome x a.i d).answer) _ (λ t e. (checkpoint_unsound t e a.i d).1.0) _ c.checkpoint-answer.ensures.value
-    (not_refused _ _ _ c.in-Stored.is) in whole'))) in after') in record {
+    let whole : sound c.args.s ≡ true = let a = c.args in let d = a.deleted.now in accepted a.s _ c.fill.ensures (λ x. (checkpoint_outcome x a.i d).answer) _ (λ t e. (checkpoint_unsound t e a.i d).1.0) _ c.checkpoint-answer.ensures.value
+    (not_refused _ _ _ c.in-Stored.is) in
+    let after : let a = c.args in run_of c.checkpoint-answer.new.w ≡ (checkpoint_outcome a.s a.i a.deleted.now).run = let a = c.args in c.checkpoint-answer.ensures.w_after ∙ ap (λ (x : Run). (checkpoint_outcome x a.i a.deleted.now).run) (c.fill.ensures.1 whole) in
+    let said : let a = c.args in (c.checkpoint-answer.result ≡ (checkpoint_outcome a.s a.i a.deleted.now).answer) × (c.checkpoint-answer.new.deleted ≡ (checkpoint_outcome a.s a.i a.deleted.now).deleted) = let a = c.args in let d = a.deleted.now in (
+      c.checkpoint-answer.ensures.value ∙ says a.s _ c.fill.ensures (λ x. (checkpoint_outcome x a.i d).answer) _ (λ t e. (checkpoint_unsound t e a.i d).1.0),
+      c.checkpoint-answer.ensures.deleted_after ∙ says a.s _ c.fill.ensures (λ x. (checkpoint_outcome x a.i d).deleted) d (λ t e. (checkpoint_unsound t e a.i d).1.1),
+    ) in
+    let a = c.args in let run = c.read-run.ensures ∙ after in record {
       run_value = run;
-      answer_value = ((let said' : let a = c.args in (c.checkpoint-answer.result ≡ (checkpoint_outcome a.s a.i a.deleted.now).answer) × (c.checkpoint-answer.new.deleted ≡ (checkpoint_outcome a.s a.i a.deleted.now).deleted) = let a = c.args in let d = a.deleted.now in (
-        c.checkpoint-answer.ensures.value ∙ says a.s _ c.fill.ensures (λ x. (checkpoint_outcome x a.i d).answer) _ (λ t e. (checkpoint_unsound t e a.i d).1.0),
-        c.checkpoint-answer.ensures.deleted_after ∙ says a.s _ c.fill.ensures (λ x. (checkpoint_outcome x a.i d).deleted) d (λ t e. (checkpoint_unsound t e a.i d).1.1),
-      ) in said')).0;
-      deleted_after = ((let said' : let a = c.args in (c.checkpoint-answer.result ≡ (checkpoint_outcome a.s a.i a.deleted.now).answer) × (c.checkpoint-answer.new.deleted ≡ (checkpoint_outcome a.s a.i a.deleted.now).deleted) = let a = c.args in let d = a.deleted.now in (
-        c.checkpoint-answer.ensures.value ∙ says a.s _ c.fill.ensures (λ x. (checkpoint_outcome x a.i d).answer) _ (λ t e. (checkpoint_unsound t e a.i d).1.0),
-        c.checkpoint-answer.ensures.deleted_after ∙ says a.s _ c.fill.ensures (λ x. (checkpoint_outcome x a.i d).deleted) d (λ t e. (checkpoint_unsound t e a.i d).1.1),
-      ) in said')).1;
+      answer_value = said.0;
+      deleted_after = said.1;
       state_promise = checkpoint_promise a.s a.i a.deleted.now c.read-run.result run;
     }

@@ -26,12 +26,18 @@ fill-requires c =
 
 pub read_messages-run-requires : goal.read_messages-run-requires
 read_messages-run-requires c =
-    let a = c.args in let z = sizes a.s _ c.well_formed.0 in let run = (let after' : let a = c.args in run_of c.lose-answer.new.w ≡ (lose_outcome a.s a.m).run = let a = c.args in c.lose-answer.ensures.w_after ∙ ap (λ (x : Run). (lose_outcome x a.m).run) (c.fill.ensures.1 ((let whole' : sound c.args.s ≡ true = let a = c.args in accepted a.s _ c.fill.ensures (λ x. (lose_outcome x a.m).answer) _ (λ t e. (lose_unsound t e a.m).1) _ c.lose-answer.ensures.value (not_refused _ c.in-Lost.is) in whole'))) in after') in (small_readable _ (lose_outcome a.s a.m).run run (lose_small a.s a.m (sound_small a.s z ((let whole' : sound c.args.s ≡ true = let a = c.args in accepted a.s _ c.fill.ensures (λ x. (lose_outcome x a.m).answer) _ (λ t e. (lose_unsound t e a.m).1) _ c.lose-answer.ensures.value (not_refused _ c.in-Lost.is) in whole')))), run ∙ lose_leaves a.s a.m ∙ sym (ap (after_messages a.s) run))
+    let whole : sound c.args.s ≡ true = let a = c.args in accepted a.s _ c.fill.ensures (λ x. (lose_outcome x a.m).answer) _ (λ t e. (lose_unsound t e a.m).1) _ c.lose-answer.ensures.value (not_refused _ c.in-Lost.is) in
+    let after : let a = c.args in run_of c.lose-answer.new.w ≡ (lose_outcome a.s a.m).run = let a = c.args in c.lose-answer.ensures.w_after ∙ ap (λ (x : Run). (lose_outcome x a.m).run) (c.fill.ensures.1 whole) in
+    let a = c.args in let z = sizes a.s _ c.well_formed.0 in let run = after in (small_readable _ (lose_outcome a.s a.m).run run (lose_small a.s a.m (sound_small a.s z whole)), run ∙ lose_leaves a.s a.m ∙ sym (ap (after_messages a.s) run))
 
 pub returns-in-Refused : goal.returns-in-Refused
 returns-in-Refused c =
-    let a = c.args in let run = stays a.s _ c.fill.ensures (λ x. (lose_outcome x a.m).run) (λ t e. (lose_unsound t e a.m).0) _ (c.lose-answer.ensures.w_unchanged _ c.in-Refused.is) c.lose-answer.ensures.w_after in record { run_value = run; answer_value = (let answer_is' : let a = c.args in c.lose-answer.result ≡ (lose_outcome a.s a.m).answer = let a = c.args in c.lose-answer.ensures.value ∙ says a.s _ c.fill.ensures (λ x. (lose_outcome x a.m).answer) _ (λ t e. (lose_unsound t e a.m).1) in answer_is'); state_promise = lose_promise a.s a.m a.s run }
+    let answer_is : let a = c.args in c.lose-answer.result ≡ (lose_outcome a.s a.m).answer = let a = c.args in c.lose-answer.ensures.value ∙ says a.s _ c.fill.ensures (λ x. (lose_outcome x a.m).answer) _ (λ t e. (lose_unsound t e a.m).1) in
+    let a = c.args in let run = stays a.s _ c.fill.ensures (λ x. (lose_outcome x a.m).run) (λ t e. (lose_unsound t e a.m).0) _ (c.lose-answer.ensures.w_unchanged _ c.in-Refused.is) c.lose-answer.ensures.w_after in record { run_value = run; answer_value = answer_is; state_promise = lose_promise a.s a.m a.s run }
 
 pub returns-in-Lost : goal.returns-in-Lost
 returns-in-Lost c =
-    let a = c.args in let run = c.read_messages-run.ensures ∙ (let after' : let a = c.args in run_of c.lose-answer.new.w ≡ (lose_outcome a.s a.m).run = let a = c.args in c.lose-answer.ensures.w_after ∙ ap (λ (x : Run). (lose_outcome x a.m).run) (c.fill.ensures.1 ((let whole' : sound c.args.s ≡ true = let a = c.args in accepted a.s _ c.fill.ensures (λ x. (lose_outcome x a.m).answer) _ (λ t e. (lose_unsound t e a.m).1) _ c.lose-answer.ensures.value (not_refused _ c.in-Lost.is) in whole'))) in after') in record { run_value = run; answer_value = (let answer_is' : let a = c.args in c.lose-answer.result ≡ (lose_outcome a.s a.m).answer = let a = c.args in c.lose-answer.ensures.value ∙ says a.s _ c.fill.ensures (λ x. (lose_outcome x a.m).answer) _ (λ t e. (lose_unsound t e a.m).1) in answer_is'); state_promise = lose_promise a.s a.m c.read_messages-run.result run }
+    let whole : sound c.args.s ≡ true = let a = c.args in accepted a.s _ c.fill.ensures (λ x. (lose_outcome x a.m).answer) _ (λ t e. (lose_unsound t e a.m).1) _ c.lose-answer.ensures.value (not_refused _ c.in-Lost.is) in
+    let after : let a = c.args in run_of c.lose-answer.new.w ≡ (lose_outcome a.s a.m).run = let a = c.args in c.lose-answer.ensures.w_after ∙ ap (λ (x : Run). (lose_outcome x a.m).run) (c.fill.ensures.1 whole) in
+    let answer_is : let a = c.args in c.lose-answer.result ≡ (lose_outcome a.s a.m).answer = let a = c.args in c.lose-answer.ensures.value ∙ says a.s _ c.fill.ensures (λ x. (lose_outcome x a.m).answer) _ (λ t e. (lose_unsound t e a.m).1) in
+    let a = c.args in let run = c.read_messages-run.ensures ∙ after in record { run_value = run; answer_value = answer_is; state_promise = lose_promise a.s a.m c.read_messages-run.result run }

@@ -25,25 +25,29 @@ fill-requires c =
 
 pub read-run-requires : goal.read-run-requires
 read-run-requires c =
-    let a = c.args in let d = a.deleted.now in let l = a.line.now in small_readable _ (recover_outcome a.s a.failed d l).run ((let after' : let a = c.args in run_of c.recover-answer.new.w ≡ (recover_outcome a.s a.failed a.deleted.now a.line.now).run = let a = c.args in c.recover-answer.ensures.w_after ∙ ap (λ (x : Run). (recover_outcome x a.failed a.deleted.now a.line.now).run) (c.fill.ensures.1 ((let whole' : sound c.args.s ≡ true = let a = c.args in let d = a.deleted.now in let l = a.line.now in accepted a.s _ c.fill.ensures (λ x. (recover_outcome x a.failed d l).answer) _ (λ t e. (recover_unsound t e a.failed d l).1.0) _ c.recover-answer.ensures.value
-    (not_refused _ _ _ c.in-Recovered.is) in whole'))) in after'))
-    (recover_small a.s ((let whole' : sound c.args.s ≡ true = let a = c.args in let d = a.deleted.now in let l = a.line.now in accepted a.s _ c.fill.ensures (λ x. (recover_outcome x a.failed d l).answer) _ (λ t e. (recover_unsound t e a.failed d l).1.0) _ c.recover-answer.ensures.value
-    (not_refused _ _ _ c.in-Recovered.is) in whole')) a.failed d l (sound_small a.s (sizes a.s _ c.well_formed.0) ((let whole' : sound c.args.s ≡ true = let a = c.args in let d = a.deleted.now in let l = a.line.now in accepted a.s _ c.fill.ensures (λ x. (recover_outcome x a.failed d l).answer) _ (λ t e. (recover_unsound t e a.failed d l).1.0) _ c.recover-answer.ensures.value
-    (not_refused _ _ _ c.in-Recovered.is) in whole'))))
+    let whole : sound c.args.s ≡ true = let a = c.args in let d = a.deleted.now in let l = a.line.now in accepted a.s _ c.fill.ensures (λ x. (recover_outcome x a.failed d l).answer) _ (λ t e. (recover_unsound t e a.failed d l).1.0) _ c.recover-answer.ensures.value
+    (not_refused _ _ _ c.in-Recovered.is) in
+    let after : let a = c.args in run_of c.recover-answer.new.w ≡ (recover_outcome a.s a.failed a.deleted.now a.line.now).run = let a = c.args in c.recover-answer.ensures.w_after ∙ ap (λ (x : Run). (recover_outcome x a.failed a.deleted.now a.line.now).run) (c.fill.ensures.1 whole) in
+    let a = c.args in let d = a.deleted.now in let l = a.line.now in small_readable _ (recover_outcome a.s a.failed d l).run after
+    (recover_small a.s whole a.failed d l (sound_small a.s (sizes a.s _ c.well_formed.0) whole))
 
 pub returns-in-Refused : goal.returns-in-Refused
 returns-in-Refused c =
-    let a = c.args in let d = a.deleted.now in let l = a.line.now in let g = c.recover-answer.ensures in let run = stays a.s _ c.fill.ensures (λ x. (recover_outcome x a.failed d l).run) (λ t e. (recover_unsound t e a.failed d l).0) _ (g.w_unchanged _ c.in-Refused.is) g.w_after in let r = (let said' : let a = c.args in let d = a.deleted.now in let l = a.line.now in (c.recover-answer.result ≡ (recover_outcome a.s a.failed d l).answer) × (c.recover-answer.new.deleted ≡ (recover_outcome a.s a.failed d l).deleted) × (c.recover-answer.new.line ≡ (recover_outcome a.s a.failed d l).line) = let a = c.args in let d = a.deleted.now in let l = a.line.now in let g = c.recover-answer.ensures in let from = c.fill.ensures in (
+    let said : let a = c.args in let d = a.deleted.now in let l = a.line.now in (c.recover-answer.result ≡ (recover_outcome a.s a.failed d l).answer) × (c.recover-answer.new.deleted ≡ (recover_outcome a.s a.failed d l).deleted) × (c.recover-answer.new.line ≡ (recover_outcome a.s a.failed d l).line) = let a = c.args in let d = a.deleted.now in let l = a.line.now in let g = c.recover-answer.ensures in let from = c.fill.ensures in (
       g.value ∙ says a.s _ from (λ x. (recover_outcome x a.failed d l).answer) _ (λ t e. (recover_unsound t e a.failed d l).1.0),
       g.deleted_after ∙ says a.s _ from (λ x. (recover_outcome x a.failed d l).deleted) d (λ t e. (recover_unsound t e a.failed d l).1.1.0),
       g.line_after ∙ says a.s _ from (λ x. (recover_outcome x a.failed d l).line) l (λ t e. (recover_unsound t e a.failed d l).1.1.1),
-    ) in said') in record { run_value = run; answer_value = r.0; deleted_after = r.1; line_after = r.2; line_promise = line_promise a.s a.failed; state_promise = recover_promise a.s a.failed d l _ run; clean_promise = clean_promise a.s a.failed d l _ run; sweep_promise = sweep_promise a.s a.failed d l r.0 r.2 run }
+    ) in
+    let a = c.args in let d = a.deleted.now in let l = a.line.now in let g = c.recover-answer.ensures in let run = stays a.s _ c.fill.ensures (λ x. (recover_outcome x a.failed d l).run) (λ t e. (recover_unsound t e a.failed d l).0) _ (g.w_unchanged _ c.in-Refused.is) g.w_after in let r = said in record { run_value = run; answer_value = r.0; deleted_after = r.1; line_after = r.2; line_promise = line_promise a.s a.failed; state_promise = recover_promise a.s a.failed d l _ run; clean_promise = clean_promise a.s a.failed d l _ run; sweep_promise = sweep_promise a.s a.failed d l r.0 r.2 run }
 
 pub returns-in-Recovered : goal.returns-in-Recovered
 returns-in-Recovered c =
-    let a = c.args in let d = a.deleted.now in let l = a.line.now in let run = c.read-run.ensures ∙ (let after' : let a = c.args in run_of c.recover-answer.new.w ≡ (recover_outcome a.s a.failed a.deleted.now a.line.now).run = let a = c.args in c.recover-answer.ensures.w_after ∙ ap (λ (x : Run). (recover_outcome x a.failed a.deleted.now a.line.now).run) (c.fill.ensures.1 ((let whole' : sound c.args.s ≡ true = let a = c.args in let d = a.deleted.now in let l = a.line.now in accepted a.s _ c.fill.ensures (λ x. (recover_outcome x a.failed d l).answer) _ (λ t e. (recover_unsound t e a.failed d l).1.0) _ c.recover-answer.ensures.value
-    (not_refused _ _ _ c.in-Recovered.is) in whole'))) in after') in let r = (let said' : let a = c.args in let d = a.deleted.now in let l = a.line.now in (c.recover-answer.result ≡ (recover_outcome a.s a.failed d l).answer) × (c.recover-answer.new.deleted ≡ (recover_outcome a.s a.failed d l).deleted) × (c.recover-answer.new.line ≡ (recover_outcome a.s a.failed d l).line) = let a = c.args in let d = a.deleted.now in let l = a.line.now in let g = c.recover-answer.ensures in let from = c.fill.ensures in (
+    let whole : sound c.args.s ≡ true = let a = c.args in let d = a.deleted.now in let l = a.line.now in accepted a.s _ c.fill.ensures (λ x. (recover_outcome x a.failed d l).answer) _ (λ t e. (recover_unsound t e a.failed d l).1.0) _ c.recover-answer.ensures.value
+    (not_refused _ _ _ c.in-Recovered.is) in
+    let after : let a = c.args in run_of c.recover-answer.new.w ≡ (recover_outcome a.s a.failed a.deleted.now a.line.now).run = let a = c.args in c.recover-answer.ensures.w_after ∙ ap (λ (x : Run). (recover_outcome x a.failed a.deleted.now a.line.now).run) (c.fill.ensures.1 whole) in
+    let said : let a = c.args in let d = a.deleted.now in let l = a.line.now in (c.recover-answer.result ≡ (recover_outcome a.s a.failed d l).answer) × (c.recover-answer.new.deleted ≡ (recover_outcome a.s a.failed d l).deleted) × (c.recover-answer.new.line ≡ (recover_outcome a.s a.failed d l).line) = let a = c.args in let d = a.deleted.now in let l = a.line.now in let g = c.recover-answer.ensures in let from = c.fill.ensures in (
       g.value ∙ says a.s _ from (λ x. (recover_outcome x a.failed d l).answer) _ (λ t e. (recover_unsound t e a.failed d l).1.0),
       g.deleted_after ∙ says a.s _ from (λ x. (recover_outcome x a.failed d l).deleted) d (λ t e. (recover_unsound t e a.failed d l).1.1.0),
       g.line_after ∙ says a.s _ from (λ x. (recover_outcome x a.failed d l).line) l (λ t e. (recover_unsound t e a.failed d l).1.1.1),
-    ) in said') in record { run_value = run; answer_value = r.0; deleted_after = r.1; line_after = r.2; line_promise = line_promise a.s a.failed; state_promise = recover_promise a.s a.failed d l _ run; clean_promise = clean_promise a.s a.failed d l _ run; sweep_promise = sweep_promise a.s a.failed d l r.0 r.2 run }
+    ) in
+    let a = c.args in let d = a.deleted.now in let l = a.line.now in let run = c.read-run.ensures ∙ after in let r = said in record { run_value = run; answer_value = r.0; deleted_after = r.1; line_after = r.2; line_promise = line_promise a.s a.failed; state_promise = recover_promise a.s a.failed d l _ run; clean_promise = clean_promise a.s a.failed d l _ run; sweep_promise = sweep_promise a.s a.failed d l r.0 r.2 run }

@@ -26,12 +26,18 @@ fill-requires c =
 
 pub read_messages-run-requires : goal.read_messages-run-requires
 read_messages-run-requires c =
-    let a = c.args in let z = sizes a.s _ c.well_formed.0 in let run = (let after' : let a = c.args in run_of c.send-answer.new.w ≡ (send_outcome a.s a.i a.j).run = let a = c.args in c.send-answer.ensures.w_after ∙ ap (λ (x : Run). (send_outcome x a.i a.j).run) (c.fill.ensures.1 ((let whole' : sound c.args.s ≡ true = let a = c.args in accepted a.s _ c.fill.ensures (λ x. (send_outcome x a.i a.j).answer) _ (λ t e. (send_unsound t e a.i a.j).1) _ c.send-answer.ensures.value (not_refused _ _ c.in-Sent.is) in whole'))) in after') in (small_readable _ (send_outcome a.s a.i a.j).run run (send_small a.s a.i a.j (sound_small a.s z ((let whole' : sound c.args.s ≡ true = let a = c.args in accepted a.s _ c.fill.ensures (λ x. (send_outcome x a.i a.j).answer) _ (λ t e. (send_unsound t e a.i a.j).1) _ c.send-answer.ensures.value (not_refused _ _ c.in-Sent.is) in whole')))), run ∙ send_leaves a.s z ((let whole' : sound c.args.s ≡ true = let a = c.args in accepted a.s _ c.fill.ensures (λ x. (send_outcome x a.i a.j).answer) _ (λ t e. (send_unsound t e a.i a.j).1) _ c.send-answer.ensures.value (not_refused _ _ c.in-Sent.is) in whole')) a.i a.j ∙ sym (ap (after_messages a.s) run))
+    let whole : sound c.args.s ≡ true = let a = c.args in accepted a.s _ c.fill.ensures (λ x. (send_outcome x a.i a.j).answer) _ (λ t e. (send_unsound t e a.i a.j).1) _ c.send-answer.ensures.value (not_refused _ _ c.in-Sent.is) in
+    let after : let a = c.args in run_of c.send-answer.new.w ≡ (send_outcome a.s a.i a.j).run = let a = c.args in c.send-answer.ensures.w_after ∙ ap (λ (x : Run). (send_outcome x a.i a.j).run) (c.fill.ensures.1 whole) in
+    let a = c.args in let z = sizes a.s _ c.well_formed.0 in let run = after in (small_readable _ (send_outcome a.s a.i a.j).run run (send_small a.s a.i a.j (sound_small a.s z whole)), run ∙ send_leaves a.s z whole a.i a.j ∙ sym (ap (after_messages a.s) run))
 
 pub returns-in-Refused : goal.returns-in-Refused
 returns-in-Refused c =
-    let a = c.args in let run = stays a.s _ c.fill.ensures (λ x. (send_outcome x a.i a.j).run) (λ t e. (send_unsound t e a.i a.j).0) _ (c.send-answer.ensures.w_unchanged _ c.in-Refused.is) c.send-answer.ensures.w_after in record { run_value = run; answer_value = (let answer_is' : let a = c.args in c.send-answer.result ≡ (send_outcome a.s a.i a.j).answer = let a = c.args in c.send-answer.ensures.value ∙ says a.s _ c.fill.ensures (λ x. (send_outcome x a.i a.j).answer) _ (λ t e. (send_unsound t e a.i a.j).1) in answer_is'); state_promise = send_promise a.s a.i a.j a.s run }
+    let answer_is : let a = c.args in c.send-answer.result ≡ (send_outcome a.s a.i a.j).answer = let a = c.args in c.send-answer.ensures.value ∙ says a.s _ c.fill.ensures (λ x. (send_outcome x a.i a.j).answer) _ (λ t e. (send_unsound t e a.i a.j).1) in
+    let a = c.args in let run = stays a.s _ c.fill.ensures (λ x. (send_outcome x a.i a.j).run) (λ t e. (send_unsound t e a.i a.j).0) _ (c.send-answer.ensures.w_unchanged _ c.in-Refused.is) c.send-answer.ensures.w_after in record { run_value = run; answer_value = answer_is; state_promise = send_promise a.s a.i a.j a.s run }
 
 pub returns-in-Sent : goal.returns-in-Sent
 returns-in-Sent c =
-    let a = c.args in let run = c.read_messages-run.ensures ∙ (let after' : let a = c.args in run_of c.send-answer.new.w ≡ (send_outcome a.s a.i a.j).run = let a = c.args in c.send-answer.ensures.w_after ∙ ap (λ (x : Run). (send_outcome x a.i a.j).run) (c.fill.ensures.1 ((let whole' : sound c.args.s ≡ true = let a = c.args in accepted a.s _ c.fill.ensures (λ x. (send_outcome x a.i a.j).answer) _ (λ t e. (send_unsound t e a.i a.j).1) _ c.send-answer.ensures.value (not_refused _ _ c.in-Sent.is) in whole'))) in after') in record { run_value = run; answer_value = (let answer_is' : let a = c.args in c.send-answer.result ≡ (send_outcome a.s a.i a.j).answer = let a = c.args in c.send-answer.ensures.value ∙ says a.s _ c.fill.ensures (λ x. (send_outcome x a.i a.j).answer) _ (λ t e. (send_unsound t e a.i a.j).1) in answer_is'); state_promise = send_promise a.s a.i a.j c.read_messages-run.result run }
+    let whole : sound c.args.s ≡ true = let a = c.args in accepted a.s _ c.fill.ensures (λ x. (send_outcome x a.i a.j).answer) _ (λ t e. (send_unsound t e a.i a.j).1) _ c.send-answer.ensures.value (not_refused _ _ c.in-Sent.is) in
+    let after : let a = c.args in run_of c.send-answer.new.w ≡ (send_outcome a.s a.i a.j).run = let a = c.args in c.send-answer.ensures.w_after ∙ ap (λ (x : Run). (send_outcome x a.i a.j).run) (c.fill.ensures.1 whole) in
+    let answer_is : let a = c.args in c.send-answer.result ≡ (send_outcome a.s a.i a.j).answer = let a = c.args in c.send-answer.ensures.value ∙ says a.s _ c.fill.ensures (λ x. (send_outcome x a.i a.j).answer) _ (λ t e. (send_unsound t e a.i a.j).1) in
+    let a = c.args in let run = c.read_messages-run.ensures ∙ after in record { run_value = run; answer_value = answer_is; state_promise = send_promise a.s a.i a.j c.read_messages-run.result run }

@@ -10,7 +10,8 @@ use Rattle.library_readers.proofs.lost.lost_within.Goals as goal
 
 pub returns-then-not-members : goal.returns-then-not-members
 returns-then-not-members c =
-    let e = not-false _ (sym c.members_of-members.ensures.all_value ∙ not-true _ c.if-not-members.true) in let z = answer_is (lost_missing c.args.w.now c.requires.0 c.args.failed c.args.messages.now c.requires.3 ((let inside' : leb (2 ^ count_of c.args.w.now) c.args.failed ≡ false = ap (λ (k : ℕ). leb (2 ^ k) c.args.failed) (sym c.requires.1) ∙ c.requires.2 in inside')) e) c.refused.ensures refl in record { value = z.0; messages_after = z.1 }
+    let inside : leb (2 ^ count_of c.args.w.now) c.args.failed ≡ false = ap (λ (k : ℕ). leb (2 ^ k) c.args.failed) (sym c.requires.1) ∙ c.requires.2 in
+    let e = not-false _ (sym c.members_of-members.ensures.all_value ∙ not-true _ c.if-not-members.true) in let z = answer_is (lost_missing c.args.w.now c.requires.0 c.args.failed c.args.messages.now c.requires.3 inside e) c.refused.ensures refl in record { value = z.0; messages_after = z.1 }
 
 pub write_lost-many-requires : goal.write_lost-many-requires
 write_lost-many-requires c =
@@ -22,4 +23,6 @@ counted-requires c =
 
 pub returns : goal.returns
 returns c =
-    let line = indexes_are c.args.w.now c.args.n c.args.failed _ c.requires.1 (c.members_of-members.ensures.indexes_value ((let there' : no_member_of (run_of c.args.w.now) c.args.failed ≡ false = not-true _ (sym c.members_of-members.ensures.all_value ∙ not-false _ c.if-not-members.false) in there'))) in let z = answer_is (lost_read c.args.w.now c.requires.0 c.args.failed c.args.messages.now c.requires.3 ((let inside' : leb (2 ^ count_of c.args.w.now) c.args.failed ≡ false = ap (λ (k : ℕ). leb (2 ^ k) c.args.failed) (sym c.requires.1) ∙ c.requires.2 in inside')) ((let there' : no_member_of (run_of c.args.w.now) c.args.failed ≡ false = not-true _ (sym c.members_of-members.ensures.all_value ∙ not-false _ c.if-not-members.false) in there')) _ line) (rw (rw c.end_in-end.ensures at c.write_lost-many.ensures.value) at c.counted.ensures) (rw c.end_in-end.ensures at c.write_lost-many.ensures.out_after) in record { value = z.0; messages_after = z.1 }
+    let there : no_member_of (run_of c.args.w.now) c.args.failed ≡ false = not-true _ (sym c.members_of-members.ensures.all_value ∙ not-false _ c.if-not-members.false) in
+    let inside : leb (2 ^ count_of c.args.w.now) c.args.failed ≡ false = ap (λ (k : ℕ). leb (2 ^ k) c.args.failed) (sym c.requires.1) ∙ c.requires.2 in
+    let line = indexes_are c.args.w.now c.args.n c.args.failed _ c.requires.1 (c.members_of-members.ensures.indexes_value there) in let z = answer_is (lost_read c.args.w.now c.requires.0 c.args.failed c.args.messages.now c.requires.3 inside there _ line) (rw (rw c.end_in-end.ensures at c.write_lost-many.ensures.value) at c.counted.ensures) (rw c.end_in-end.ensures at c.write_lost-many.ensures.out_after) in record { value = z.0; messages_after = z.1 }

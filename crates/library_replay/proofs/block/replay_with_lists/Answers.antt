@@ -20,7 +20,8 @@ overflow_sub-out c =
 
 pub overflow_add-taken : goal.overflow_add-taken
 overflow_add-taken c =
-    omega (arith, ((let takes' : let a = c.args in let l = c.loop-going in Takes l.going a.done a.block.now l.taken (length a.out.now - l.written) = one_next _ _ _ _ _ _ _ _ _ _ c.loop-going.invariant.0 c.takes_next.ensures c.loop-going-test.true in takes')).few)
+    let takes : let a = c.args in let l = c.loop-going in Takes l.going a.done a.block.now l.taken (length a.out.now - l.written) = one_next _ _ _ _ _ _ _ _ _ _ c.loop-going.invariant.0 c.takes_next.ensures c.loop-going-test.true in
+    omega (arith, takes.few)
 
 pub apply-applied-requires : goal.apply-applied-requires
 apply-applied-requires c =
@@ -28,19 +29,23 @@ apply-applied-requires c =
 
 pub overflow_add-done : goal.overflow_add-done
 overflow_add-done c =
-    omega (arith, ((let takes' : let a = c.args in let l = c.loop-going in Takes l.going a.done a.block.now l.taken (length a.out.now - l.written) = one_next _ _ _ _ _ _ _ _ _ _ c.loop-going.invariant.0 c.takes_next.ensures c.loop-going-test.true in takes')).few)
+    let takes : let a = c.args in let l = c.loop-going in Takes l.going a.done a.block.now l.taken (length a.out.now - l.written) = one_next _ _ _ _ _ _ _ _ _ _ c.loop-going.invariant.0 c.takes_next.ensures c.loop-going-test.true in
+    omega (arith, takes.few)
 
 pub print-written-requires : goal.print-written-requires
 print-written-requires c =
-    let l = c.loop-going in let t = (let takes' : let a = c.args in let l = c.loop-going in Takes l.going a.done a.block.now l.taken (length a.out.now - l.written) = one_next _ _ _ _ _ _ _ _ _ _ c.loop-going.invariant.0 c.takes_next.ensures c.loop-going-test.true in takes') in let small = summary_small _ _ _ _ _ c.apply-applied.ensures.performs in (small.0, omega (arith, small.1, c.apply-applied.auto.deleted, l.invariant.3), omega (arith, t.few), omega (arith, t.space, l.invariant.0.fits, same_room _ _ _ _ _ _ _ _ _ _ l.invariant.0))
+    let takes : let a = c.args in let l = c.loop-going in Takes l.going a.done a.block.now l.taken (length a.out.now - l.written) = one_next _ _ _ _ _ _ _ _ _ _ c.loop-going.invariant.0 c.takes_next.ensures c.loop-going-test.true in
+    let l = c.loop-going in let t = takes in let small = summary_small _ _ _ _ _ c.apply-applied.ensures.performs in (small.0, omega (arith, small.1, c.apply-applied.auto.deleted, l.invariant.3), omega (arith, t.few), omega (arith, t.space, l.invariant.0.fits, same_room _ _ _ _ _ _ _ _ _ _ l.invariant.0))
 
 pub loop-going-smaller : goal.loop-going-smaller
 loop-going-smaller c =
-    omega (arith, ((let takes' : let a = c.args in let l = c.loop-going in Takes l.going a.done a.block.now l.taken (length a.out.now - l.written) = one_next _ _ _ _ _ _ _ _ _ _ c.loop-going.invariant.0 c.takes_next.ensures c.loop-going-test.true in takes')).left)
+    let takes : let a = c.args in let l = c.loop-going in Takes l.going a.done a.block.now l.taken (length a.out.now - l.written) = one_next _ _ _ _ _ _ _ _ _ _ c.loop-going.invariant.0 c.takes_next.ensures c.loop-going-test.true in
+    omega (arith, takes.left)
 
 pub loop-going-preserved : goal.loop-going-preserved
 loop-going-preserved c =
-    let l = c.loop-going in let t = (let takes' : let a = c.args in let l = c.loop-going in Takes l.going a.done a.block.now l.taken (length a.out.now - l.written) = one_next _ _ _ _ _ _ _ _ _ _ c.loop-going.invariant.0 c.takes_next.ensures c.loop-going-test.true in takes') in let done = c.apply-applied.ensures in let read = c.decode-d.ensures ∙ ap event_in c.record_in-part.ensures ∙ record_read _ _ t.left in let printed = c.print-written.ensures in (
+    let takes : let a = c.args in let l = c.loop-going in Takes l.going a.done a.block.now l.taken (length a.out.now - l.written) = one_next _ _ _ _ _ _ _ _ _ _ c.loop-going.invariant.0 c.takes_next.ensures c.loop-going-test.true in
+    let l = c.loop-going in let t = takes in let done = c.apply-applied.ensures in let read = c.decode-d.ensures ∙ ap event_in c.record_in-part.ensures ∙ record_read _ _ t.left in let printed = c.print-written.ensures in (
       one_taken _ _ _ _ _ _ _ _ _ _ l.invariant.0 t _ read _ _ _ done.performs _ _ printed.0 printed.1 _ c.goes_on-going.ensures,
       done.sound_value,
       λ e. performs_reachable _ _ _ _ _ done.performs (l.invariant.2 e),

@@ -12,20 +12,23 @@ use Rattle.machine_console.proofs.going.after_first.Goals as goal
 pub returns-in-Brought : goal.returns-in-Brought
 unfolding Between taken_of after_first_of
 returns-in-Brought c =
-    let e = c.in-Brought.is in let some = (rw e at c.read-taken.ensures.1).0 in led ((let heard_as' : (form : takens.Taken) → c.read-taken.result ≡ form
+    let heard_as : (form : takens.Taken) → c.read-taken.result ≡ form
     → stepped consoling Opening (answer_of c.args.answer c.args.kept c.args.input.now) ≡ after_first_of (taken_of form c.args.kept c.args.input.now) = unfold ask heard next in λ form e. stepped_by consoling Opening _ _
-    (c.read-taken.ensures.0 c.args.kept c.args.input.now (omega (arith, c.requires.1, c.requires.2)) ∙ ap (λ (x : takens.Taken). taken_of x c.args.kept c.args.input.now) e) in heard_as') _ e ∙ ap begun (first_byte _ c.args.kept c.args.input.now some)) (c.start.ensures _)
+    (c.read-taken.ensures.0 c.args.kept c.args.input.now (omega (arith, c.requires.1, c.requires.2)) ∙ ap (λ (x : takens.Taken). taken_of x c.args.kept c.args.input.now) e) in
+    let e = c.in-Brought.is in let some = (rw e at c.read-taken.ensures.1).0 in led (heard_as _ e ∙ ap begun (first_byte _ c.args.kept c.args.input.now some)) (c.start.ensures _)
 
 pub returns-in-Ended : goal.returns-in-Ended
 unfolding taken_of after_first_of refused_text number
 returns-in-Ended c =
-    led ((let heard_as' : (form : takens.Taken) → c.read-taken.result ≡ form
+    let heard_as : (form : takens.Taken) → c.read-taken.result ≡ form
     → stepped consoling Opening (answer_of c.args.answer c.args.kept c.args.input.now) ≡ after_first_of (taken_of form c.args.kept c.args.input.now) = unfold ask heard next in λ form e. stepped_by consoling Opening _ _
-    (c.read-taken.ensures.0 c.args.kept c.args.input.now (omega (arith, c.requires.1, c.requires.2)) ∙ ap (λ (x : takens.Taken). taken_of x c.args.kept c.args.input.now) e) in heard_as') _ c.in-Ended.is) (c.end_refused.ensures _ _)
+    (c.read-taken.ensures.0 c.args.kept c.args.input.now (omega (arith, c.requires.1, c.requires.2)) ∙ ap (λ (x : takens.Taken). taken_of x c.args.kept c.args.input.now) e) in
+    led (heard_as _ c.in-Ended.is) (c.end_refused.ensures _ _)
 
 pub returns-in-Failed : goal.returns-in-Failed
 unfolding taken_of after_first_of
 returns-in-Failed c =
-    led ((let heard_as' : (form : takens.Taken) → c.read-taken.result ≡ form
+    let heard_as : (form : takens.Taken) → c.read-taken.result ≡ form
     → stepped consoling Opening (answer_of c.args.answer c.args.kept c.args.input.now) ≡ after_first_of (taken_of form c.args.kept c.args.input.now) = unfold ask heard next in λ form e. stepped_by consoling Opening _ _
-    (c.read-taken.ensures.0 c.args.kept c.args.input.now (omega (arith, c.requires.1, c.requires.2)) ∙ ap (λ (x : takens.Taken). taken_of x c.args.kept c.args.input.now) e) in heard_as') _ c.in-Failed.is) (c.fail.ensures _ _)
+    (c.read-taken.ensures.0 c.args.kept c.args.input.now (omega (arith, c.requires.1, c.requires.2)) ∙ ap (λ (x : takens.Taken). taken_of x c.args.kept c.args.input.now) e) in
+    led (heard_as _ c.in-Failed.is) (c.fail.ensures _ _)

@@ -22,20 +22,23 @@ go_on-requires c =
 pub returns-in-Brought : goal.returns-in-Brought
 unfolding taken_of after_read_of
 returns-in-Brought c =
-    let m = c.args.m in let words = c.args.words.now in let input = c.args.input.now in led ((let heard_as' : (form : takens.Taken) → c.read-taken.result ≡ form
+    let heard_as : (form : takens.Taken) → c.read-taken.result ≡ form
     → let m = c.args.m in let input = c.args.input.now in let b = between_of m c.args.words.now input in stepped consoling (Reading b) (answer_of c.args.answer m.kept input) ≡ after_read_of b (taken_of form m.kept input) = λ form e. let m = c.args.m in let input = c.args.input.now in heard_read_lem m c.args.words.now input c.args.answer form (omega (arith, c.requires.1, c.requires.3))
-    (c.read-taken.ensures.0 m.kept input (omega (arith, c.requires.1, c.requires.3)) ∙ ap (λ (x : takens.Taken). taken_of x m.kept input) e) in heard_as') _ c.in-Brought.is ∙ ap (λ (l : List ℕ). onward (record { done = m.done; run = run_of words; buffered = l })) (sym (take-add m.kept c.in-Brought.size input))) c.go_on.ensures
+    (c.read-taken.ensures.0 m.kept input (omega (arith, c.requires.1, c.requires.3)) ∙ ap (λ (x : takens.Taken). taken_of x m.kept input) e) in
+    let m = c.args.m in let words = c.args.words.now in let input = c.args.input.now in led (heard_as _ c.in-Brought.is ∙ ap (λ (l : List ℕ). onward (record { done = m.done; run = run_of words; buffered = l })) (sym (take-add m.kept c.in-Brought.size input))) c.go_on.ensures
 
 pub returns-in-Ended : goal.returns-in-Ended
 unfolding taken_of after_read_of
 returns-in-Ended c =
-    led ((let heard_as' : (form : takens.Taken) → c.read-taken.result ≡ form
+    let heard_as : (form : takens.Taken) → c.read-taken.result ≡ form
     → let m = c.args.m in let input = c.args.input.now in let b = between_of m c.args.words.now input in stepped consoling (Reading b) (answer_of c.args.answer m.kept input) ≡ after_read_of b (taken_of form m.kept input) = λ form e. let m = c.args.m in let input = c.args.input.now in heard_read_lem m c.args.words.now input c.args.answer form (omega (arith, c.requires.1, c.requires.3))
-    (c.read-taken.ensures.0 m.kept input (omega (arith, c.requires.1, c.requires.3)) ∙ ap (λ (x : takens.Taken). taken_of x m.kept input) e) in heard_as') _ c.in-Ended.is) (c.to_end.ensures _ _ (omega (arith, c.requires.1, c.requires.3)))
+    (c.read-taken.ensures.0 m.kept input (omega (arith, c.requires.1, c.requires.3)) ∙ ap (λ (x : takens.Taken). taken_of x m.kept input) e) in
+    led (heard_as _ c.in-Ended.is) (c.to_end.ensures _ _ (omega (arith, c.requires.1, c.requires.3)))
 
 pub returns-in-Failed : goal.returns-in-Failed
 unfolding taken_of after_read_of
 returns-in-Failed c =
-    led ((let heard_as' : (form : takens.Taken) → c.read-taken.result ≡ form
+    let heard_as : (form : takens.Taken) → c.read-taken.result ≡ form
     → let m = c.args.m in let input = c.args.input.now in let b = between_of m c.args.words.now input in stepped consoling (Reading b) (answer_of c.args.answer m.kept input) ≡ after_read_of b (taken_of form m.kept input) = λ form e. let m = c.args.m in let input = c.args.input.now in heard_read_lem m c.args.words.now input c.args.answer form (omega (arith, c.requires.1, c.requires.3))
-    (c.read-taken.ensures.0 m.kept input (omega (arith, c.requires.1, c.requires.3)) ∙ ap (λ (x : takens.Taken). taken_of x m.kept input) e) in heard_as') _ c.in-Failed.is) (c.fail.ensures _ _)
+    (c.read-taken.ensures.0 m.kept input (omega (arith, c.requires.1, c.requires.3)) ∙ ap (λ (x : takens.Taken). taken_of x m.kept input) e) in
+    led (heard_as _ c.in-Failed.is) (c.fail.ensures _ _)

@@ -28,21 +28,24 @@ fail-requires c =
 pub returns-in-Brought : goal.returns-in-Brought
 unfolding Between taken_of next
 returns-in-Brought c =
-    λ lines.
-    let e = c.in-Brought.is in let b = rw e at c.read-taken.ensures.1 in led ((let heard_as' : (form : takens.Taken) → c.read-taken.result ≡ form
+    let heard_as : (form : takens.Taken) → c.read-taken.result ≡ form
     → stepped machine (beginning c.args.left) (answer_of c.args.answer c.args.kept c.args.input.now) ≡ next (beginning c.args.left) (taken_of form c.args.kept c.args.input.now) = unfold ask heard in λ form e. stepped_by machine (beginning c.args.left) _ _
-    (c.read-taken.ensures.0 c.args.kept c.args.input.now (omega (arith, c.requires.1, c.requires.2)) ∙ ap (λ (x : takens.Taken). taken_of x c.args.kept c.args.input.now) e) in heard_as') _ e ∙ first_byte c.args.left _ c.args.kept c.args.input.now b.0 b.1 (omega (arith, c.requires.1, c.requires.2))) (c.start.ensures c.args.input.now lines)
+    (c.read-taken.ensures.0 c.args.kept c.args.input.now (omega (arith, c.requires.1, c.requires.2)) ∙ ap (λ (x : takens.Taken). taken_of x c.args.kept c.args.input.now) e) in
+    λ lines.
+    let e = c.in-Brought.is in let b = rw e at c.read-taken.ensures.1 in led (heard_as _ e ∙ first_byte c.args.left _ c.args.kept c.args.input.now b.0 b.1 (omega (arith, c.requires.1, c.requires.2))) (c.start.ensures c.args.input.now lines)
 
 pub returns-in-Ended : goal.returns-in-Ended
 unfolding taken_of next number
 returns-in-Ended c =
-    λ lines. led ((let heard_as' : (form : takens.Taken) → c.read-taken.result ≡ form
+    let heard_as : (form : takens.Taken) → c.read-taken.result ≡ form
     → stepped machine (beginning c.args.left) (answer_of c.args.answer c.args.kept c.args.input.now) ≡ next (beginning c.args.left) (taken_of form c.args.kept c.args.input.now) = unfold ask heard in λ form e. stepped_by machine (beginning c.args.left) _ _
-    (c.read-taken.ensures.0 c.args.kept c.args.input.now (omega (arith, c.requires.1, c.requires.2)) ∙ ap (λ (x : takens.Taken). taken_of x c.args.kept c.args.input.now) e) in heard_as') _ c.in-Ended.is) (c.end_refused.ensures _ c.args.input.now lines)
+    (c.read-taken.ensures.0 c.args.kept c.args.input.now (omega (arith, c.requires.1, c.requires.2)) ∙ ap (λ (x : takens.Taken). taken_of x c.args.kept c.args.input.now) e) in
+    λ lines. led (heard_as _ c.in-Ended.is) (c.end_refused.ensures _ c.args.input.now lines)
 
 pub returns-in-Failed : goal.returns-in-Failed
 unfolding taken_of next
 returns-in-Failed c =
-    λ lines. led ((let heard_as' : (form : takens.Taken) → c.read-taken.result ≡ form
+    let heard_as : (form : takens.Taken) → c.read-taken.result ≡ form
     → stepped machine (beginning c.args.left) (answer_of c.args.answer c.args.kept c.args.input.now) ≡ next (beginning c.args.left) (taken_of form c.args.kept c.args.input.now) = unfold ask heard in λ form e. stepped_by machine (beginning c.args.left) _ _
-    (c.read-taken.ensures.0 c.args.kept c.args.input.now (omega (arith, c.requires.1, c.requires.2)) ∙ ap (λ (x : takens.Taken). taken_of x c.args.kept c.args.input.now) e) in heard_as') _ c.in-Failed.is) (c.fail.ensures _ c.args.input.now lines)
+    (c.read-taken.ensures.0 c.args.kept c.args.input.now (omega (arith, c.requires.1, c.requires.2)) ∙ ap (λ (x : takens.Taken). taken_of x c.args.kept c.args.input.now) e) in
+    λ lines. led (heard_as _ c.in-Failed.is) (c.fail.ensures _ c.args.input.now lines)

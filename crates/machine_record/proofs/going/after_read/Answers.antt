@@ -28,20 +28,23 @@ fail-requires c =
 pub returns-in-Brought : goal.returns-in-Brought
 unfolding taken_of next
 returns-in-Brought c =
-    let m = c.args.m in let words = c.args.words.now in let input = c.args.input.now in let size = c.in-Brought.size in led ((let heard_as' : (form : takens.Taken) → c.read-taken.result ≡ form
+    let heard_as : (form : takens.Taken) → c.read-taken.result ≡ form
     → let m = c.args.m in let input = c.args.input.now in let p = position_of m c.args.words.now input in stepped machine (reading p) (answer_of c.args.answer m.kept input) ≡ next (reading p) (taken_of form m.kept input) = λ form e. let m = c.args.m in let input = c.args.input.now in let most = c.most_to_read-most.ensures in heard_read_lem m c.args.words.now input c.args.answer form _ most (omega (arith, c.requires.2, c.requires.3))
-    (c.read-taken.ensures.0 m.kept input (omega (arith, most, c.requires.2, c.requires.3)) ∙ ap (λ (x : takens.Taken). taken_of x m.kept input) e) in heard_as') _ c.in-Brought.is ∙ ap (block_taken (position_of m words input).standing) (sym (take-add m.kept size input))) c.take_block.ensures
+    (c.read-taken.ensures.0 m.kept input (omega (arith, most, c.requires.2, c.requires.3)) ∙ ap (λ (x : takens.Taken). taken_of x m.kept input) e) in
+    let m = c.args.m in let words = c.args.words.now in let input = c.args.input.now in let size = c.in-Brought.size in led (heard_as _ c.in-Brought.is ∙ ap (block_taken (position_of m words input).standing) (sym (take-add m.kept size input))) c.take_block.ensures
 
 pub returns-in-Ended : goal.returns-in-Ended
 unfolding taken_of next
 returns-in-Ended c =
-    led ((let heard_as' : (form : takens.Taken) → c.read-taken.result ≡ form
+    let heard_as : (form : takens.Taken) → c.read-taken.result ≡ form
     → let m = c.args.m in let input = c.args.input.now in let p = position_of m c.args.words.now input in stepped machine (reading p) (answer_of c.args.answer m.kept input) ≡ next (reading p) (taken_of form m.kept input) = λ form e. let m = c.args.m in let input = c.args.input.now in let most = c.most_to_read-most.ensures in heard_read_lem m c.args.words.now input c.args.answer form _ most (omega (arith, c.requires.2, c.requires.3))
-    (c.read-taken.ensures.0 m.kept input (omega (arith, most, c.requires.2, c.requires.3)) ∙ ap (λ (x : takens.Taken). taken_of x m.kept input) e) in heard_as') _ c.in-Ended.is) (c.to_end.ensures _ c.args.input.now _ (omega (arith, c.requires.2, c.requires.3)))
+    (c.read-taken.ensures.0 m.kept input (omega (arith, most, c.requires.2, c.requires.3)) ∙ ap (λ (x : takens.Taken). taken_of x m.kept input) e) in
+    led (heard_as _ c.in-Ended.is) (c.to_end.ensures _ c.args.input.now _ (omega (arith, c.requires.2, c.requires.3)))
 
 pub returns-in-Failed : goal.returns-in-Failed
 unfolding taken_of next
 returns-in-Failed c =
-    led ((let heard_as' : (form : takens.Taken) → c.read-taken.result ≡ form
+    let heard_as : (form : takens.Taken) → c.read-taken.result ≡ form
     → let m = c.args.m in let input = c.args.input.now in let p = position_of m c.args.words.now input in stepped machine (reading p) (answer_of c.args.answer m.kept input) ≡ next (reading p) (taken_of form m.kept input) = λ form e. let m = c.args.m in let input = c.args.input.now in let most = c.most_to_read-most.ensures in heard_read_lem m c.args.words.now input c.args.answer form _ most (omega (arith, c.requires.2, c.requires.3))
-    (c.read-taken.ensures.0 m.kept input (omega (arith, most, c.requires.2, c.requires.3)) ∙ ap (λ (x : takens.Taken). taken_of x m.kept input) e) in heard_as') _ c.in-Failed.is) (c.fail.ensures _ c.args.input.now _)
+    (c.read-taken.ensures.0 m.kept input (omega (arith, most, c.requires.2, c.requires.3)) ∙ ap (λ (x : takens.Taken). taken_of x m.kept input) e) in
+    led (heard_as _ c.in-Failed.is) (c.fail.ensures _ c.args.input.now _)

@@ -34,22 +34,25 @@ end_with-requires-in-Failed c =
 pub returns-in-Brought : goal.returns-in-Brought
 unfolding taken_of next
 returns-in-Brought c =
+    let heard_as : (form : takens.Taken) → c.word-taken.result ≡ form
+    → stepped machine naming (answer_of c.args.answer c.args.kept c.args.input.now) ≡ next naming (taken_of form c.args.kept c.args.input.now) = unfold ask heard in λ form e. stepped_by machine naming _ _
+    (c.word-taken.ensures.0 c.args.kept c.args.input.now (omega (arith, c.requires.0, c.requires.1)) ∙ ap (λ (x : takens.Taken). taken_of x c.args.kept c.args.input.now) e) in
     λ words lines.
     let kept = c.args.kept in let input = c.args.input.now in let size = c.in-Brought.size in let same : size ≡ (kept + size) - kept = omega arith in
-    led ((let heard_as' : (form : takens.Taken) → c.word-taken.result ≡ form
-    → stepped machine naming (answer_of c.args.answer c.args.kept c.args.input.now) ≡ next naming (taken_of form c.args.kept c.args.input.now) = unfold ask heard in λ form e. stepped_by machine naming _ _
-    (c.word-taken.ensures.0 c.args.kept c.args.input.now (omega (arith, c.requires.0, c.requires.1)) ∙ ap (λ (x : takens.Taken). taken_of x c.args.kept c.args.input.now) e) in heard_as') _ c.in-Brought.is ∙ ap (λ (k : ℕ). sized (number_in (take k (drop kept input)))) same) (c.take_size.ensures words input lines)
+    led (heard_as _ c.in-Brought.is ∙ ap (λ (k : ℕ). sized (number_in (take k (drop kept input)))) same) (c.take_size.ensures words input lines)
 
 pub returns-in-Ended : goal.returns-in-Ended
 unfolding taken_of next
 returns-in-Ended c =
-    λ words lines. led ((let heard_as' : (form : takens.Taken) → c.word-taken.result ≡ form
+    let heard_as : (form : takens.Taken) → c.word-taken.result ≡ form
     → stepped machine naming (answer_of c.args.answer c.args.kept c.args.input.now) ≡ next naming (taken_of form c.args.kept c.args.input.now) = unfold ask heard in λ form e. stepped_by machine naming _ _
-    (c.word-taken.ensures.0 c.args.kept c.args.input.now (omega (arith, c.requires.0, c.requires.1)) ∙ ap (λ (x : takens.Taken). taken_of x c.args.kept c.args.input.now) e) in heard_as') _ c.in-Ended.is) (c.end_with.ensures words c.args.input.now lines)
+    (c.word-taken.ensures.0 c.args.kept c.args.input.now (omega (arith, c.requires.0, c.requires.1)) ∙ ap (λ (x : takens.Taken). taken_of x c.args.kept c.args.input.now) e) in
+    λ words lines. led (heard_as _ c.in-Ended.is) (c.end_with.ensures words c.args.input.now lines)
 
 pub returns-in-Failed : goal.returns-in-Failed
 unfolding taken_of next
 returns-in-Failed c =
-    λ words lines. led ((let heard_as' : (form : takens.Taken) → c.word-taken.result ≡ form
+    let heard_as : (form : takens.Taken) → c.word-taken.result ≡ form
     → stepped machine naming (answer_of c.args.answer c.args.kept c.args.input.now) ≡ next naming (taken_of form c.args.kept c.args.input.now) = unfold ask heard in λ form e. stepped_by machine naming _ _
-    (c.word-taken.ensures.0 c.args.kept c.args.input.now (omega (arith, c.requires.0, c.requires.1)) ∙ ap (λ (x : takens.Taken). taken_of x c.args.kept c.args.input.now) e) in heard_as') _ c.in-Failed.is) (c.end_with-in-Failed.ensures words c.args.input.now lines)
+    (c.word-taken.ensures.0 c.args.kept c.args.input.now (omega (arith, c.requires.0, c.requires.1)) ∙ ap (λ (x : takens.Taken). taken_of x c.args.kept c.args.input.now) e) in
+    λ words lines. led (heard_as _ c.in-Failed.is) (c.end_with-in-Failed.ensures words c.args.input.now lines)

@@ -25,30 +25,41 @@ take_all-t-requires c =
 
 pub overflow_sub-from : goal.overflow_sub-from
 overflow_sub-from c =
-    omega (arith, done_before ((let took' : Took c.args.m c.args.words.now ((c.take_all-t.new.w)) c.args.input.now c.args.out.now c.args.lines.now ((c.take_all-t.new.out)) ((c.take_all-t.new.lines)) ((c.args.m.kept + c.args.size)) ((c.take_all-t.result)) = record { inside = omega (arith, c.requires.3, c.requires.4); all = c.take_all-t.ensures } in took')))
+    let took : Took c.args.m c.args.words.now c.take_all-t.new.w c.args.input.now c.args.out.now c.args.lines.now c.take_all-t.new.out c.take_all-t.new.lines (c.args.m.kept + c.args.size) c.take_all-t.result = record { inside = omega (arith, c.requires.3, c.requires.4); all = c.take_all-t.ensures } in
+    omega (arith, done_before took)
 
 pub overflow_mul-from : goal.overflow_mul-from
 overflow_mul-from c =
-    let h = whole_inside ((let took' : Took c.args.m c.args.words.now ((c.take_all-t.new.w)) c.args.input.now c.args.out.now c.args.lines.now ((c.take_all-t.new.out)) ((c.take_all-t.new.lines)) ((c.args.m.kept + c.args.size)) ((c.take_all-t.result)) = record { inside = omega (arith, c.requires.3, c.requires.4); all = c.take_all-t.ensures } in took')) in let k = c.requires.3 in search rules
+    let took : Took c.args.m c.args.words.now c.take_all-t.new.w c.args.input.now c.args.out.now c.args.lines.now c.take_all-t.new.out c.take_all-t.new.lines (c.args.m.kept + c.args.size) c.take_all-t.result = record { inside = omega (arith, c.requires.3, c.requires.4); all = c.take_all-t.ensures } in
+    let h = whole_inside took in let k = c.requires.3 in search rules
 
 pub overflow_sub-rest : goal.overflow_sub-rest
 overflow_sub-rest c =
-    omega (arith, whole_inside ((let took' : Took c.args.m c.args.words.now ((c.take_all-t.new.w)) c.args.input.now c.args.out.now c.args.lines.now ((c.take_all-t.new.out)) ((c.take_all-t.new.lines)) ((c.args.m.kept + c.args.size)) ((c.take_all-t.result)) = record { inside = omega (arith, c.requires.3, c.requires.4); all = c.take_all-t.ensures } in took')))
+    let took : Took c.args.m c.args.words.now c.take_all-t.new.w c.args.input.now c.args.out.now c.args.lines.now c.take_all-t.new.out c.take_all-t.new.lines (c.args.m.kept + c.args.size) c.take_all-t.result = record { inside = omega (arith, c.requires.3, c.requires.4); all = c.take_all-t.ensures } in
+    omega (arith, whole_inside took)
 
 pub keep-requires : goal.keep-requires
 keep-requires c =
-    (omega arith, whole_inside ((let took' : Took c.args.m c.args.words.now ((c.take_all-t.new.w)) c.args.input.now c.args.out.now c.args.lines.now ((c.take_all-t.new.out)) ((c.take_all-t.new.lines)) ((c.args.m.kept + c.args.size)) ((c.take_all-t.result)) = record { inside = omega (arith, c.requires.3, c.requires.4); all = c.take_all-t.ensures } in took')), omega (arith, ((let took' : Took c.args.m c.args.words.now ((c.take_all-t.new.w)) c.args.input.now c.args.out.now c.args.lines.now ((c.take_all-t.new.out)) ((c.take_all-t.new.lines)) ((c.args.m.kept + c.args.size)) ((c.take_all-t.result)) = record { inside = omega (arith, c.requires.3, c.requires.4); all = c.take_all-t.ensures } in took')).inside))
+    let took : Took c.args.m c.args.words.now c.take_all-t.new.w c.args.input.now c.args.out.now c.args.lines.now c.take_all-t.new.out c.take_all-t.new.lines (c.args.m.kept + c.args.size) c.take_all-t.result = record { inside = omega (arith, c.requires.3, c.requires.4); all = c.take_all-t.ensures } in
+    (omega arith, whole_inside took, omega (arith, took.inside))
 
 pub to_report-requires : goal.to_report-requires
 to_report-requires c =
-    let w = ((let took' : Took c.args.m c.args.words.now ((c.take_all-t.new.w)) c.args.input.now c.args.out.now c.args.lines.now ((c.take_all-t.new.out)) ((c.take_all-t.new.lines)) ((c.args.m.kept + c.args.size)) ((c.take_all-t.result)) = record { inside = omega (arith, c.requires.3, c.requires.4); all = c.take_all-t.ensures } in took')).all in ((let few_left' : ((c.take_all-t.result)).left ≤ longest_trace = omega (arith, left_most ((let took' : Took c.args.m c.args.words.now ((c.take_all-t.new.w)) c.args.input.now c.args.out.now c.args.lines.now ((c.take_all-t.new.out)) ((c.take_all-t.new.lines)) ((c.args.m.kept + c.args.size)) ((c.take_all-t.result)) = record { inside = omega (arith, c.requires.3, c.requires.4); all = c.take_all-t.ensures } in took')), c.requires.0) in few_left'), (let few_done' : ((c.take_all-t.result)).done ≤ most_records = omega (arith, whole_inside ((let took' : Took c.args.m c.args.words.now ((c.take_all-t.new.w)) c.args.input.now c.args.out.now c.args.lines.now ((c.take_all-t.new.out)) ((c.take_all-t.new.lines)) ((c.args.m.kept + c.args.size)) ((c.take_all-t.result)) = record { inside = omega (arith, c.requires.3, c.requires.4); all = c.take_all-t.ensures } in took')), done_before ((let took' : Took c.args.m c.args.words.now ((c.take_all-t.new.w)) c.args.input.now c.args.out.now c.args.lines.now ((c.take_all-t.new.out)) ((c.take_all-t.new.lines)) ((c.args.m.kept + c.args.size)) ((c.take_all-t.result)) = record { inside = omega (arith, c.requires.3, c.requires.4); all = c.take_all-t.ensures } in took')), c.requires.3, c.requires.1) in few_done'), rest_few ((let took' : Took c.args.m c.args.words.now ((c.take_all-t.new.w)) c.args.input.now c.args.out.now c.args.lines.now ((c.take_all-t.new.out)) ((c.take_all-t.new.lines)) ((c.args.m.kept + c.args.size)) ((c.take_all-t.result)) = record { inside = omega (arith, c.requires.3, c.requires.4); all = c.take_all-t.ensures } in took')), omega (arith, w.pending, w.lines_length, c.requires.6), omega (arith, w.pending, w.out_length, c.requires.5))
+    let took : Took c.args.m c.args.words.now c.take_all-t.new.w c.args.input.now c.args.out.now c.args.lines.now c.take_all-t.new.out c.take_all-t.new.lines (c.args.m.kept + c.args.size) c.take_all-t.result = record { inside = omega (arith, c.requires.3, c.requires.4); all = c.take_all-t.ensures } in
+    let few_left : c.take_all-t.result.left ≤ longest_trace = omega (arith, left_most took, c.requires.0) in
+    let few_done : c.take_all-t.result.done ≤ most_records = omega (arith, whole_inside took, done_before took, c.requires.3, c.requires.1) in
+    let w = took.all in (few_left, few_done, rest_few took, omega (arith, w.pending, w.lines_length, c.requires.6), omega (arith, w.pending, w.out_length, c.requires.5))
 
 pub returns-then-t-eq0 : goal.returns-then-t-eq0
 returns-then-t-eq0 c =
-    let kept = c.keep in let next : Marks = record { phase = 4; left = ((c.take_all-t.result)).left; done = ((c.take_all-t.result)).done; kept = (c.args.m.kept + c.args.size) - 4 * (((c.take_all-t.result)).done - c.args.m.done); size = ((c.take_all-t.result)).size; pending = ((c.take_all-t.result)).pending } in
-    led (block_is ((let took' : Took c.args.m c.args.words.now ((c.take_all-t.new.w)) c.args.input.now c.args.out.now c.args.lines.now ((c.take_all-t.new.out)) ((c.take_all-t.new.lines)) ((c.args.m.kept + c.args.size)) ((c.take_all-t.result)) = record { inside = omega (arith, c.requires.3, c.requires.4); all = c.take_all-t.ensures } in took')) _ kept.ensures ∙ none_to_write next ((c.take_all-t.new.w)) kept.new.buffer ((c.take_all-t.new.out)) ((c.take_all-t.new.lines)) c.if-t-eq0.true) (c.to_report.ensures _ _)
+    let took : Took c.args.m c.args.words.now c.take_all-t.new.w c.args.input.now c.args.out.now c.args.lines.now c.take_all-t.new.out c.take_all-t.new.lines (c.args.m.kept + c.args.size) c.take_all-t.result = record { inside = omega (arith, c.requires.3, c.requires.4); all = c.take_all-t.ensures } in
+    let kept = c.keep in let next : Marks = record { phase = 4; left = c.take_all-t.result.left; done = c.take_all-t.result.done; kept = (c.args.m.kept + c.args.size) - 4 * (c.take_all-t.result.done - c.args.m.done); size = c.take_all-t.result.size; pending = c.take_all-t.result.pending } in
+    led (block_is took _ kept.ensures ∙ none_to_write next c.take_all-t.new.w kept.new.buffer c.take_all-t.new.out c.take_all-t.new.lines c.if-t-eq0.true) (c.to_report.ensures _ _)
 
 pub returns : goal.returns
 returns c =
-    let w = ((let took' : Took c.args.m c.args.words.now ((c.take_all-t.new.w)) c.args.input.now c.args.out.now c.args.lines.now ((c.take_all-t.new.out)) ((c.take_all-t.new.lines)) ((c.args.m.kept + c.args.size)) ((c.take_all-t.result)) = record { inside = omega (arith, c.requires.3, c.requires.4); all = c.take_all-t.ensures } in took')).all in led (block_is ((let took' : Took c.args.m c.args.words.now ((c.take_all-t.new.w)) c.args.input.now c.args.out.now c.args.lines.now ((c.take_all-t.new.out)) ((c.take_all-t.new.lines)) ((c.args.m.kept + c.args.size)) ((c.take_all-t.result)) = record { inside = omega (arith, c.requires.3, c.requires.4); all = c.take_all-t.ensures } in took')) _ c.keep.ensures)
-    (arrives_write _ _ _ _ _ refl ((let few_left' : ((c.take_all-t.result)).left ≤ longest_trace = omega (arith, left_most ((let took' : Took c.args.m c.args.words.now ((c.take_all-t.new.w)) c.args.input.now c.args.out.now c.args.lines.now ((c.take_all-t.new.out)) ((c.take_all-t.new.lines)) ((c.args.m.kept + c.args.size)) ((c.take_all-t.result)) = record { inside = omega (arith, c.requires.3, c.requires.4); all = c.take_all-t.ensures } in took')), c.requires.0) in few_left')) ((let few_done' : ((c.take_all-t.result)).done ≤ most_records = omega (arith, whole_inside ((let took' : Took c.args.m c.args.words.now ((c.take_all-t.new.w)) c.args.input.now c.args.out.now c.args.lines.now ((c.take_all-t.new.out)) ((c.take_all-t.new.lines)) ((c.args.m.kept + c.args.size)) ((c.take_all-t.result)) = record { inside = omega (arith, c.requires.3, c.requires.4); all = c.take_all-t.ensures } in took')), done_before ((let took' : Took c.args.m c.args.words.now ((c.take_all-t.new.w)) c.args.input.now c.args.out.now c.args.lines.now ((c.take_all-t.new.out)) ((c.take_all-t.new.lines)) ((c.args.m.kept + c.args.size)) ((c.take_all-t.result)) = record { inside = omega (arith, c.requires.3, c.requires.4); all = c.take_all-t.ensures } in took')), c.requires.3, c.requires.1) in few_done')) (rest_few ((let took' : Took c.args.m c.args.words.now ((c.take_all-t.new.w)) c.args.input.now c.args.out.now c.args.lines.now ((c.take_all-t.new.out)) ((c.take_all-t.new.lines)) ((c.args.m.kept + c.args.size)) ((c.take_all-t.result)) = record { inside = omega (arith, c.requires.3, c.requires.4); all = c.take_all-t.ensures } in took'))) (omega (arith, w.size, w.out_length)) w.pending c.if-t-eq0.false)
+    let took : Took c.args.m c.args.words.now c.take_all-t.new.w c.args.input.now c.args.out.now c.args.lines.now c.take_all-t.new.out c.take_all-t.new.lines (c.args.m.kept + c.args.size) c.take_all-t.result = record { inside = omega (arith, c.requires.3, c.requires.4); all = c.take_all-t.ensures } in
+    let few_left : c.take_all-t.result.left ≤ longest_trace = omega (arith, left_most took, c.requires.0) in
+    let few_done : c.take_all-t.result.done ≤ most_records = omega (arith, whole_inside took, done_before took, c.requires.3, c.requires.1) in
+    let w = took.all in led (block_is took _ c.keep.ensures)
+    (arrives_write _ _ _ _ _ refl few_left few_done (rest_few took) (omega (arith, w.size, w.out_length)) w.pending c.if-t-eq0.false)

@@ -27,12 +27,15 @@ returns-then-input-p-2 c =
 
 pub returns-then-p-eq-PRINTING : goal.returns-then-p-eq-PRINTING
 returns-then-p-eq-PRINTING c =
-    sym ((let by_last' : (b : Bool) → pick (eqb c.args.p.phase 4) true (ltb c.args.p.buffered 4 && eqb c.args.p.from 0) ≡ b → inside c.args.p c.args.input c.args.out ≡ b = unfold inside in λ b e. let p = c.args.p in let input = c.args.input in rw (lt-ltb p.count 1000000000 c.if-p-ge-MOST_RECORDS.false, le-leb p.written c.args.out c.if-out-p.false, le-leb p.buffered input c.if-input-p.false, le-leb p.from (input - p.buffered) c.if-input-p-2.false) e in by_last') true (rw (eq-eqb c.args.p.phase 4 c.if-p-eq-PRINTING.true)))
+    let by_last : (b : Bool) → pick (eqb c.args.p.phase 4) true (ltb c.args.p.buffered 4 && eqb c.args.p.from 0) ≡ b → inside c.args.p c.args.input c.args.out ≡ b = unfold inside in λ b e. let p = c.args.p in let input = c.args.input in rw (lt-ltb p.count 1000000000 c.if-p-ge-MOST_RECORDS.false, le-leb p.written c.args.out c.if-out-p.false, le-leb p.buffered input c.if-input-p.false, le-leb p.from (input - p.buffered) c.if-input-p-2.false) e in
+    sym (by_last true (rw (eq-eqb c.args.p.phase 4 c.if-p-eq-PRINTING.true)))
 
 pub returns-then-p-ge-RECORD : goal.returns-then-p-ge-RECORD
 returns-then-p-ge-RECORD c =
-    let p = c.args.p in sym ((let by_last' : (b : Bool) → pick (eqb c.args.p.phase 4) true (ltb c.args.p.buffered 4 && eqb c.args.p.from 0) ≡ b → inside c.args.p c.args.input c.args.out ≡ b = unfold inside in λ b e. let p = c.args.p in let input = c.args.input in rw (lt-ltb p.count 1000000000 c.if-p-ge-MOST_RECORDS.false, le-leb p.written c.args.out c.if-out-p.false, le-leb p.buffered input c.if-input-p.false, le-leb p.from (input - p.buffered) c.if-input-p-2.false) e in by_last') false (rw (ne_eqb p.phase 4 c.if-p-eq-PRINTING.false, le-ltb p.buffered 4 c.if-p-ge-RECORD.true)))
+    let by_last : (b : Bool) → pick (eqb c.args.p.phase 4) true (ltb c.args.p.buffered 4 && eqb c.args.p.from 0) ≡ b → inside c.args.p c.args.input c.args.out ≡ b = unfold inside in λ b e. let p = c.args.p in let input = c.args.input in rw (lt-ltb p.count 1000000000 c.if-p-ge-MOST_RECORDS.false, le-leb p.written c.args.out c.if-out-p.false, le-leb p.buffered input c.if-input-p.false, le-leb p.from (input - p.buffered) c.if-input-p-2.false) e in
+    let p = c.args.p in sym (by_last false (rw (ne_eqb p.phase 4 c.if-p-eq-PRINTING.false, le-ltb p.buffered 4 c.if-p-ge-RECORD.true)))
 
 pub returns : goal.returns
 returns c =
-    let p = c.args.p in sym ((let by_last' : (b : Bool) → pick (eqb c.args.p.phase 4) true (ltb c.args.p.buffered 4 && eqb c.args.p.from 0) ≡ b → inside c.args.p c.args.input c.args.out ≡ b = unfold inside in λ b e. let p = c.args.p in let input = c.args.input in rw (lt-ltb p.count 1000000000 c.if-p-ge-MOST_RECORDS.false, le-leb p.written c.args.out c.if-out-p.false, le-leb p.buffered input c.if-input-p.false, le-leb p.from (input - p.buffered) c.if-input-p-2.false) e in by_last') (eqb p.from 0) (rw (ne_eqb p.phase 4 c.if-p-eq-PRINTING.false, lt-ltb p.buffered 4 c.if-p-ge-RECORD.false)))
+    let by_last : (b : Bool) → pick (eqb c.args.p.phase 4) true (ltb c.args.p.buffered 4 && eqb c.args.p.from 0) ≡ b → inside c.args.p c.args.input c.args.out ≡ b = unfold inside in λ b e. let p = c.args.p in let input = c.args.input in rw (lt-ltb p.count 1000000000 c.if-p-ge-MOST_RECORDS.false, le-leb p.written c.args.out c.if-out-p.false, le-leb p.buffered input c.if-input-p.false, le-leb p.from (input - p.buffered) c.if-input-p-2.false) e in
+    let p = c.args.p in sym (by_last (eqb p.from 0) (rw (ne_eqb p.phase 4 c.if-p-eq-PRINTING.false, lt-ltb p.buffered 4 c.if-p-ge-RECORD.false)))

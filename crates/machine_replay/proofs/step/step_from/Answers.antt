@@ -22,12 +22,16 @@ returns-then-not-is_inside c =
 
 pub after-q-requires : goal.after-q-requires
 after-q-requires c =
-    ((let holds' : Holds ((c.load-p.result)) c.args.words.now c.args.input.now c.args.out.now = record { room = sym c.is_room_enough.ensures ∙ c.if-not-is_room_enough.false; there = sym c.is_inside.ensures ∙ c.if-not-is_inside.false } in holds'), λ e. rw ((let stands' : state_of c.args.words.now c.args.memory.now c.args.input.now c.args.out.now ≡ state_in ((c.load-p.result)) c.args.words.now c.args.input.now c.args.out.now = state_of_lem c.args.words.now c.args.memory.now c.args.input.now c.args.out.now c.if-memory-lt-NUMBERS.false ((c.load-p.result)) c.load-p.ensures in stands')) at (c.requires e))
+    let holds : Holds c.load-p.result c.args.words.now c.args.input.now c.args.out.now = record { room = sym c.is_room_enough.ensures ∙ c.if-not-is_room_enough.false; there = sym c.is_inside.ensures ∙ c.if-not-is_inside.false } in
+    let stands : state_of c.args.words.now c.args.memory.now c.args.input.now c.args.out.now ≡ state_in c.load-p.result c.args.words.now c.args.input.now c.args.out.now = state_of_lem c.args.words.now c.args.memory.now c.args.input.now c.args.out.now c.if-memory-lt-NUMBERS.false c.load-p.result c.load-p.ensures in
+    (holds, λ e. rw stands at (c.requires e))
 
 pub request_of-requires : goal.request_of-requires
 request_of-requires c =
-    rw (c.after-q.auto.words, c.after-q.auto.input, c.after-q.auto.out) ((let holds' : Holds ((c.load-p.result)) c.args.words.now c.args.input.now c.args.out.now = record { room = sym c.is_room_enough.ensures ∙ c.if-not-is_room_enough.false; there = sym c.is_inside.ensures ∙ c.if-not-is_inside.false } in holds')).room
+    let holds : Holds c.load-p.result c.args.words.now c.args.input.now c.args.out.now = record { room = sym c.is_room_enough.ensures ∙ c.if-not-is_room_enough.false; there = sym c.is_inside.ensures ∙ c.if-not-is_inside.false } in
+    rw (c.after-q.auto.words, c.after-q.auto.input, c.after-q.auto.out) holds.room
 
 pub returns : goal.returns
 returns c =
-    let after = c.after-q in let words = after.new.words in let input = after.new.input in let out = after.new.out in let store = c.store in let a = c.args in let then = state_of_lem words store.new.memory input out (omega (arith, store.auto.memory, c.if-memory-lt-NUMBERS.false)) after.result (sym store.ensures) in record { out_after = then ∙ after.ensures ∙ stepped_there a.words.now a.memory.now a.input.now a.out.now ((c.load-p.result)) c.load-p.ensures ((let stands' : state_of c.args.words.now c.args.memory.now c.args.input.now c.args.out.now ≡ state_in ((c.load-p.result)) c.args.words.now c.args.input.now c.args.out.now = state_of_lem c.args.words.now c.args.memory.now c.args.input.now c.args.out.now c.if-memory-lt-NUMBERS.false ((c.load-p.result)) c.load-p.ensures in stands')) _ _ a.answer; asks = asks_there words store.new.memory input out after.result (sym store.ensures) then _ _ c.request_of.ensures }
+    let stands : state_of c.args.words.now c.args.memory.now c.args.input.now c.args.out.now ≡ state_in c.load-p.result c.args.words.now c.args.input.now c.args.out.now = state_of_lem c.args.words.now c.args.memory.now c.args.input.now c.args.out.now c.if-memory-lt-NUMBERS.false c.load-p.result c.load-p.ensures in
+    let after = c.after-q in let words = after.new.words in let input = after.new.input in let out = after.new.out in let store = c.store in let a = c.args in let then = state_of_lem words store.new.memory input out (omega (arith, store.auto.memory, c.if-memory-lt-NUMBERS.false)) after.result (sym store.ensures) in record { out_after = then ∙ after.ensures ∙ stepped_there a.words.now a.memory.now a.input.now a.out.now c.load-p.result c.load-p.ensures stands _ _ a.answer; asks = asks_there words store.new.memory input out after.result (sym store.ensures) then _ _ c.request_of.ensures }

@@ -12,27 +12,48 @@ write_number-first-requires c =
 
 pub write_field-one-requires : goal.write_field-one-requires
 write_field-one-requires c =
-    let b = (let after_0' : (c.write_number-first.result ≤ 20) × (longest_text ≤ length c.write_number-first.new.out) = (omega (arith, c.write_number-first.ensures.next_place, twenty_digits c.args.spacing), omega (arith, c.write_number-first.auto.out, c.requires)) in after_0') in omega (arith, b.0, b.1)
+    let after_0 : (c.write_number-first.result ≤ 20) × (longest_text ≤ length c.write_number-first.new.out) = (omega (arith, c.write_number-first.ensures.next_place, twenty_digits c.args.spacing), omega (arith, c.write_number-first.auto.out, c.requires)) in
+    let b = after_0 in omega (arith, b.0, b.1)
 
 pub write_field-two-requires : goal.write_field-two-requires
 write_field-two-requires c =
-    let b = (let after_1' : (c.write_field-one.result ≤ 41) × (longest_text ≤ length c.write_field-one.new.out) = let b = (let after_0' : (c.write_number-first.result ≤ 20) × (longest_text ≤ length c.write_number-first.new.out) = (omega (arith, c.write_number-first.ensures.next_place, twenty_digits c.args.spacing), omega (arith, c.write_number-first.auto.out, c.requires)) in after_0') in (omega (arith, b.0, c.write_field-one.ensures.1), omega (arith, b.1, c.write_field-one.auto.out)) in after_1') in omega (arith, b.0, b.1)
+    let after_0 : (c.write_number-first.result ≤ 20) × (longest_text ≤ length c.write_number-first.new.out) = (omega (arith, c.write_number-first.ensures.next_place, twenty_digits c.args.spacing), omega (arith, c.write_number-first.auto.out, c.requires)) in
+    let after_1 : (c.write_field-one.result ≤ 41) × (longest_text ≤ length c.write_field-one.new.out) = let b = after_0 in (omega (arith, b.0, c.write_field-one.ensures.1), omega (arith, b.1, c.write_field-one.auto.out)) in
+    let b = after_1 in omega (arith, b.0, b.1)
 
 pub write_field-three-requires : goal.write_field-three-requires
 write_field-three-requires c =
-    let b = (let after_2' : (c.write_field-two.result ≤ 62) × (longest_text ≤ length c.write_field-two.new.out) = let b = (let after_1' : (c.write_field-one.result ≤ 41) × (longest_text ≤ length c.write_field-one.new.out) = let b = (let after_0' : (c.write_number-first.result ≤ 20) × (longest_text ≤ length c.write_number-first.new.out) = (omega (arith, c.write_number-first.ensures.next_place, twenty_digits c.args.spacing), omega (arith, c.write_number-first.auto.out, c.requires)) in after_0') in (omega (arith, b.0, c.write_field-one.ensures.1), omega (arith, b.1, c.write_field-one.auto.out)) in after_1') in (omega (arith, b.0, c.write_field-two.ensures.1), omega (arith, b.1, c.write_field-two.auto.out)) in after_2') in omega (arith, b.0, b.1)
+    let after_0 : (c.write_number-first.result ≤ 20) × (longest_text ≤ length c.write_number-first.new.out) = (omega (arith, c.write_number-first.ensures.next_place, twenty_digits c.args.spacing), omega (arith, c.write_number-first.auto.out, c.requires)) in
+    let after_1 : (c.write_field-one.result ≤ 41) × (longest_text ≤ length c.write_field-one.new.out) = let b = after_0 in (omega (arith, b.0, c.write_field-one.ensures.1), omega (arith, b.1, c.write_field-one.auto.out)) in
+    let after_2 : (c.write_field-two.result ≤ 62) × (longest_text ≤ length c.write_field-two.new.out) = let b = after_1 in (omega (arith, b.0, c.write_field-two.ensures.1), omega (arith, b.1, c.write_field-two.auto.out)) in
+    let b = after_2 in omega (arith, b.0, b.1)
 
 pub write_field-four-requires : goal.write_field-four-requires
 write_field-four-requires c =
-    let b = (let after_3' : (c.write_field-three.result ≤ 83) × (longest_text ≤ length c.write_field-three.new.out) = let b = (let after_2' : (c.write_field-two.result ≤ 62) × (longest_text ≤ length c.write_field-two.new.out) = let b = (let after_1' : (c.write_field-one.result ≤ 41) × (longest_text ≤ length c.write_field-one.new.out) = let b = (let after_0' : (c.write_number-first.result ≤ 20) × (longest_text ≤ length c.write_number-first.new.out) = (omega (arith, c.write_number-first.ensures.next_place, twenty_digits c.args.spacing), omega (arith, c.write_number-first.auto.out, c.requires)) in after_0') in (omega (arith, b.0, c.write_field-one.ensures.1), omega (arith, b.1, c.write_field-one.auto.out)) in after_1') in (omega (arith, b.0, c.write_field-two.ensures.1), omega (arith, b.1, c.write_field-two.auto.out)) in after_2') in (omega (arith, b.0, c.write_field-three.ensures.1), omega (arith, b.1, c.write_field-three.auto.out)) in after_3') in omega (arith, b.0, b.1)
+    let after_0 : (c.write_number-first.result ≤ 20) × (longest_text ≤ length c.write_number-first.new.out) = (omega (arith, c.write_number-first.ensures.next_place, twenty_digits c.args.spacing), omega (arith, c.write_number-first.auto.out, c.requires)) in
+    let after_1 : (c.write_field-one.result ≤ 41) × (longest_text ≤ length c.write_field-one.new.out) = let b = after_0 in (omega (arith, b.0, c.write_field-one.ensures.1), omega (arith, b.1, c.write_field-one.auto.out)) in
+    let after_2 : (c.write_field-two.result ≤ 62) × (longest_text ≤ length c.write_field-two.new.out) = let b = after_1 in (omega (arith, b.0, c.write_field-two.ensures.1), omega (arith, b.1, c.write_field-two.auto.out)) in
+    let after_3 : (c.write_field-three.result ≤ 83) × (longest_text ≤ length c.write_field-three.new.out) = let b = after_2 in (omega (arith, b.0, c.write_field-three.ensures.1), omega (arith, b.1, c.write_field-three.auto.out)) in
+    let b = after_3 in omega (arith, b.0, b.1)
 
 pub write_field-five-requires : goal.write_field-five-requires
 write_field-five-requires c =
-    let b = (let after_4' : (c.write_field-four.result ≤ 104) × (longest_text ≤ length c.write_field-four.new.out) = let b = (let after_3' : (c.write_field-three.result ≤ 83) × (longest_text ≤ length c.write_field-three.new.out) = let b = (let after_2' : (c.write_field-two.result ≤ 62) × (longest_text ≤ length c.write_field-two.new.out) = let b = (let after_1' : (c.write_field-one.result ≤ 41) × (longest_text ≤ length c.write_field-one.new.out) = let b = (let after_0' : (c.write_number-first.result ≤ 20) × (longest_text ≤ length c.write_number-first.new.out) = (omega (arith, c.write_number-first.ensures.next_place, twenty_digits c.args.spacing), omega (arith, c.write_number-first.auto.out, c.requires)) in after_0') in (omega (arith, b.0, c.write_field-one.ensures.1), omega (arith, b.1, c.write_field-one.auto.out)) in after_1') in (omega (arith, b.0, c.write_field-two.ensures.1), omega (arith, b.1, c.write_field-two.auto.out)) in after_2') in (omega (arith, b.0, c.write_field-three.ensures.1), omega (arith, b.1, c.write_field-three.auto.out)) in after_3') in (omega (arith, b.0, c.write_field-four.ensures.1), omega (arith, b.1, c.write_field-four.auto.out)) in after_4') in omega (arith, b.0, b.1)
+    let after_0 : (c.write_number-first.result ≤ 20) × (longest_text ≤ length c.write_number-first.new.out) = (omega (arith, c.write_number-first.ensures.next_place, twenty_digits c.args.spacing), omega (arith, c.write_number-first.auto.out, c.requires)) in
+    let after_1 : (c.write_field-one.result ≤ 41) × (longest_text ≤ length c.write_field-one.new.out) = let b = after_0 in (omega (arith, b.0, c.write_field-one.ensures.1), omega (arith, b.1, c.write_field-one.auto.out)) in
+    let after_2 : (c.write_field-two.result ≤ 62) × (longest_text ≤ length c.write_field-two.new.out) = let b = after_1 in (omega (arith, b.0, c.write_field-two.ensures.1), omega (arith, b.1, c.write_field-two.auto.out)) in
+    let after_3 : (c.write_field-three.result ≤ 83) × (longest_text ≤ length c.write_field-three.new.out) = let b = after_2 in (omega (arith, b.0, c.write_field-three.ensures.1), omega (arith, b.1, c.write_field-three.auto.out)) in
+    let after_4 : (c.write_field-four.result ≤ 104) × (longest_text ≤ length c.write_field-four.new.out) = let b = after_3 in (omega (arith, b.0, c.write_field-four.ensures.1), omega (arith, b.1, c.write_field-four.auto.out)) in
+    let b = after_4 in omega (arith, b.0, b.1)
 
 pub write_byte-requires : goal.write_byte-requires
 write_byte-requires c =
-    let b = (let after_5' : (c.write_field-five.result ≤ 125) × (longest_text ≤ length c.write_field-five.new.out) = let b = (let after_4' : (c.write_field-four.result ≤ 104) × (longest_text ≤ length c.write_field-four.new.out) = let b = (let after_3' : (c.write_field-three.result ≤ 83) × (longest_text ≤ length c.write_field-three.new.out) = let b = (let after_2' : (c.write_field-two.result ≤ 62) × (longest_text ≤ length c.write_field-two.new.out) = let b = (let after_1' : (c.write_field-one.result ≤ 41) × (longest_text ≤ length c.write_field-one.new.out) = let b = (let after_0' : (c.write_number-first.result ≤ 20) × (longest_text ≤ length c.write_number-first.new.out) = (omega (arith, c.write_number-first.ensures.next_place, twenty_digits c.args.spacing), omega (arith, c.write_number-first.auto.out, c.requires)) in after_0') in (omega (arith, b.0, c.write_field-one.ensures.1), omega (arith, b.1, c.write_field-one.auto.out)) in after_1') in (omega (arith, b.0, c.write_field-two.ensures.1), omega (arith, b.1, c.write_field-two.auto.out)) in after_2') in (omega (arith, b.0, c.write_field-three.ensures.1), omega (arith, b.1, c.write_field-three.auto.out)) in after_3') in (omega (arith, b.0, c.write_field-four.ensures.1), omega (arith, b.1, c.write_field-four.auto.out)) in after_4') in (omega (arith, b.0, c.write_field-five.ensures.1), omega (arith, b.1, c.write_field-five.auto.out)) in after_5') in omega (arith, b.0, b.1)
+    let after_0 : (c.write_number-first.result ≤ 20) × (longest_text ≤ length c.write_number-first.new.out) = (omega (arith, c.write_number-first.ensures.next_place, twenty_digits c.args.spacing), omega (arith, c.write_number-first.auto.out, c.requires)) in
+    let after_1 : (c.write_field-one.result ≤ 41) × (longest_text ≤ length c.write_field-one.new.out) = let b = after_0 in (omega (arith, b.0, c.write_field-one.ensures.1), omega (arith, b.1, c.write_field-one.auto.out)) in
+    let after_2 : (c.write_field-two.result ≤ 62) × (longest_text ≤ length c.write_field-two.new.out) = let b = after_1 in (omega (arith, b.0, c.write_field-two.ensures.1), omega (arith, b.1, c.write_field-two.auto.out)) in
+    let after_3 : (c.write_field-three.result ≤ 83) × (longest_text ≤ length c.write_field-three.new.out) = let b = after_2 in (omega (arith, b.0, c.write_field-three.ensures.1), omega (arith, b.1, c.write_field-three.auto.out)) in
+    let after_4 : (c.write_field-four.result ≤ 104) × (longest_text ≤ length c.write_field-four.new.out) = let b = after_3 in (omega (arith, b.0, c.write_field-four.ensures.1), omega (arith, b.1, c.write_field-four.auto.out)) in
+    let after_5 : (c.write_field-five.result ≤ 125) × (longest_text ≤ length c.write_field-five.new.out) = let b = after_4 in (omega (arith, b.0, c.write_field-five.ensures.1), omega (arith, b.1, c.write_field-five.auto.out)) in
+    let b = after_5 in omega (arith, b.0, b.1)
 
 pub shape_of-out : goal.shape_of-out
 shape_of-out c =
@@ -41,7 +62,13 @@ shape_of-out c =
 pub returns : goal.returns
 unfolding row_text
 returns c =
+    let after_0 : (c.write_number-first.result ≤ 20) × (longest_text ≤ length c.write_number-first.new.out) = (omega (arith, c.write_number-first.ensures.next_place, twenty_digits c.args.spacing), omega (arith, c.write_number-first.auto.out, c.requires)) in
+    let after_1 : (c.write_field-one.result ≤ 41) × (longest_text ≤ length c.write_field-one.new.out) = let b = after_0 in (omega (arith, b.0, c.write_field-one.ensures.1), omega (arith, b.1, c.write_field-one.auto.out)) in
+    let after_2 : (c.write_field-two.result ≤ 62) × (longest_text ≤ length c.write_field-two.new.out) = let b = after_1 in (omega (arith, b.0, c.write_field-two.ensures.1), omega (arith, b.1, c.write_field-two.auto.out)) in
+    let after_3 : (c.write_field-three.result ≤ 83) × (longest_text ≤ length c.write_field-three.new.out) = let b = after_2 in (omega (arith, b.0, c.write_field-three.ensures.1), omega (arith, b.1, c.write_field-three.auto.out)) in
+    let after_4 : (c.write_field-four.result ≤ 104) × (longest_text ≤ length c.write_field-four.new.out) = let b = after_3 in (omega (arith, b.0, c.write_field-four.ensures.1), omega (arith, b.1, c.write_field-four.auto.out)) in
+    let after_5 : (c.write_field-five.result ≤ 125) × (longest_text ≤ length c.write_field-five.new.out) = let b = after_4 in (omega (arith, b.0, c.write_field-five.ensures.1), omega (arith, b.1, c.write_field-five.auto.out)) in
     let six = c.write_byte in let five = c.write_field-five in let four = c.write_field-four in let three = c.write_field-three in let two = c.write_field-two in let one = c.write_field-one in let first = c.write_number-first in (
       then first.ensures (then one.ensures.0 (then two.ensures.0 (then three.ensures.0 (then four.ensures.0 (then five.ensures.0 six.ensures))))),
-      (let b = (let after_5' : (c.write_field-five.result ≤ 125) × (longest_text ≤ length c.write_field-five.new.out) = let b = (let after_4' : (c.write_field-four.result ≤ 104) × (longest_text ≤ length c.write_field-four.new.out) = let b = (let after_3' : (c.write_field-three.result ≤ 83) × (longest_text ≤ length c.write_field-three.new.out) = let b = (let after_2' : (c.write_field-two.result ≤ 62) × (longest_text ≤ length c.write_field-two.new.out) = let b = (let after_1' : (c.write_field-one.result ≤ 41) × (longest_text ≤ length c.write_field-one.new.out) = let b = (let after_0' : (c.write_number-first.result ≤ 20) × (longest_text ≤ length c.write_number-first.new.out) = (omega (arith, c.write_number-first.ensures.next_place, twenty_digits c.args.spacing), omega (arith, c.write_number-first.auto.out, c.requires)) in after_0') in (omega (arith, b.0, c.write_field-one.ensures.1), omega (arith, b.1, c.write_field-one.auto.out)) in after_1') in (omega (arith, b.0, c.write_field-two.ensures.1), omega (arith, b.1, c.write_field-two.auto.out)) in after_2') in (omega (arith, b.0, c.write_field-three.ensures.1), omega (arith, b.1, c.write_field-three.auto.out)) in after_3') in (omega (arith, b.0, c.write_field-four.ensures.1), omega (arith, b.1, c.write_field-four.auto.out)) in after_4') in (omega (arith, b.0, c.write_field-five.ensures.1), omega (arith, b.1, c.write_field-five.auto.out)) in after_5') in omega (arith, b.0, six.ensures.next_place)),
+      (let b = after_5 in omega (arith, b.0, six.ensures.next_place)),
     )

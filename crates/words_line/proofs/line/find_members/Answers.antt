@@ -21,8 +21,9 @@ overflow_cast-pasts c =
 
 pub bounds-pasts-p : goal.bounds-pasts-p
 bounds-pasts-p c =
+    let same_size : length c.loop-p.pasts ≡ length c.args.pasts.now = ap length c.loop-p.invariant.1 ∙ below_length _ _ c.loop-p.p in
     let size : length c.args.pasts.now ≡ 16 = ap length c.requires.3 in
-    omega (arith, (let same_size' : length c.loop-p.pasts ≡ length c.args.pasts.now = ap length c.loop-p.invariant.1 ∙ below_length _ _ c.loop-p.p in same_size'), size, c.requires.1, c.loop-p-test.true)
+    omega (arith, same_size, size, c.requires.1, c.loop-p-test.true)
 
 pub loop-p-preserved : goal.loop-p-preserved
 loop-p-preserved c =
@@ -34,7 +35,8 @@ loop-p-preserved c =
 
 pub shape_of-pasts : goal.shape_of-pasts
 shape_of-pasts c =
-    (let same_size' : length c.loop-p.pasts ≡ length c.args.pasts.now = ap length c.loop-p.invariant.1 ∙ below_length _ _ c.loop-p.p in same_size')
+    let same_size : length c.loop-p.pasts ≡ length c.args.pasts.now = ap length c.loop-p.invariant.1 ∙ below_length _ _ c.loop-p.p in
+    same_size
 
 pub returns : goal.returns
 unfolding has_members pasts_in

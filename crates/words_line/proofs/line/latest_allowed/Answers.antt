@@ -8,9 +8,11 @@ use Rattle.words_line.proofs.line.latest_allowed.Goals as goal
 pub returns-then-within : goal.returns-then-within
 unfolding past_latest
 returns-then-within c =
-    rw (sym ((let tested' : let a = c.args in c.is_within-within.result ≡ is_within a.limits (vector_in a.w.now (part_at a.p)) = unfold is_within in c.is_within-within.ensures ∙ ap (is_within c.args.limits) c.vector_at-live.ensures in tested')) ∙ c.if-within.true)
+    let tested : let a = c.args in c.is_within-within.result ≡ is_within a.limits (vector_in a.w.now (part_at a.p)) = unfold is_within in c.is_within-within.ensures ∙ ap (is_within c.args.limits) c.vector_at-live.ensures in
+    rw (sym tested ∙ c.if-within.true)
 
 pub returns : goal.returns
 unfolding past_latest
 returns c =
-    rw (sym ((let tested' : let a = c.args in c.is_within-within.result ≡ is_within a.limits (vector_in a.w.now (part_at a.p)) = unfold is_within in c.is_within-within.ensures ∙ ap (is_within c.args.limits) c.vector_at-live.ensures in tested')) ∙ c.if-within.false) c.latest_kept.ensures
+    let tested : let a = c.args in c.is_within-within.result ≡ is_within a.limits (vector_in a.w.now (part_at a.p)) = unfold is_within in c.is_within-within.ensures ∙ ap (is_within c.args.limits) c.vector_at-live.ensures in
+    rw (sym tested ∙ c.if-within.false) c.latest_kept.ensures

@@ -28,11 +28,13 @@ loop-past-init c =
 
 pub returns-then-within : goal.returns-then-within
 returns-then-within c =
-    let l = c.loop-past in let a = c.args in sym (l.invariant.1 ∙ found a.w.now a.limits a.p l.past (omega (arith, c.loop-past-test.true)) (sym ((let tested' : let l = c.loop-past in let a = c.args in c.is_within-within.result ≡ is_within a.limits (vector_in a.w.now (stored_at a.p (l.past - 1))) = unfold is_within in let a = c.args in c.is_within-within.ensures ∙ ap (is_within a.limits) c.vector_at-vector.ensures in tested')) ∙ c.if-within.true))
+    let tested : let l = c.loop-past in let a = c.args in c.is_within-within.result ≡ is_within a.limits (vector_in a.w.now (stored_at a.p (l.past - 1))) = unfold is_within in let a = c.args in c.is_within-within.ensures ∙ ap (is_within a.limits) c.vector_at-vector.ensures in
+    let l = c.loop-past in let a = c.args in sym (l.invariant.1 ∙ found a.w.now a.limits a.p l.past (omega (arith, c.loop-past-test.true)) (sym tested ∙ c.if-within.true))
 
 pub loop-past-preserved : goal.loop-past-preserved
 loop-past-preserved c =
-    let l = c.loop-past in let a = c.args in (omega (arith, l.invariant.0), l.invariant.1 ∙ passed a.w.now a.limits a.p l.past (omega (arith, c.loop-past-test.true)) (sym ((let tested' : let l = c.loop-past in let a = c.args in c.is_within-within.result ≡ is_within a.limits (vector_in a.w.now (stored_at a.p (l.past - 1))) = unfold is_within in let a = c.args in c.is_within-within.ensures ∙ ap (is_within a.limits) c.vector_at-vector.ensures in tested')) ∙ c.if-within.false))
+    let tested : let l = c.loop-past in let a = c.args in c.is_within-within.result ≡ is_within a.limits (vector_in a.w.now (stored_at a.p (l.past - 1))) = unfold is_within in let a = c.args in c.is_within-within.ensures ∙ ap (is_within a.limits) c.vector_at-vector.ensures in
+    let l = c.loop-past in let a = c.args in (omega (arith, l.invariant.0), l.invariant.1 ∙ passed a.w.now a.limits a.p l.past (omega (arith, c.loop-past-test.true)) (sym tested ∙ c.if-within.false))
 
 pub returns : goal.returns
 returns c =

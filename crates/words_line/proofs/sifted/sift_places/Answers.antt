@@ -53,10 +53,11 @@ sift_place-one-requires c =
 
 pub overflow_add-left : goal.overflow_add-left
 overflow_add-left c =
+    let then : let l = c.loop-k in let a = c.args in (c.sift_place-one.new.w ≡ sifted_below a.indexes a.w.now (l.k + 1)) × ((l.left + c.sift_place-one.result ≡ left_of a.indexes a.w.now (l.k + 1)) × (c.sift_place-one.result ≤ 1)) = let l = c.loop-k in let lt : l.k < 64 = omega (arith, c.loop-k-test.true, c.requires.1) in
+    one_more c.args.indexes c.args.w.now l.w l.k c.requires.0 lt l.invariant.3 _ l.left _ l.invariant.4 c.sift_place-one.ensures.0 c.sift_place-one.ensures.1 in
     let l = c.loop-k in omega (
       arith,
-      ((let then' : let l = c.loop-k in let a = c.args in (c.sift_place-one.new.w ≡ sifted_below a.indexes a.w.now (l.k + 1)) × ((l.left + c.sift_place-one.result ≡ left_of a.indexes a.w.now (l.k + 1)) × (c.sift_place-one.result ≤ 1)) = let l = c.loop-k in let lt : l.k < 64 = omega (arith, c.loop-k-test.true, c.requires.1) in
-          one_more c.args.indexes c.args.w.now l.w l.k c.requires.0 lt l.invariant.3 _ l.left _ l.invariant.4 c.sift_place-one.ensures.0 c.sift_place-one.ensures.1 in then')).1.1,
+      then.1.1,
       l.invariant.1,
       l.invariant.0,
       c.requires.1,
@@ -64,8 +65,9 @@ overflow_add-left c =
 
 pub loop-k-preserved : goal.loop-k-preserved
 loop-k-preserved c =
-    let l = c.loop-k in let t = (let then' : let l = c.loop-k in let a = c.args in (c.sift_place-one.new.w ≡ sifted_below a.indexes a.w.now (l.k + 1)) × ((l.left + c.sift_place-one.result ≡ left_of a.indexes a.w.now (l.k + 1)) × (c.sift_place-one.result ≤ 1)) = let l = c.loop-k in let lt : l.k < 64 = omega (arith, c.loop-k-test.true, c.requires.1) in
-    one_more c.args.indexes c.args.w.now l.w l.k c.requires.0 lt l.invariant.3 _ l.left _ l.invariant.4 c.sift_place-one.ensures.0 c.sift_place-one.ensures.1 in then') in (search rules, omega (arith, t.1.1, l.invariant.1), c.sift_place-one.auto.w ∙ l.invariant.2, t.0, t.1.0)
+    let then : let l = c.loop-k in let a = c.args in (c.sift_place-one.new.w ≡ sifted_below a.indexes a.w.now (l.k + 1)) × ((l.left + c.sift_place-one.result ≡ left_of a.indexes a.w.now (l.k + 1)) × (c.sift_place-one.result ≤ 1)) = let l = c.loop-k in let lt : l.k < 64 = omega (arith, c.loop-k-test.true, c.requires.1) in
+    one_more c.args.indexes c.args.w.now l.w l.k c.requires.0 lt l.invariant.3 _ l.left _ l.invariant.4 c.sift_place-one.ensures.0 c.sift_place-one.ensures.1 in
+    let l = c.loop-k in let t = then in (search rules, omega (arith, t.1.1, l.invariant.1), c.sift_place-one.auto.w ∙ l.invariant.2, t.0, t.1.0)
 
 pub shape_of-w : goal.shape_of-w
 shape_of-w c =

@@ -33,11 +33,12 @@ loop-k-init c =
 
 pub is_pinned-pinned-requires : goal.is_pinned-pinned-requires
 is_pinned-pinned-requires c =
-    (let there' : c.loop-k.k < c.args.kept_count → 1 ≤ word c.loop-k.w (index_at_of c.args.p c.loop-k.k) = λ lt. omega (
+    let there : c.loop-k.k < c.args.kept_count → 1 ≤ word c.loop-k.w (index_at_of c.args.p c.loop-k.k) = λ lt. omega (
       arith,
       used_at c.args.w.now c.args.p c.args.kept_count c.requires.w_len.4 c.loop-k.k lt,
       index_there c.args.w.now c.requires.w_len.0 c.args.p c.requires.w_len.1 (pin_row c.args.pins) c.loop-k.k c.loop-k.w c.loop-k.to c.loop-k.invariant.4 (omega (arith, c.requires.w_len.3)),
-    ) in there') (omega arith)
+    ) in
+    there (omega arith)
 
 pub move_up-requires : goal.move_up-requires
 move_up-requires c =
@@ -49,11 +50,12 @@ overflow_sub-before c =
 
 pub index_of-requires : goal.index_of-requires
 index_of-requires c =
-    (let there' : c.loop-k.k < c.args.kept_count → 1 ≤ word c.loop-k.w (index_at_of c.args.p c.loop-k.k) = λ lt. omega (
+    let there : c.loop-k.k < c.args.kept_count → 1 ≤ word c.loop-k.w (index_at_of c.args.p c.loop-k.k) = λ lt. omega (
       arith,
       used_at c.args.w.now c.args.p c.args.kept_count c.requires.w_len.4 c.loop-k.k lt,
       index_there c.args.w.now c.requires.w_len.0 c.args.p c.requires.w_len.1 (pin_row c.args.pins) c.loop-k.k c.loop-k.w c.loop-k.to c.loop-k.invariant.4 (omega (arith, c.requires.w_len.3)),
-    ) in there') (omega arith)
+    ) in
+    there (omega arith)
 
 pub write_pair-requires : goal.write_pair-requires
 write_pair-requires c =

@@ -37,39 +37,48 @@ done w h i lt x fresh u e r index is row vector read y g l l' many m lent =
 
 pub overflow_mul-i : goal.overflow_mul-i
 overflow_mul-i c =
-    let k = (let known' : (c.args.i < 16) × (length c.args.w.now ≡ 6464) = (in_range c.args.w.now c.requires.0 c.args.i c.requires.1, (words c.args.w.now c.requires.0 c.args.i c.requires.1).size) in known') in search rules
+    let known : (c.args.i < 16) × (length c.args.w.now ≡ 6464) = (in_range c.args.w.now c.requires.0 c.args.i c.requires.1, (words c.args.w.now c.requires.0 c.args.i c.requires.1).size) in
+    let k = known in search rules
 
 pub overflow_add-i : goal.overflow_add-i
 overflow_add-i c =
-    let k = (let known' : (c.args.i < 16) × (length c.args.w.now ≡ 6464) = (in_range c.args.w.now c.requires.0 c.args.i c.requires.1, (words c.args.w.now c.requires.0 c.args.i c.requires.1).size) in known') in search rules
+    let known : (c.args.i < 16) × (length c.args.w.now ≡ 6464) = (in_range c.args.w.now c.requires.0 c.args.i c.requires.1, (words c.args.w.now c.requires.0 c.args.i c.requires.1).size) in
+    let k = known in search rules
 
 pub vector_at-vector-requires : goal.vector_at-vector-requires
 vector_at-vector-requires c =
-    let k = (let known' : (c.args.i < 16) × (length c.args.w.now ≡ 6464) = (in_range c.args.w.now c.requires.0 c.args.i c.requires.1, (words c.args.w.now c.requires.0 c.args.i c.requires.1).size) in known') in search rules
+    let known : (c.args.i < 16) × (length c.args.w.now ≡ 6464) = (in_range c.args.w.now c.requires.0 c.args.i c.requires.1, (words c.args.w.now c.requires.0 c.args.i c.requires.1).size) in
+    let k = known in search rules
 
 pub overflow_mul-i-2 : goal.overflow_mul-i-2
 overflow_mul-i-2 c =
-    let k = (let known' : (c.args.i < 16) × (length c.args.w.now ≡ 6464) = (in_range c.args.w.now c.requires.0 c.args.i c.requires.1, (words c.args.w.now c.requires.0 c.args.i c.requires.1).size) in known') in search rules
+    let known : (c.args.i < 16) × (length c.args.w.now ≡ 6464) = (in_range c.args.w.now c.requires.0 c.args.i c.requires.1, (words c.args.w.now c.requires.0 c.args.i c.requires.1).size) in
+    let k = known in search rules
 
 pub overflow_add-i-2 : goal.overflow_add-i-2
 overflow_add-i-2 c =
-    let k = (let known' : (c.args.i < 16) × (length c.args.w.now ≡ 6464) = (in_range c.args.w.now c.requires.0 c.args.i c.requires.1, (words c.args.w.now c.requires.0 c.args.i c.requires.1).size) in known') in search rules
+    let known : (c.args.i < 16) × (length c.args.w.now ≡ 6464) = (in_range c.args.w.now c.requires.0 c.args.i c.requires.1, (words c.args.w.now c.requires.0 c.args.i c.requires.1).size) in
+    let k = known in search rules
 
 pub row_at-old-requires : goal.row_at-old-requires
 row_at-old-requires c =
-    let k = (let known' : (c.args.i < 16) × (length c.args.w.now ≡ 6464) = (in_range c.args.w.now c.requires.0 c.args.i c.requires.1, (words c.args.w.now c.requires.0 c.args.i c.requires.1).size) in known') in search rules
+    let known : (c.args.i < 16) × (length c.args.w.now ≡ 6464) = (in_range c.args.w.now c.requires.0 c.args.i c.requires.1, (words c.args.w.now c.requires.0 c.args.i c.requires.1).size) in
+    let k = known in search rules
 
 pub overflow_add-kept_count : goal.overflow_add-kept_count
 overflow_add-kept_count c =
-    let k = (let known' : (c.args.i < 16) × (length c.args.w.now ≡ 6464) = (in_range c.args.w.now c.requires.0 c.args.i c.requires.1, (words c.args.w.now c.requires.0 c.args.i c.requires.1).size) in known') in search rules
+    let known : (c.args.i < 16) × (length c.args.w.now ≡ 6464) = (in_range c.args.w.now c.requires.0 c.args.i c.requires.1, (words c.args.w.now c.requires.0 c.args.i c.requires.1).size) in
+    let k = known in search rules
 
 pub offset_bounds-w-i : goal.offset_bounds-w-i
 offset_bounds-w-i c =
-    let k = (let known' : (c.args.i < 16) × (length c.args.w.now ≡ 6464) = (in_range c.args.w.now c.requires.0 c.args.i c.requires.1, (words c.args.w.now c.requires.0 c.args.i c.requires.1).size) in known') in search rules
+    let known : (c.args.i < 16) × (length c.args.w.now ≡ 6464) = (in_range c.args.w.now c.requires.0 c.args.i c.requires.1, (words c.args.w.now c.requires.0 c.args.i c.requires.1).size) in
+    let k = known in search rules
 
 pub bounds-w-i : goal.bounds-w-i
 bounds-w-i c =
-    let k = (let known' : (c.args.i < 16) × (length c.args.w.now ≡ 6464) = (in_range c.args.w.now c.requires.0 c.args.i c.requires.1, (words c.args.w.now c.requires.0 c.args.i c.requires.1).size) in known') in search rules
+    let known : (c.args.i < 16) × (length c.args.w.now ≡ 6464) = (in_range c.args.w.now c.requires.0 c.args.i c.requires.1, (words c.args.w.now c.requires.0 c.args.i c.requires.1).size) in
+    let k = known in search rules
 
 pub overflow_cast-kept_count : goal.overflow_cast-kept_count
 overflow_cast-kept_count c =
@@ -77,11 +86,13 @@ overflow_cast-kept_count c =
 
 pub offset_bounds-vector-i : goal.offset_bounds-vector-i
 offset_bounds-vector-i c =
-    let k = (let known' : (c.args.i < 16) × (length c.args.w.now ≡ 6464) = (in_range c.args.w.now c.requires.0 c.args.i c.requires.1, (words c.args.w.now c.requires.0 c.args.i c.requires.1).size) in known') in search rules
+    let known : (c.args.i < 16) × (length c.args.w.now ≡ 6464) = (in_range c.args.w.now c.requires.0 c.args.i c.requires.1, (words c.args.w.now c.requires.0 c.args.i c.requires.1).size) in
+    let k = known in search rules
 
 pub bounds-vector-i : goal.bounds-vector-i
 bounds-vector-i c =
-    let k = (let known' : (c.args.i < 16) × (length c.args.w.now ≡ 6464) = (in_range c.args.w.now c.requires.0 c.args.i c.requires.1, (words c.args.w.now c.requires.0 c.args.i c.requires.1).size) in known') in search rules
+    let known : (c.args.i < 16) × (length c.args.w.now ≡ 6464) = (in_range c.args.w.now c.requires.0 c.args.i c.requires.1, (words c.args.w.now c.requires.0 c.args.i c.requires.1).size) in
+    let k = known in search rules
 
 pub live_index-index-requires : goal.live_index-index-requires
 live_index-index-requires c =
@@ -93,23 +104,28 @@ pin_word-requires c =
 
 pub taken_pins-pins-requires : goal.taken_pins-pins-requires
 taken_pins-pins-requires c =
-    let k = (let known' : (c.args.i < 16) × (length c.args.w.now ≡ 6464) = (in_range c.args.w.now c.requires.0 c.args.i c.requires.1, (words c.args.w.now c.requires.0 c.args.i c.requires.1).size) in known') in search rules
+    let known : (c.args.i < 16) × (length c.args.w.now ≡ 6464) = (in_range c.args.w.now c.requires.0 c.args.i c.requires.1, (words c.args.w.now c.requires.0 c.args.i c.requires.1).size) in
+    let k = known in search rules
 
 pub overflow_mul-i-3 : goal.overflow_mul-i-3
 overflow_mul-i-3 c =
-    let k = (let known' : (c.args.i < 16) × (length c.args.w.now ≡ 6464) = (in_range c.args.w.now c.requires.0 c.args.i c.requires.1, (words c.args.w.now c.requires.0 c.args.i c.requires.1).size) in known') in search rules
+    let known : (c.args.i < 16) × (length c.args.w.now ≡ 6464) = (in_range c.args.w.now c.requires.0 c.args.i c.requires.1, (words c.args.w.now c.requires.0 c.args.i c.requires.1).size) in
+    let k = known in search rules
 
 pub overflow_add-i-3 : goal.overflow_add-i-3
 overflow_add-i-3 c =
-    let k = (let known' : (c.args.i < 16) × (length c.args.w.now ≡ 6464) = (in_range c.args.w.now c.requires.0 c.args.i c.requires.1, (words c.args.w.now c.requires.0 c.args.i c.requires.1).size) in known') in search rules
+    let known : (c.args.i < 16) × (length c.args.w.now ≡ 6464) = (in_range c.args.w.now c.requires.0 c.args.i c.requires.1, (words c.args.w.now c.requires.0 c.args.i c.requires.1).size) in
+    let k = known in search rules
 
 pub advanced-requires : goal.advanced-requires
 advanced-requires c =
-    (((let known' : (c.args.i < 16) × (length c.args.w.now ≡ 6464) = (in_range c.args.w.now c.requires.0 c.args.i c.requires.1, (words c.args.w.now c.requires.0 c.args.i c.requires.1).size) in known')).0, omega (arith, own_number c.args.w.now c.requires.0 c.args.i c.requires.1 _ c.vector_at-vector.ensures, c.requires.2))
+    let known : (c.args.i < 16) × (length c.args.w.now ≡ 6464) = (in_range c.args.w.now c.requires.0 c.args.i c.requires.1, (words c.args.w.now c.requires.0 c.args.i c.requires.1).size) in
+    (known.0, omega (arith, own_number c.args.w.now c.requires.0 c.args.i c.requires.1 _ c.vector_at-vector.ensures, c.requires.2))
 
 pub put_vector-requires : goal.put_vector-requires
 put_vector-requires c =
-    let k = (let known' : (c.args.i < 16) × (length c.args.w.now ≡ 6464) = (in_range c.args.w.now c.requires.0 c.args.i c.requires.1, (words c.args.w.now c.requires.0 c.args.i c.requires.1).size) in known') in search rules
+    let known : (c.args.i < 16) × (length c.args.w.now ≡ 6464) = (in_range c.args.w.now c.requires.0 c.args.i c.requires.1, (words c.args.w.now c.requires.0 c.args.i c.requires.1).size) in
+    let k = known in search rules
 
 pub overflow_sub-kept_count : goal.overflow_sub-kept_count
 overflow_sub-kept_count c =

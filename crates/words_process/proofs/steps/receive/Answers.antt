@@ -40,35 +40,43 @@ done w h i lt stores carried x fresh u e r index is own own-word row vector read
 
 pub overflow_mul-i : goal.overflow_mul-i
 overflow_mul-i c =
-    let k = (let known' : (c.args.i < 16) × (length c.args.w.now ≡ 6464) = (in_range c.args.w.now c.requires.0 c.args.i c.requires.1, (words c.args.w.now c.requires.0 c.args.i c.requires.1).size) in known') in search rules
+    let known : (c.args.i < 16) × (length c.args.w.now ≡ 6464) = (in_range c.args.w.now c.requires.0 c.args.i c.requires.1, (words c.args.w.now c.requires.0 c.args.i c.requires.1).size) in
+    let k = known in search rules
 
 pub overflow_add-i : goal.overflow_add-i
 overflow_add-i c =
-    let k = (let known' : (c.args.i < 16) × (length c.args.w.now ≡ 6464) = (in_range c.args.w.now c.requires.0 c.args.i c.requires.1, (words c.args.w.now c.requires.0 c.args.i c.requires.1).size) in known') in search rules
+    let known : (c.args.i < 16) × (length c.args.w.now ≡ 6464) = (in_range c.args.w.now c.requires.0 c.args.i c.requires.1, (words c.args.w.now c.requires.0 c.args.i c.requires.1).size) in
+    let k = known in search rules
 
 pub vector_at-vector-requires : goal.vector_at-vector-requires
 vector_at-vector-requires c =
-    let k = (let known' : (c.args.i < 16) × (length c.args.w.now ≡ 6464) = (in_range c.args.w.now c.requires.0 c.args.i c.requires.1, (words c.args.w.now c.requires.0 c.args.i c.requires.1).size) in known') in search rules
+    let known : (c.args.i < 16) × (length c.args.w.now ≡ 6464) = (in_range c.args.w.now c.requires.0 c.args.i c.requires.1, (words c.args.w.now c.requires.0 c.args.i c.requires.1).size) in
+    let k = known in search rules
 
 pub overflow_mul-i-2 : goal.overflow_mul-i-2
 overflow_mul-i-2 c =
-    let k = (let known' : (c.args.i < 16) × (length c.args.w.now ≡ 6464) = (in_range c.args.w.now c.requires.0 c.args.i c.requires.1, (words c.args.w.now c.requires.0 c.args.i c.requires.1).size) in known') in search rules
+    let known : (c.args.i < 16) × (length c.args.w.now ≡ 6464) = (in_range c.args.w.now c.requires.0 c.args.i c.requires.1, (words c.args.w.now c.requires.0 c.args.i c.requires.1).size) in
+    let k = known in search rules
 
 pub overflow_add-i-2 : goal.overflow_add-i-2
 overflow_add-i-2 c =
-    let k = (let known' : (c.args.i < 16) × (length c.args.w.now ≡ 6464) = (in_range c.args.w.now c.requires.0 c.args.i c.requires.1, (words c.args.w.now c.requires.0 c.args.i c.requires.1).size) in known') in search rules
+    let known : (c.args.i < 16) × (length c.args.w.now ≡ 6464) = (in_range c.args.w.now c.requires.0 c.args.i c.requires.1, (words c.args.w.now c.requires.0 c.args.i c.requires.1).size) in
+    let k = known in search rules
 
 pub row_at-old-requires : goal.row_at-old-requires
 row_at-old-requires c =
-    let k = (let known' : (c.args.i < 16) × (length c.args.w.now ≡ 6464) = (in_range c.args.w.now c.requires.0 c.args.i c.requires.1, (words c.args.w.now c.requires.0 c.args.i c.requires.1).size) in known') in search rules
+    let known : (c.args.i < 16) × (length c.args.w.now ≡ 6464) = (in_range c.args.w.now c.requires.0 c.args.i c.requires.1, (words c.args.w.now c.requires.0 c.args.i c.requires.1).size) in
+    let k = known in search rules
 
 pub offset_bounds-vector-i : goal.offset_bounds-vector-i
 offset_bounds-vector-i c =
-    let k = (let known' : (c.args.i < 16) × (length c.args.w.now ≡ 6464) = (in_range c.args.w.now c.requires.0 c.args.i c.requires.1, (words c.args.w.now c.requires.0 c.args.i c.requires.1).size) in known') in search rules
+    let known : (c.args.i < 16) × (length c.args.w.now ≡ 6464) = (in_range c.args.w.now c.requires.0 c.args.i c.requires.1, (words c.args.w.now c.requires.0 c.args.i c.requires.1).size) in
+    let k = known in search rules
 
 pub bounds-vector-i : goal.bounds-vector-i
 bounds-vector-i c =
-    let k = (let known' : (c.args.i < 16) × (length c.args.w.now ≡ 6464) = (in_range c.args.w.now c.requires.0 c.args.i c.requires.1, (words c.args.w.now c.requires.0 c.args.i c.requires.1).size) in known') in search rules
+    let known : (c.args.i < 16) × (length c.args.w.now ≡ 6464) = (in_range c.args.w.now c.requires.0 c.args.i c.requires.1, (words c.args.w.now c.requires.0 c.args.i c.requires.1).size) in
+    let k = known in search rules
 
 pub live_index-index-requires : goal.live_index-index-requires
 live_index-index-requires c =
@@ -76,15 +84,18 @@ live_index-index-requires c =
 
 pub take_vector-rose-requires : goal.take_vector-rose-requires
 take_vector-rose-requires c =
-    let k = (let known' : (c.args.i < 16) × (length c.args.w.now ≡ 6464) = (in_range c.args.w.now c.requires.0 c.args.i c.requires.1, (words c.args.w.now c.requires.0 c.args.i c.requires.1).size) in known') in (k.1, k.0, c.vector_at-vector.ensures, λ e. omega (arith, own_number c.args.w.now c.requires.0 c.args.i c.requires.1 _ c.vector_at-vector.ensures, c.requires.2 e))
+    let known : (c.args.i < 16) × (length c.args.w.now ≡ 6464) = (in_range c.args.w.now c.requires.0 c.args.i c.requires.1, (words c.args.w.now c.requires.0 c.args.i c.requires.1).size) in
+    let k = known in (k.1, k.0, c.vector_at-vector.ensures, λ e. omega (arith, own_number c.args.w.now c.requires.0 c.args.i c.requires.1 _ c.vector_at-vector.ensures, c.requires.2 e))
 
 pub offset_bounds-old-i : goal.offset_bounds-old-i
 offset_bounds-old-i c =
-    let k = (let known' : (c.args.i < 16) × (length c.args.w.now ≡ 6464) = (in_range c.args.w.now c.requires.0 c.args.i c.requires.1, (words c.args.w.now c.requires.0 c.args.i c.requires.1).size) in known') in search rules
+    let known : (c.args.i < 16) × (length c.args.w.now ≡ 6464) = (in_range c.args.w.now c.requires.0 c.args.i c.requires.1, (words c.args.w.now c.requires.0 c.args.i c.requires.1).size) in
+    let k = known in search rules
 
 pub bounds-old-i : goal.bounds-old-i
 bounds-old-i c =
-    let k = (let known' : (c.args.i < 16) × (length c.args.w.now ≡ 6464) = (in_range c.args.w.now c.requires.0 c.args.i c.requires.1, (words c.args.w.now c.requires.0 c.args.i c.requires.1).size) in known') in search rules
+    let known : (c.args.i < 16) × (length c.args.w.now ≡ 6464) = (in_range c.args.w.now c.requires.0 c.args.i c.requires.1, (words c.args.w.now c.requires.0 c.args.i c.requires.1).size) in
+    let k = known in search rules
 
 pub own_pin-requires : goal.own_pin-requires
 own_pin-requires c =
@@ -92,7 +103,8 @@ own_pin-requires c =
 
 pub taken_pins-pins-requires : goal.taken_pins-pins-requires
 taken_pins-pins-requires c =
-    let k = (let known' : (c.args.i < 16) × (length c.args.w.now ≡ 6464) = (in_range c.args.w.now c.requires.0 c.args.i c.requires.1, (words c.args.w.now c.requires.0 c.args.i c.requires.1).size) in known') in search rules
+    let known : (c.args.i < 16) × (length c.args.w.now ≡ 6464) = (in_range c.args.w.now c.requires.0 c.args.i c.requires.1, (words c.args.w.now c.requires.0 c.args.i c.requires.1).size) in
+    let k = known in search rules
 
 pub settle-gone-requires : goal.settle-gone-requires
 settle-gone-requires c =

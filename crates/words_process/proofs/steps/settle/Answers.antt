@@ -52,8 +52,9 @@ store_if-requires c =
 
 pub bill-requires : goal.bill-requires
 bill-requires c =
-    let d = end_disk c.args.w.now c.requires.w_len.0 c.args.i c.requires.w_len.1 c.args.pins c.put_row.new.w c.put_row.ensures (word c.args.w.now (kept_count_at_of c.args.i)) refl c.requires.from_bound.1 c.collect-stay.new.w c.collect-stay.result c.collect-stay.ensures.collected c.args.index c.args.cause c.args.vector ((let long' : length c.args.vector ≡ 16 = search rules in long')) c.args.stores (λ stores. few c.args.w.now c.requires.w_len.0 c.args.i c.requires.w_len.1 c.args.pins c.put_row.new.w c.put_row.ensures c.requires.from_bound.1 c.collect-stay.new.w c.collect-stay.result c.collect-stay.ensures.collected (c.requires.i_len_bound.0 stores)) _ _ c.store_if.ensures c.kept_count_then.ensures in (
-      end_size c.args.w.now c.requires.w_len.0 c.args.i c.requires.w_len.1 c.args.pins c.put_row.new.w c.put_row.ensures (word c.args.w.now (kept_count_at_of c.args.i)) refl c.requires.from_bound.1 c.collect-stay.new.w c.collect-stay.result c.collect-stay.ensures.collected c.args.index c.args.cause c.args.vector ((let long' : length c.args.vector ≡ 16 = search rules in long')) c.args.stores (λ stores. few c.args.w.now c.requires.w_len.0 c.args.i c.requires.w_len.1 c.args.pins c.put_row.new.w c.put_row.ensures c.requires.from_bound.1 c.collect-stay.new.w c.collect-stay.result c.collect-stay.ensures.collected (c.requires.i_len_bound.0 stores)) _ _ c.store_if.ensures c.kept_count_then.ensures,
+    let long : length c.args.vector ≡ 16 = search rules in
+    let d = end_disk c.args.w.now c.requires.w_len.0 c.args.i c.requires.w_len.1 c.args.pins c.put_row.new.w c.put_row.ensures (word c.args.w.now (kept_count_at_of c.args.i)) refl c.requires.from_bound.1 c.collect-stay.new.w c.collect-stay.result c.collect-stay.ensures.collected c.args.index c.args.cause c.args.vector long c.args.stores (λ stores. few c.args.w.now c.requires.w_len.0 c.args.i c.requires.w_len.1 c.args.pins c.put_row.new.w c.put_row.ensures c.requires.from_bound.1 c.collect-stay.new.w c.collect-stay.result c.collect-stay.ensures.collected (c.requires.i_len_bound.0 stores)) _ _ c.store_if.ensures c.kept_count_then.ensures in (
+      end_size c.args.w.now c.requires.w_len.0 c.args.i c.requires.w_len.1 c.args.pins c.put_row.new.w c.put_row.ensures (word c.args.w.now (kept_count_at_of c.args.i)) refl c.requires.from_bound.1 c.collect-stay.new.w c.collect-stay.result c.collect-stay.ensures.collected c.args.index c.args.cause c.args.vector long c.args.stores (λ stores. few c.args.w.now c.requires.w_len.0 c.args.i c.requires.w_len.1 c.args.pins c.put_row.new.w c.put_row.ensures c.requires.from_bound.1 c.collect-stay.new.w c.collect-stay.result c.collect-stay.ensures.collected (c.requires.i_len_bound.0 stores)) _ _ c.store_if.ensures c.kept_count_then.ensures,
       rw d.0 c.requires.w_len.3,
       rw d.1 c.requires.w_len.4,
       omega (arith, c.requires.from_bound.1),
@@ -69,4 +70,5 @@ shape_of-deleted c =
 
 pub returns : goal.returns
 returns c =
-    let bill = c.bill.ensures in let t = c.collect-stay in let none = gone_is c.args.w.now c.requires.w_len.0 c.args.i c.requires.w_len.1 c.args.pins c.put_row.new.w c.put_row.ensures c.requires.from_bound.1 in record { moves = end_moves c.args.w.now c.requires.w_len.0 c.args.i c.requires.w_len.1 c.args.pins c.put_row.new.w c.put_row.ensures (word c.args.w.now (kept_count_at_of c.args.i)) refl c.requires.from_bound.1 c.collect-stay.new.w c.collect-stay.result c.collect-stay.ensures.collected c.args.index c.args.cause c.args.vector ((let long' : length c.args.vector ≡ 16 = search rules in long')) c.args.stores (λ stores. few c.args.w.now c.requires.w_len.0 c.args.i c.requires.w_len.1 c.args.pins c.put_row.new.w c.put_row.ensures c.requires.from_bound.1 c.collect-stay.new.w c.collect-stay.result c.collect-stay.ensures.collected (c.requires.i_len_bound.0 stores)) _ _ c.store_if.ensures c.kept_count_then.ensures _ _ _ bill.only_disk bill.w_after.0 bill.w_after.1; deleted_after = t.ensures.deleted_after ∙ ap (λ (q : List Checkpoint). sets c.args.deleted.now 0 (pairs (listed c.args.i q))) none; value = omega (arith, t.ensures.kept_count_value, ap length none) }
+    let long : length c.args.vector ≡ 16 = search rules in
+    let bill = c.bill.ensures in let t = c.collect-stay in let none = gone_is c.args.w.now c.requires.w_len.0 c.args.i c.requires.w_len.1 c.args.pins c.put_row.new.w c.put_row.ensures c.requires.from_bound.1 in record { moves = end_moves c.args.w.now c.requires.w_len.0 c.args.i c.requires.w_len.1 c.args.pins c.put_row.new.w c.put_row.ensures (word c.args.w.now (kept_count_at_of c.args.i)) refl c.requires.from_bound.1 c.collect-stay.new.w c.collect-stay.result c.collect-stay.ensures.collected c.args.index c.args.cause c.args.vector long c.args.stores (λ stores. few c.args.w.now c.requires.w_len.0 c.args.i c.requires.w_len.1 c.args.pins c.put_row.new.w c.put_row.ensures c.requires.from_bound.1 c.collect-stay.new.w c.collect-stay.result c.collect-stay.ensures.collected (c.requires.i_len_bound.0 stores)) _ _ c.store_if.ensures c.kept_count_then.ensures _ _ _ bill.only_disk bill.w_after.0 bill.w_after.1; deleted_after = t.ensures.deleted_after ∙ ap (λ (q : List Checkpoint). sets c.args.deleted.now 0 (pairs (listed c.args.i q))) none; value = omega (arith, t.ensures.kept_count_value, ap length none) }

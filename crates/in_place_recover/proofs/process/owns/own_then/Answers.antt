@@ -13,50 +13,57 @@ overflow_cast-kept_count c =
 pub overflow_sub-stored : goal.overflow_sub-stored
 unfolding restored_own
 overflow_sub-stored c =
-    let s = (let stored' : let a = c.args in (1 ≤ a.past) × (a.past ≤ word a.w.now (kept_count_at_of a.p)) × (a.past ≤ 16) = let a = c.args in let keptCount = word a.w.now (kept_count_at_of a.p) in let e = and_out (ltb 0 a.past) (leb a.past keptCount) c.if-past-kept_count.true in let one : 1 ≤ a.past = ltb-true 0 a.past e.0 in
+    let stored : let a = c.args in (1 ≤ a.past) × (a.past ≤ word a.w.now (kept_count_at_of a.p)) × (a.past ≤ 16) = let a = c.args in let keptCount = word a.w.now (kept_count_at_of a.p) in let e = and_out (ltb 0 a.past) (leb a.past keptCount) c.if-past-kept_count.true in let one : 1 ≤ a.past = ltb-true 0 a.past e.0 in
     let most : a.past ≤ keptCount = leb-true a.past keptCount e.1 in
-    (one, most, omega (arith, (c.requires.2 one).0)) in stored') in search rules
+    (one, most, omega (arith, (c.requires.2 one).0)) in
+    let s = stored in search rules
 
 pub overflow_mul-stored-then-past-kept_count : goal.overflow_mul-stored-then-past-kept_count
 unfolding restored_own
 overflow_mul-stored-then-past-kept_count c =
-    let s = (let stored' : let a = c.args in (1 ≤ a.past) × (a.past ≤ word a.w.now (kept_count_at_of a.p)) × (a.past ≤ 16) = let a = c.args in let keptCount = word a.w.now (kept_count_at_of a.p) in let e = and_out (ltb 0 a.past) (leb a.past keptCount) c.if-past-kept_count.true in let one : 1 ≤ a.past = ltb-true 0 a.past e.0 in
+    let stored : let a = c.args in (1 ≤ a.past) × (a.past ≤ word a.w.now (kept_count_at_of a.p)) × (a.past ≤ 16) = let a = c.args in let keptCount = word a.w.now (kept_count_at_of a.p) in let e = and_out (ltb 0 a.past) (leb a.past keptCount) c.if-past-kept_count.true in let one : 1 ≤ a.past = ltb-true 0 a.past e.0 in
     let most : a.past ≤ keptCount = leb-true a.past keptCount e.1 in
-    (one, most, omega (arith, (c.requires.2 one).0)) in stored') in search rules
+    (one, most, omega (arith, (c.requires.2 one).0)) in
+    let s = stored in search rules
 
 pub overflow_add-stored-then-past-kept_count : goal.overflow_add-stored-then-past-kept_count
 unfolding restored_own
 overflow_add-stored-then-past-kept_count c =
-    let s = (let stored' : let a = c.args in (1 ≤ a.past) × (a.past ≤ word a.w.now (kept_count_at_of a.p)) × (a.past ≤ 16) = let a = c.args in let keptCount = word a.w.now (kept_count_at_of a.p) in let e = and_out (ltb 0 a.past) (leb a.past keptCount) c.if-past-kept_count.true in let one : 1 ≤ a.past = ltb-true 0 a.past e.0 in
+    let stored : let a = c.args in (1 ≤ a.past) × (a.past ≤ word a.w.now (kept_count_at_of a.p)) × (a.past ≤ 16) = let a = c.args in let keptCount = word a.w.now (kept_count_at_of a.p) in let e = and_out (ltb 0 a.past) (leb a.past keptCount) c.if-past-kept_count.true in let one : 1 ≤ a.past = ltb-true 0 a.past e.0 in
     let most : a.past ≤ keptCount = leb-true a.past keptCount e.1 in
-    (one, most, omega (arith, (c.requires.2 one).0)) in stored') in search rules
+    (one, most, omega (arith, (c.requires.2 one).0)) in
+    let s = stored in search rules
 
 pub overflow_add-stored-then-past-kept_count-2 : goal.overflow_add-stored-then-past-kept_count-2
 unfolding restored_own
 overflow_add-stored-then-past-kept_count-2 c =
-    let s = (let stored' : let a = c.args in (1 ≤ a.past) × (a.past ≤ word a.w.now (kept_count_at_of a.p)) × (a.past ≤ 16) = let a = c.args in let keptCount = word a.w.now (kept_count_at_of a.p) in let e = and_out (ltb 0 a.past) (leb a.past keptCount) c.if-past-kept_count.true in let one : 1 ≤ a.past = ltb-true 0 a.past e.0 in
+    let stored : let a = c.args in (1 ≤ a.past) × (a.past ≤ word a.w.now (kept_count_at_of a.p)) × (a.past ≤ 16) = let a = c.args in let keptCount = word a.w.now (kept_count_at_of a.p) in let e = and_out (ltb 0 a.past) (leb a.past keptCount) c.if-past-kept_count.true in let one : 1 ≤ a.past = ltb-true 0 a.past e.0 in
     let most : a.past ≤ keptCount = leb-true a.past keptCount e.1 in
-    (one, most, omega (arith, (c.requires.2 one).0)) in stored') in search rules
+    (one, most, omega (arith, (c.requires.2 one).0)) in
+    let s = stored in search rules
 
 pub offset_bounds-w-p-then-past-kept_count : goal.offset_bounds-w-p-then-past-kept_count
 unfolding restored_own
 offset_bounds-w-p-then-past-kept_count c =
-    let s = (let stored' : let a = c.args in (1 ≤ a.past) × (a.past ≤ word a.w.now (kept_count_at_of a.p)) × (a.past ≤ 16) = let a = c.args in let keptCount = word a.w.now (kept_count_at_of a.p) in let e = and_out (ltb 0 a.past) (leb a.past keptCount) c.if-past-kept_count.true in let one : 1 ≤ a.past = ltb-true 0 a.past e.0 in
+    let stored : let a = c.args in (1 ≤ a.past) × (a.past ≤ word a.w.now (kept_count_at_of a.p)) × (a.past ≤ 16) = let a = c.args in let keptCount = word a.w.now (kept_count_at_of a.p) in let e = and_out (ltb 0 a.past) (leb a.past keptCount) c.if-past-kept_count.true in let one : 1 ≤ a.past = ltb-true 0 a.past e.0 in
     let most : a.past ≤ keptCount = leb-true a.past keptCount e.1 in
-    (one, most, omega (arith, (c.requires.2 one).0)) in stored') in search rules
+    (one, most, omega (arith, (c.requires.2 one).0)) in
+    let s = stored in search rules
 
 pub bounds-w-p-then-past-kept_count : goal.bounds-w-p-then-past-kept_count
 unfolding restored_own
 bounds-w-p-then-past-kept_count c =
-    let s = (let stored' : let a = c.args in (1 ≤ a.past) × (a.past ≤ word a.w.now (kept_count_at_of a.p)) × (a.past ≤ 16) = let a = c.args in let keptCount = word a.w.now (kept_count_at_of a.p) in let e = and_out (ltb 0 a.past) (leb a.past keptCount) c.if-past-kept_count.true in let one : 1 ≤ a.past = ltb-true 0 a.past e.0 in
+    let stored : let a = c.args in (1 ≤ a.past) × (a.past ≤ word a.w.now (kept_count_at_of a.p)) × (a.past ≤ 16) = let a = c.args in let keptCount = word a.w.now (kept_count_at_of a.p) in let e = and_out (ltb 0 a.past) (leb a.past keptCount) c.if-past-kept_count.true in let one : 1 ≤ a.past = ltb-true 0 a.past e.0 in
     let most : a.past ≤ keptCount = leb-true a.past keptCount e.1 in
-    (one, most, omega (arith, (c.requires.2 one).0)) in stored') in search rules
+    (one, most, omega (arith, (c.requires.2 one).0)) in
+    let s = stored in search rules
 
 pub overflow_add-stored-then-past-kept_count-3 : goal.overflow_add-stored-then-past-kept_count-3
 overflow_add-stored-then-past-kept_count-3 c =
-    let s = (let stored' : let a = c.args in (1 ≤ a.past) × (a.past ≤ word a.w.now (kept_count_at_of a.p)) × (a.past ≤ 16) = let a = c.args in let keptCount = word a.w.now (kept_count_at_of a.p) in let e = and_out (ltb 0 a.past) (leb a.past keptCount) c.if-past-kept_count.true in let one : 1 ≤ a.past = ltb-true 0 a.past e.0 in
+    let stored : let a = c.args in (1 ≤ a.past) × (a.past ≤ word a.w.now (kept_count_at_of a.p)) × (a.past ≤ 16) = let a = c.args in let keptCount = word a.w.now (kept_count_at_of a.p) in let e = and_out (ltb 0 a.past) (leb a.past keptCount) c.if-past-kept_count.true in let one : 1 ≤ a.past = ltb-true 0 a.past e.0 in
     let most : a.past ≤ keptCount = leb-true a.past keptCount e.1 in
-    (one, most, omega (arith, (c.requires.2 one).0)) in stored') in let less = (c.requires.2 s.0).3 s.1 in search (rules, less)
+    (one, most, omega (arith, (c.requires.2 one).0)) in
+    let s = stored in let less = (c.requires.2 s.0).3 s.1 in search (rules, less)
 
 pub returns-then-past-kept_count : goal.returns-then-past-kept_count
 unfolding restored_own

@@ -10,19 +10,28 @@ put2-requires c =
 
 pub put4-requires : goal.put4-requires
 put4-requires c =
-    let e = (let sized_2' : length c.put2.new.w ≡ 6464 = c.put2.auto.w ∙ simp length-set c.requires.0 in sized_2') in omega arith
+    let sized_2 : length c.put2.new.w ≡ 6464 = c.put2.auto.w ∙ simp length-set c.requires.0 in
+    let e = sized_2 in omega arith
 
 pub put4-requires-2 : goal.put4-requires-2
 put4-requires-2 c =
-    let e = (let sized_4' : length c.put4.new.w ≡ 6464 = c.put4.auto.w ∙ (let sized_2' : length c.put2.new.w ≡ 6464 = c.put2.auto.w ∙ simp length-set c.requires.0 in sized_2') in sized_4') in omega arith
+    let sized_2 : length c.put2.new.w ≡ 6464 = c.put2.auto.w ∙ simp length-set c.requires.0 in
+    let sized_4 : length c.put4.new.w ≡ 6464 = c.put4.auto.w ∙ sized_2 in
+    let e = sized_4 in omega arith
 
 pub bounds-w-12 : goal.bounds-w-12
 bounds-w-12 c =
-    let e = (let sized_8' : length c.put4-2.new.w ≡ 6464 = c.put4-2.auto.w ∙ (let sized_4' : length c.put4.new.w ≡ 6464 = c.put4.auto.w ∙ (let sized_2' : length c.put2.new.w ≡ 6464 = c.put2.auto.w ∙ simp length-set c.requires.0 in sized_2') in sized_4') in sized_8') in omega arith
+    let sized_2 : length c.put2.new.w ≡ 6464 = c.put2.auto.w ∙ simp length-set c.requires.0 in
+    let sized_4 : length c.put4.new.w ≡ 6464 = c.put4.auto.w ∙ sized_2 in
+    let sized_8 : length c.put4-2.new.w ≡ 6464 = c.put4-2.auto.w ∙ sized_4 in
+    let e = sized_8 in omega arith
 
 pub shape_of-w : goal.shape_of-w
 shape_of-w c =
-    simp length-set ((let sized_8' : length c.put4-2.new.w ≡ 6464 = c.put4-2.auto.w ∙ (let sized_4' : length c.put4.new.w ≡ 6464 = c.put4.auto.w ∙ (let sized_2' : length c.put2.new.w ≡ 6464 = c.put2.auto.w ∙ simp length-set c.requires.0 in sized_2') in sized_4') in sized_8') ∙ sym c.requires.0)
+    let sized_2 : length c.put2.new.w ≡ 6464 = c.put2.auto.w ∙ simp length-set c.requires.0 in
+    let sized_4 : length c.put4.new.w ≡ 6464 = c.put4.auto.w ∙ sized_2 in
+    let sized_8 : length c.put4-2.new.w ≡ 6464 = c.put4-2.auto.w ∙ sized_4 in
+    simp length-set (sized_8 ∙ sym c.requires.0)
 
 pub returns : goal.returns
 returns c =

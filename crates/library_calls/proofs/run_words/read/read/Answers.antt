@@ -11,59 +11,84 @@ use Rattle.library_calls.proofs.run_words.read.read.Goals.{then-used, else-used}
 
 pub bounds-w-0 : goal.bounds-w-0
 bounds-w-0 c =
-    let e = (let sized' : length c.args.w.now ≡ 6464 = fits_size c.args.w.now c.requires.fit in sized') in omega arith
+    let sized : length c.args.w.now ≡ 6464 = fits_size c.args.w.now c.requires.fit in
+    let e = sized in omega arith
 
 pub vectors_of-requires : goal.vectors_of-requires
 vectors_of-requires c =
-    (let asked' : (length c.args.w.now ≡ 6464) × (c.number_of-n.result ≡ count_of c.args.w.now) × (c.number_of-n.result ≤ 16) = ((let sized' : length c.args.w.now ≡ 6464 = fits_size c.args.w.now c.requires.fit in sized'), c.number_of-n.ensures, omega (arith, c.number_of-n.ensures, c.requires.few)) in asked')
+    let sized : length c.args.w.now ≡ 6464 = fits_size c.args.w.now c.requires.fit in
+    let asked : (length c.args.w.now ≡ 6464) × (c.number_of-n.result ≡ count_of c.args.w.now) × (c.number_of-n.result ≤ 16) = (sized, c.number_of-n.ensures, omega (arith, c.number_of-n.ensures, c.requires.few)) in
+    asked
 
 pub pins_of-requires : goal.pins_of-requires
 pins_of-requires c =
-    (let asked' : (length c.args.w.now ≡ 6464) × (c.number_of-n.result ≡ count_of c.args.w.now) × (c.number_of-n.result ≤ 16) = ((let sized' : length c.args.w.now ≡ 6464 = fits_size c.args.w.now c.requires.fit in sized'), c.number_of-n.ensures, omega (arith, c.number_of-n.ensures, c.requires.few)) in asked')
+    let sized : length c.args.w.now ≡ 6464 = fits_size c.args.w.now c.requires.fit in
+    let asked : (length c.args.w.now ≡ 6464) × (c.number_of-n.result ≡ count_of c.args.w.now) × (c.number_of-n.result ≤ 16) = (sized, c.number_of-n.ensures, omega (arith, c.number_of-n.ensures, c.requires.few)) in
+    asked
 
 pub marks_of-sent-requires : goal.marks_of-sent-requires
 marks_of-sent-requires c =
-    (let asked' : (length c.args.w.now ≡ 6464) × (c.number_of-n.result ≡ count_of c.args.w.now) × (c.number_of-n.result ≤ 16) = ((let sized' : length c.args.w.now ≡ 6464 = fits_size c.args.w.now c.requires.fit in sized'), c.number_of-n.ensures, omega (arith, c.number_of-n.ensures, c.requires.few)) in asked')
+    let sized : length c.args.w.now ≡ 6464 = fits_size c.args.w.now c.requires.fit in
+    let asked : (length c.args.w.now ≡ 6464) × (c.number_of-n.result ≡ count_of c.args.w.now) × (c.number_of-n.result ≤ 16) = (sized, c.number_of-n.ensures, omega (arith, c.number_of-n.ensures, c.requires.few)) in
+    asked
 
 pub kept_count_of-kept_count-requires : goal.kept_count_of-kept_count-requires
 kept_count_of-kept_count-requires c =
-    (let asked' : (length c.args.w.now ≡ 6464) × (c.number_of-n.result ≡ count_of c.args.w.now) × (c.number_of-n.result ≤ 16) = ((let sized' : length c.args.w.now ≡ 6464 = fits_size c.args.w.now c.requires.fit in sized'), c.number_of-n.ensures, omega (arith, c.number_of-n.ensures, c.requires.few)) in asked')
+    let sized : length c.args.w.now ≡ 6464 = fits_size c.args.w.now c.requires.fit in
+    let asked : (length c.args.w.now ≡ 6464) × (c.number_of-n.result ≡ count_of c.args.w.now) × (c.number_of-n.result ≤ 16) = (sized, c.number_of-n.ensures, omega (arith, c.number_of-n.ensures, c.requires.few)) in
+    asked
 
 pub bounds-w-12 : goal.bounds-w-12
 bounds-w-12 c =
-    let e = ((let asked' : (length c.args.w.now ≡ 6464) × (c.number_of-n.result ≡ count_of c.args.w.now) × (c.number_of-n.result ≤ 16) = ((let sized' : length c.args.w.now ≡ 6464 = fits_size c.args.w.now c.requires.fit in sized'), c.number_of-n.ensures, omega (arith, c.number_of-n.ensures, c.requires.few)) in asked')).0 in omega arith
+    let sized : length c.args.w.now ≡ 6464 = fits_size c.args.w.now c.requires.fit in
+    let asked : (length c.args.w.now ≡ 6464) × (c.number_of-n.result ≡ count_of c.args.w.now) × (c.number_of-n.result ≤ 16) = (sized, c.number_of-n.ensures, omega (arith, c.number_of-n.ensures, c.requires.few)) in
+    let e = asked.0 in omega arith
 
 pub messages_of-messages-requires : goal.messages_of-messages-requires
 messages_of-messages-requires c =
-    ((let sized' : length c.args.w.now ≡ 6464 = fits_size c.args.w.now c.requires.fit in sized'), c.number_of-end.ensures, omega (arith, c.number_of-end.ensures, end_most c.args.w.now (fits_end c.args.w.now c.requires.fit)))
+    let sized : length c.args.w.now ≡ 6464 = fits_size c.args.w.now c.requires.fit in
+    (sized, c.number_of-end.ensures, omega (arith, c.number_of-end.ensures, end_most c.args.w.now (fits_end c.args.w.now c.requires.fit)))
 
 pub disk_of-disk-requires : goal.disk_of-disk-requires
 disk_of-disk-requires c =
-    ((let asked' : (length c.args.w.now ≡ 6464) × (c.number_of-n.result ≡ count_of c.args.w.now) × (c.number_of-n.result ≤ 16) = ((let sized' : length c.args.w.now ≡ 6464 = fits_size c.args.w.now c.requires.fit in sized'), c.number_of-n.ensures, omega (arith, c.number_of-n.ensures, c.requires.few)) in asked')).0
+    let sized : length c.args.w.now ≡ 6464 = fits_size c.args.w.now c.requires.fit in
+    let asked : (length c.args.w.now ≡ 6464) × (c.number_of-n.result ≡ count_of c.args.w.now) × (c.number_of-n.result ≤ 16) = (sized, c.number_of-n.ensures, omega (arith, c.number_of-n.ensures, c.requires.few)) in
+    asked.0
 
 pub wide2-last-requires : goal.wide2-last-requires
 wide2-last-requires c =
-    let e = ((let asked' : (length c.args.w.now ≡ 6464) × (c.number_of-n.result ≡ count_of c.args.w.now) × (c.number_of-n.result ≤ 16) = ((let sized' : length c.args.w.now ≡ 6464 = fits_size c.args.w.now c.requires.fit in sized'), c.number_of-n.ensures, omega (arith, c.number_of-n.ensures, c.requires.few)) in asked')).0 in omega arith
+    let sized : length c.args.w.now ≡ 6464 = fits_size c.args.w.now c.requires.fit in
+    let asked : (length c.args.w.now ≡ 6464) × (c.number_of-n.result ≡ count_of c.args.w.now) × (c.number_of-n.result ≤ 16) = (sized, c.number_of-n.ensures, omega (arith, c.number_of-n.ensures, c.requires.few)) in
+    let e = asked.0 in omega arith
 
 pub bounds-w-1 : goal.bounds-w-1
 bounds-w-1 c =
-    let e = ((let asked' : (length c.args.w.now ≡ 6464) × (c.number_of-n.result ≡ count_of c.args.w.now) × (c.number_of-n.result ≤ 16) = ((let sized' : length c.args.w.now ≡ 6464 = fits_size c.args.w.now c.requires.fit in sized'), c.number_of-n.ensures, omega (arith, c.number_of-n.ensures, c.requires.few)) in asked')).0 in omega arith
+    let sized : length c.args.w.now ≡ 6464 = fits_size c.args.w.now c.requires.fit in
+    let asked : (length c.args.w.now ≡ 6464) × (c.number_of-n.result ≡ count_of c.args.w.now) × (c.number_of-n.result ≤ 16) = (sized, c.number_of-n.ensures, omega (arith, c.number_of-n.ensures, c.requires.few)) in
+    let e = asked.0 in omega arith
 
 pub overflow_mul-q-end : goal.overflow_mul-q-end
 overflow_mul-q-end c =
-    let e = ((let asked' : (length c.args.w.now ≡ 6464) × (c.number_of-n.result ≡ count_of c.args.w.now) × (c.number_of-n.result ≤ 16) = ((let sized' : length c.args.w.now ≡ 6464 = fits_size c.args.w.now c.requires.fit in sized'), c.number_of-n.ensures, omega (arith, c.number_of-n.ensures, c.requires.few)) in asked')).2 in omega arith
+    let sized : length c.args.w.now ≡ 6464 = fits_size c.args.w.now c.requires.fit in
+    let asked : (length c.args.w.now ≡ 6464) × (c.number_of-n.result ≡ count_of c.args.w.now) × (c.number_of-n.result ≤ 16) = (sized, c.number_of-n.ensures, omega (arith, c.number_of-n.ensures, c.requires.few)) in
+    let e = asked.2 in omega arith
 
 pub loop-q-init : goal.loop-q-init
 loop-q-init c =
-    let end = c.number_of-end.result in (search rules, ((let asked' : (length c.args.w.now ≡ 6464) × (c.number_of-n.result ≡ count_of c.args.w.now) × (c.number_of-n.result ≤ 16) = ((let sized' : length c.args.w.now ≡ 6464 = fits_size c.args.w.now c.requires.fit in sized'), c.number_of-n.ensures, omega (arith, c.number_of-n.ensures, c.requires.few)) in asked')).2, unused_rows c.args.w.now _ (end % 16) (omega arith) c.no_checkpoint-none.ensures)
+    let sized : length c.args.w.now ≡ 6464 = fits_size c.args.w.now c.requires.fit in
+    let asked : (length c.args.w.now ≡ 6464) × (c.number_of-n.result ≡ count_of c.args.w.now) × (c.number_of-n.result ≤ 16) = (sized, c.number_of-n.ensures, omega (arith, c.number_of-n.ensures, c.requires.few)) in
+    let end = c.number_of-end.result in (search rules, asked.2, unused_rows c.args.w.now _ (end % 16) (omega arith) c.no_checkpoint-none.ensures)
 
 pub is_kept-used-requires : goal.is_kept-used-requires
 is_kept-used-requires c =
-    (((let asked' : (length c.args.w.now ≡ 6464) × (c.number_of-n.result ≡ count_of c.args.w.now) × (c.number_of-n.result ≤ 16) = ((let sized' : length c.args.w.now ≡ 6464 = fits_size c.args.w.now c.requires.fit in sized'), c.number_of-n.ensures, omega (arith, c.number_of-n.ensures, c.requires.few)) in asked')).0, search rules, search rules)
+    let sized : length c.args.w.now ≡ 6464 = fits_size c.args.w.now c.requires.fit in
+    let asked : (length c.args.w.now ≡ 6464) × (c.number_of-n.result ≡ count_of c.args.w.now) × (c.number_of-n.result ≤ 16) = (sized, c.number_of-n.ensures, omega (arith, c.number_of-n.ensures, c.requires.few)) in
+    (asked.0, search rules, search rules)
 
 pub checkpoint_at-c-requires : goal.checkpoint_at-c-requires
 checkpoint_at-c-requires c =
-    let used = sym c.is_kept-used.ensures ∙ c.if-used.true in ((let sized' : length c.args.w.now ≡ 6464 = fits_size c.args.w.now c.requires.fit in sized'), search rules, search rules, kept_some c.args.w.now _ _ used, c.requires.causes _ _ (omega (arith, c.number_of-n.ensures)) (search rules) used)
+    let sized : length c.args.w.now ≡ 6464 = fits_size c.args.w.now c.requires.fit in
+    let used = sym c.is_kept-used.ensures ∙ c.if-used.true in (sized, search rules, search rules, kept_some c.args.w.now _ _ used, c.requires.causes _ _ (omega (arith, c.number_of-n.ensures)) (search rules) used)
 
 pub loop-q-preserved : goal.loop-q-preserved
 loop-q-preserved c =

@@ -7,23 +7,28 @@ use Rattle.library_calls.proofs.run_words.read.read_messages.Goals as goal
 
 pub marks_of-sent-requires : goal.marks_of-sent-requires
 marks_of-sent-requires c =
-    let n = count_same c.args.w.now c.args.s c.requires.0 c.requires.1 in ((let sized' : length c.args.w.now ≡ 6464 = fits_size c.args.w.now c.requires.0.fit in sized'), n, omega (arith, n, c.requires.0.few))
+    let sized : length c.args.w.now ≡ 6464 = fits_size c.args.w.now c.requires.0.fit in
+    let n = count_same c.args.w.now c.args.s c.requires.0 c.requires.1 in (sized, n, omega (arith, n, c.requires.0.few))
 
 pub bounds-w-12 : goal.bounds-w-12
 bounds-w-12 c =
-    let e = (let sized' : length c.args.w.now ≡ 6464 = fits_size c.args.w.now c.requires.0.fit in sized') in omega arith
+    let sized : length c.args.w.now ≡ 6464 = fits_size c.args.w.now c.requires.0.fit in
+    let e = sized in omega arith
 
 pub messages_of-messages-requires : goal.messages_of-messages-requires
 messages_of-messages-requires c =
-    ((let sized' : length c.args.w.now ≡ 6464 = fits_size c.args.w.now c.requires.0.fit in sized'), c.number_of-end.ensures, omega (arith, c.number_of-end.ensures, end_most c.args.w.now (fits_end c.args.w.now c.requires.0.fit)))
+    let sized : length c.args.w.now ≡ 6464 = fits_size c.args.w.now c.requires.0.fit in
+    (sized, c.number_of-end.ensures, omega (arith, c.number_of-end.ensures, end_most c.args.w.now (fits_end c.args.w.now c.requires.0.fit)))
 
 pub wide2-last-requires : goal.wide2-last-requires
 wide2-last-requires c =
-    let e = (let sized' : length c.args.w.now ≡ 6464 = fits_size c.args.w.now c.requires.0.fit in sized') in omega arith
+    let sized : length c.args.w.now ≡ 6464 = fits_size c.args.w.now c.requires.0.fit in
+    let e = sized in omega arith
 
 pub bounds-w-1 : goal.bounds-w-1
 bounds-w-1 c =
-    let e = (let sized' : length c.args.w.now ≡ 6464 = fits_size c.args.w.now c.requires.0.fit in sized') in omega arith
+    let sized : length c.args.w.now ≡ 6464 = fits_size c.args.w.now c.requires.0.fit in
+    let e = sized in omega arith
 
 pub returns : goal.returns
 returns c =

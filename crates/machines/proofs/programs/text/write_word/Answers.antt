@@ -12,7 +12,8 @@ loop-k-init c =
 
 pub bounds-out-at : goal.bounds-out-at
 bounds-out-at c =
-    omega (arith, (let same' : length c.loop-k.out ≡ length c.args.out.now = let a = c.args in ap length c.loop-k.invariant.2 ∙ length-sets a.out.now a.at (take c.loop-k.k a.word.now) in same'), c.requires)
+    let same : length c.loop-k.out ≡ length c.args.out.now = let a = c.args in ap length c.loop-k.invariant.2 ∙ length-sets a.out.now a.at (take c.loop-k.k a.word.now) in
+    omega (arith, same, c.requires)
 
 pub loop-k-preserved : goal.loop-k-preserved
 loop-k-preserved c =
@@ -20,7 +21,8 @@ loop-k-preserved c =
 
 pub shape_of-out : goal.shape_of-out
 shape_of-out c =
-    (let same' : length c.loop-k.out ≡ length c.args.out.now = let a = c.args in ap length c.loop-k.invariant.2 ∙ length-sets a.out.now a.at (take c.loop-k.k a.word.now) in same')
+    let same : length c.loop-k.out ≡ length c.args.out.now = let a = c.args in ap length c.loop-k.invariant.2 ∙ length-sets a.out.now a.at (take c.loop-k.k a.word.now) in
+    same
 
 pub returns : goal.returns
 returns c =

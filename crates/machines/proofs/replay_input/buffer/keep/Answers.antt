@@ -12,11 +12,13 @@ loop-k-init c =
 
 pub bounds-buffer-from : goal.bounds-buffer-from
 bounds-buffer-from c =
-    omega (arith, (let same' : length c.loop-k.buffer ≡ length c.args.buffer.now = let start = c.args in ap length c.loop-k.invariant.2 ∙ length-sets start.buffer.now start.to (take c.loop-k.k (drop start.from start.buffer.now)) in same'))
+    let same : length c.loop-k.buffer ≡ length c.args.buffer.now = let start = c.args in ap length c.loop-k.invariant.2 ∙ length-sets start.buffer.now start.to (take c.loop-k.k (drop start.from start.buffer.now)) in
+    omega (arith, same)
 
 pub bounds-buffer-to : goal.bounds-buffer-to
 bounds-buffer-to c =
-    omega (arith, (let same' : length c.loop-k.buffer ≡ length c.args.buffer.now = let start = c.args in ap length c.loop-k.invariant.2 ∙ length-sets start.buffer.now start.to (take c.loop-k.k (drop start.from start.buffer.now)) in same'))
+    let same : length c.loop-k.buffer ≡ length c.args.buffer.now = let start = c.args in ap length c.loop-k.invariant.2 ∙ length-sets start.buffer.now start.to (take c.loop-k.k (drop start.from start.buffer.now)) in
+    omega (arith, same)
 
 pub loop-k-smaller : goal.loop-k-smaller
 loop-k-smaller c =
@@ -28,7 +30,8 @@ loop-k-preserved c =
 
 pub shape_of-buffer : goal.shape_of-buffer
 shape_of-buffer c =
-    (let same' : length c.loop-k.buffer ≡ length c.args.buffer.now = let start = c.args in ap length c.loop-k.invariant.2 ∙ length-sets start.buffer.now start.to (take c.loop-k.k (drop start.from start.buffer.now)) in same')
+    let same : length c.loop-k.buffer ≡ length c.args.buffer.now = let start = c.args in ap length c.loop-k.invariant.2 ∙ length-sets start.buffer.now start.to (take c.loop-k.k (drop start.from start.buffer.now)) in
+    same
 
 pub returns : goal.returns
 returns c =

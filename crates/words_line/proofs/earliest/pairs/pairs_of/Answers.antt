@@ -9,15 +9,19 @@ use Rattle.words_line.proofs.earliest.pairs.pairs_of.Goals as goal
 pub numbers_of-numbers-requires : goal.numbers_of-numbers-requires
 unfolding IsCopy
 numbers_of-numbers-requires c =
-    ((let few' : c.args.copied.length ≤ 16 = let t = c.args.copied in leb-true t.length 16 (and_out (leb t.length 16) (ltb t.process 16) c.if-m-process.true).0 in few'), process_low c.args.copied c.requires.0 c.requires.1 ((let few' : c.args.copied.length ≤ 16 = let t = c.args.copied in leb-true t.length 16 (and_out (leb t.length 16) (ltb t.process 16) c.if-m-process.true).0 in few')) ((let low' : c.args.copied.process < 16 = let t = c.args.copied in ltb-true t.process 16 (and_out (leb t.length 16) (ltb t.process 16) c.if-m-process.true).1 in low')))
+    let few : c.args.copied.length ≤ 16 = let t = c.args.copied in leb-true t.length 16 (and_out (leb t.length 16) (ltb t.process 16) c.if-m-process.true).0 in
+    let low : c.args.copied.process < 16 = let t = c.args.copied in ltb-true t.process 16 (and_out (leb t.length 16) (ltb t.process 16) c.if-m-process.true).1 in
+    (few, process_low c.args.copied c.requires.0 c.requires.1 few low)
 
 pub overflow_mul-result : goal.overflow_mul-result
 overflow_mul-result c =
-    omega (arith, (let few' : c.args.copied.length ≤ 16 = let t = c.args.copied in leb-true t.length 16 (and_out (leb t.length 16) (ltb t.process 16) c.if-m-process.true).0 in few'))
+    let few : c.args.copied.length ≤ 16 = let t = c.args.copied in leb-true t.length 16 (and_out (leb t.length 16) (ltb t.process 16) c.if-m-process.true).0 in
+    omega (arith, few)
 
 pub returns-then-m-process : goal.returns-then-m-process
 returns-then-m-process c =
-    let t = c.args.copied in record { end_in_bounds = omega (arith, (let few' : c.args.copied.length ≤ 16 = let t = c.args.copied in leb-true t.length 16 (and_out (leb t.length 16) (ltb t.process 16) c.if-m-process.true).0 in few'), c.numbers_of-numbers.ensures.result_len); same_line = λ l e. whole_same t l e ((let few' : c.args.copied.length ≤ 16 = let t = c.args.copied in leb-true t.length 16 (and_out (leb t.length 16) (ltb t.process 16) c.if-m-process.true).0 in few')) c.numbers_of-numbers.result c.numbers_of-numbers.ensures.result_len c.numbers_of-numbers.ensures.by_index }
+    let few : c.args.copied.length ≤ 16 = let t = c.args.copied in leb-true t.length 16 (and_out (leb t.length 16) (ltb t.process 16) c.if-m-process.true).0 in
+    let t = c.args.copied in record { end_in_bounds = omega (arith, few, c.numbers_of-numbers.ensures.result_len); same_line = λ l e. whole_same t l e few c.numbers_of-numbers.result c.numbers_of-numbers.ensures.result_len c.numbers_of-numbers.ensures.by_index }
 
 pub returns : goal.returns
 returns c =
