@@ -1,9 +1,9 @@
 -- A failed set's bits at n and above: what is left once the lowest n are gone, and that an accepted set has none.
 -- Assumes nothing.
-use Rattle.std.specs.Prelude.{◌≡◌, ◌/◌, ◌^◌, ◌≤◌, ◌<◌}
+use Prim.{tt}
+use Rattle.std.specs.Prelude.{◌≡◌, ◌/◌, ◌^◌, ◌≤◌, ◌<◌, Ok, Err}
 use Rattle.laws.specs.Basics.{sym, ◌∙◌, false≢true, ℕ, arith, leb, le-leb, lt-leb, leb-true, leb-false, by_bool}
 use native.Mathlib.Nat.{div-eq_of_lt, le-div_iff_mul-le, pow-le-pow_right, one-mul}
-use Rattle.admissions.specs.declared.Admission.TheVariants.{Accepted, Refused}
 use Rattle.admissions.specs.Admissions.{recovery_admission_of}
 
 some_power : (n : ℕ) → 0 < 2 ^ n
@@ -16,11 +16,11 @@ bits_left F n r e = by_bool (leb (2 ^ n) F)
     (λ q. let none : r ≡ 0 = e ∙ div-eq_of_lt (leb-false _ _ q) in lt-leb 1 r (omega arith) ∙ sym q)
 
 -- A failed set that is not refused is one of processes of the run, so it fits into 16 bits.
-pub accepted_inside : (n F : ℕ) → recovery_admission_of n F ≡ Accepted → F < 2 ^ n
+pub accepted_inside : (n F : ℕ) → recovery_admission_of n F ≡ Ok tt → F < 2 ^ n
 unfolding recovery_admission_of
 accepted_inside n F e = by_bool (leb (2 ^ n) F)
-    (λ q. let no : Refused _ ≡ Accepted = rw q at e in absurd (false≢true cc))
+    (λ q. let no : Err _ ≡ Ok tt = rw q at e in absurd (false≢true cc))
     (λ q. leb-false _ _ q)
 
-pub accepted_fits : (n F : ℕ) → n ≤ 16 → recovery_admission_of n F ≡ Accepted → F < 65536
+pub accepted_fits : (n F : ℕ) → n ≤ 16 → recovery_admission_of n F ≡ Ok tt → F < 65536
 accepted_fits n F few e = omega (arith, accepted_inside n F e, pow-le-pow_right {n = 2} (omega arith) {i = n} {j = 16} few)

@@ -10,11 +10,8 @@ ghost use Rattle.admissions.specs.Admissions.{past_most, send_admission_of, reco
 
 use model::{Interval, LAST_INTERVAL, LAST_MESSAGE, MESSAGES, MOST_BLOCKS, Refusal};
 
-#[derive(Clone, Copy)]
-pub enum Admission {
-    Accepted,
-    Refused(Refusal),
-}
+// Nothing, or why a call is refused.
+pub type Admission = Result<(), Refusal>;
 
 // The own entry is that of the last interval: no checkpoint can follow.
 pub fn is_last_interval(own: Interval) -> bool
@@ -24,13 +21,15 @@ pub fn is_last_interval(own: Interval) -> bool
 }
 
 // One more checkpoint of `blocks` blocks would take the blocks written past the bound. The difference is tested: no sum of a free number is made.
+#[tactic(auto, unfolding(crate::specs::Admissions::past_most))]
 pub fn is_past_bound(written: u64, blocks: u16) -> bool
     ensures { result ≡ past_most written blocks }
 {
-    MOST_BLOCKS - (blocks as u64) < written
+    MOST_BLOCKS - u64::from(blocks) < written
 }
 
 // Whether a send is refused, and why, where `underway` messages are under way and `last` is the last number used.
+#[tactic(auto, unfolding(crate::specs::Admissions::send_admission_of))]
 pub fn send_admission(
     sender: usize,
     receiver: usize,
@@ -40,36 +39,30 @@ pub fn send_admission(
 ) -> Admission
     ensures { result ≡ send_admission_of sender receiver n underway last }
 {
-    if n <= sender {
-        return Admission::Refused(Refusal::NoSuchProcess);
-    }
-    if n <= receiver {
-        return Admission::Refused(Refusal::NoSuchProcess);
+    if n <= sender || n <= receiver {
+        return Err(Refusal::NoSuchProcess);
     }
     if sender == receiver {
-        return Admission::Refused(Refusal::SenderIsReceiver);
+        return Err(Refusal::SenderIsReceiver);
     }
     if MESSAGES <= underway {
-        return Admission::Refused(Refusal::TooManyUnderWay);
+        return Err(Refusal::TooManyUnderWay);
     }
     if LAST_MESSAGE <= last {
-        return Admission::Refused(Refusal::MessageNumbersUsed);
+        return Err(Refusal::MessageNumbersUsed);
     }
-    Admission::Accepted
+    Ok(())
 }
 
-// What is left of a set once its lowest p bits are gone.
+// What is left of a set once its lowest p bits are gone. A set has 32 bits.
 pub fn above(set: u32, p: usize) -> u32
     ensures { result ≡ set / (2 ^ p) }
 {
-    let mut left = set;
-    for k in 0..p {
-        left = left / 2;
-    }
-    left
+    if p < 32 { set >> p } else { 0 }
 }
 
 // The failed set has a bit at n or above.
+#[tactic(auto, using(crate::proofs::Outside::bits_left))]
 pub fn is_outside(failed: u32, n: usize) -> bool
     ensures { result ≡ leb (2 ^ n) failed }
 {
@@ -78,14 +71,14 @@ pub fn is_outside(failed: u32, n: usize) -> bool
 }
 
 // Whether a line or a recovery for a failed set is refused. A record's set may have more than 16 bits.
+#[tactic(auto, unfolding(crate::specs::Admissions::recovery_admission_of))]
 pub fn recovery_admission(failed: u32, n: usize) -> Admission
     ensures { result ≡ recovery_admission_of n failed }
 {
-    let outside = is_outside(failed, n);
-    if outside {
-        return Admission::Refused(Refusal::NoSuchFailedProcess);
+    if is_outside(failed, n) {
+        return Err(Refusal::NoSuchFailedProcess);
     }
-    Admission::Accepted
+    Ok(())
 }
 
 // A deletion list has room for two numbers of each checkpoint that n processes keep, at most n each.
@@ -108,7 +101,5 @@ pub fn is_too_short(deleted: usize, line: usize, n: usize) -> bool
     requires { n ≤ most_processes }
     ensures { result ≡ (ltb deleted (2 * n * n) || ltb line n) }
 {
-    let short = are_deletions_short(deleted, n);
-    let short_line = is_line_short(line, n);
-    short | short_line
+    are_deletions_short(deleted, n) || is_line_short(line, n)
 }

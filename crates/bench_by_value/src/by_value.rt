@@ -1,13 +1,10 @@
 // A record on a state by value: the call that it stands for.
 ghost use Rattle.std.specs.Prelude.{◌≡◌};
-ghost use Rattle.laws.specs.Basics.{some, eqb, replicate};
+ghost use Rattle.laws.specs.Basics.{Some, eqb, replicate};
 ghost use Rattle.whole_runs.specs.Listing.{perform};
-ghost use Rattle.trace.specs.Answers.{event_read};
 ghost use Rattle.model.specs.declared.Event.TheVariants as event;
 
-use listing::summaries;
 use model::{DELETIONS, Event, PROCESSES, Run};
-use trace::Decoded;
 
 // "The failed set is a number of 16 bits"
 const LARGEST_SET: u32 = 65535;
@@ -22,8 +19,8 @@ pub struct Applied {
 // "In a record, higher bits of the argument count as bits at n or above": a set that does not fit 16 bits is refused.
 fn recover(s: Run, failed: u32, deleted: &mut [u16], line: &mut [u16]) -> Applied
     requires { (deleted.old ≡ replicate 512 0) × (line.old ≡ replicate 16 0) }
-    ensures run_value { result.run ≡ (perform s (some (event.Recover failed))).run }
-    ensures accepted_value { result.accepted ≡ eqb (perform s (some (event.Recover failed))).reply.report.refused 0 }
+    ensures run_value { result.run ≡ (perform s (Some (event.Recover failed))).run }
+    ensures accepted_value { result.accepted ≡ eqb (perform s (Some (event.Recover failed))).reply.report.refused 0 }
 {
     if LARGEST_SET < failed {
         return Applied {
@@ -34,66 +31,61 @@ fn recover(s: Run, failed: u32, deleted: &mut [u16], line: &mut [u16]) -> Applie
     let o = library_calls::recover::recover(s, failed as u16, deleted, line);
     let run = o.run;
     let answer = o.answer;
-    let summary = summaries::of_recover(answer);
-    let accepted = summary.refused == 0;
+    let accepted = answer.is_ok();
     Applied { run, accepted }
 }
 
 fn event(s: Run, e: Event, deleted: &mut [u16], line: &mut [u16]) -> Applied
     requires { (deleted.old ≡ replicate 512 0) × (line.old ≡ replicate 16 0) }
-    ensures run_value { result.run ≡ (perform s (some e)).run }
-    ensures accepted_value { result.accepted ≡ eqb (perform s (some e)).reply.report.refused 0 }
+    ensures run_value { result.run ≡ (perform s (Some e)).run }
+    ensures accepted_value { result.accepted ≡ eqb (perform s (Some e)).reply.report.refused 0 }
 {
     match e {
         Event::Checkpoint(i) => {
             let o = library_calls::checkpoint::checkpoint(s, i, deleted);
             let run = o.run;
             let answer = o.answer;
-            let summary = summaries::of_checkpoint(answer);
-            let accepted = summary.refused == 0;
+            let accepted = answer.is_ok();
             Applied { run, accepted }
         }
         Event::Send(i, j) => {
             let o = library_calls::send::send(s, i, j as usize);
             let run = o.run;
             let answer = o.answer;
-            let summary = summaries::of_send(answer);
-            let accepted = summary.refused == 0;
+            let accepted = answer.is_ok();
             Applied { run, accepted }
         }
         Event::Deliver(m) => {
             let o = library_calls::deliver::deliver(s, m, deleted);
             let run = o.run;
             let answer = o.answer;
-            let summary = summaries::of_deliver(answer);
-            let accepted = summary.refused == 0;
+            let accepted = answer.is_ok();
             Applied { run, accepted }
         }
         Event::Lose(m) => {
             let o = library_calls::lose::lose(s, m);
             let run = o.run;
             let answer = o.answer;
-            let summary = summaries::of_lose(answer);
-            let accepted = summary.refused == 0;
+            let accepted = answer.is_ok();
             Applied { run, accepted }
         }
         Event::Recover(failed) => recover(s, failed, deleted, line),
     }
 }
 
-pub(crate) fn apply(s: Run, d: Decoded) -> Applied
-    ensures run_value { result.run ≡ (perform s (event_read d)).run }
-    ensures accepted_value { result.accepted ≡ eqb (perform s (event_read d)).reply.report.refused 0 }
+pub(crate) fn apply(s: Run, d: Option<Event>) -> Applied
+    ensures run_value { result.run ≡ (perform s d).run }
+    ensures accepted_value { result.accepted ≡ eqb (perform s d).reply.report.refused 0 }
 {
     let mut deletions = [0u16; DELETIONS];
     let deleted: &mut [u16] = &mut deletions;
     let mut indexes = [0u16; PROCESSES];
     let line: &mut [u16] = &mut indexes;
     match d {
-        Decoded::Malformed => Applied {
+        None => Applied {
             run: s,
             accepted: false,
         },
-        Decoded::StandsFor(e) => event(s, e, deleted, line),
+        Some(e) => event(s, e, deleted, line),
     }
 }

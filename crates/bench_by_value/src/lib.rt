@@ -10,7 +10,6 @@ ghost use Rattle.whole_runs.specs.Listing.{most_records};
 ghost use Rattle.trace.specs.reader.Reading.{record_left_of};
 ghost use Rattle.bench_by_value.specs.Timed.{records_taken, timed_records, timed_trace};
 
-use listing::summaries;
 use model::{PROCESSES, Run};
 
 // by_value.rt: a record on a state by value
@@ -61,8 +60,7 @@ pub fn timing_by_value(n: usize, trace: &[u8]) -> u64
 {
     let started = library_calls::start::start(n, [1; PROCESSES]);
     let answer = started.answer;
-    let summary = summaries::of_start(answer);
-    if summary.refused != 0 {
+    if answer.is_err() {
         return 0;
     }
     apply_by_value(started.run, trace)

@@ -4,7 +4,7 @@
 #![tactic(auto)]
 
 ghost use Rattle.std.specs.Prelude.{◌≡◌};
-ghost use Rattle.laws.specs.Basics.{some, length};
+ghost use Rattle.laws.specs.Basics.{Some, length};
 ghost use Rattle.model.specs.declared.Refusal.{Refusal};
 ghost use Rattle.model.specs.Words.{ones, most_processes, most_deletions};
 ghost use Rattle.whole_runs.specs.WholeRuns.{Reachable};
@@ -12,7 +12,6 @@ ghost use Rattle.words.specs.Layout.{run_of};
 ghost use Rattle.in_place.specs.{Left.Leaves, Starting.start_refusal_in, Starting.start_words};
 ghost use Rattle.bench_by_value.specs.Timed.{records_taken, timed_records, timed_trace};
 
-use listing::summaries;
 use model::{DELETIONS, PROCESSES};
 
 // Every record of a trace, on words to which calls from a start led.
@@ -31,7 +30,7 @@ fn apply_all(w: &mut [u16], trace: &[u8], deleted: &mut [u16], line: &mut [u16])
         let applied = library_replay::record::apply(w, still, true, d, deleted, line);
         let summary = applied.summary;
         still = applied.sound;
-        let one = bench_by_value::one_if(summary.refused == 0);
+        let one = bench_by_value::one_if(summary.number() == 0);
         accepted = accepted + one;
         taken += 1;
     }
@@ -45,12 +44,11 @@ pub extern "C" fn timing_untested(w: &mut [u16], n: usize, trace: &[u8]) -> u64
     ensures value { result ≡ (timed_trace (start_refusal_in (length w.old) n ones) n trace.now).accepted }
     ensures w_after { run_of w.new ≡ (timed_trace (start_refusal_in (length w.old) n ones) n trace.now).run }
     ensures leaves { Leaves (start_words w.old n ones) w.new }
-    ensures w_after_2 { (why : Refusal) → start_refusal_in (length w.old) n ones ≡ some why → w.new ≡ start_words w.old n ones }
+    ensures w_after_2 { (why : Refusal) → start_refusal_in (length w.old) n ones ≡ Some why → w.new ≡ start_words w.old n ones }
 {
     let block_counts = [1u32; PROCESSES];
     let answer = in_place::start::start(w, n, &block_counts);
-    let summary = summaries::of_start(answer);
-    if summary.refused != 0 {
+    if answer.is_err() {
         return 0;
     }
     let mut deletions = [0u16; DELETIONS];

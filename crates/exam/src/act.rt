@@ -5,6 +5,7 @@ ghost use Rattle.laws.specs.Basics.{take, replicate};
 ghost use Rattle.model.specs.Words.{ones, most_deletions, most_processes};
 ghost use Rattle.whole_runs.specs.Outcomes.{start_outcome, checkpoint_outcome, send_outcome, deliver_outcome, recover_outcome, start_report, checkpoint_report, send_report, deliver_report, recover_report};
 
+use listing::Summary;
 use model::{DELETIONS, Disk, PROCESSES, Run};
 
 // The state after a call, and the number of its answer.
@@ -21,8 +22,8 @@ pub(crate) fn start_with(n: usize, block_counts: [u32; PROCESSES]) -> After
     let outcome = library_calls::start::start(n, block_counts);
     let run = outcome.run;
     let answer = outcome.answer;
-    let summary = listing::summaries::of_start(answer);
-    let refused = summary.refused;
+    let summary = Summary::from(answer);
+    let refused = summary.number();
     After { run, refused }
 }
 
@@ -49,8 +50,8 @@ pub(crate) fn checkpoint(before: After, i: usize, length: usize) -> After
     let outcome = library_calls::checkpoint::checkpoint(before.run, i, &mut deleted[..length]);
     let run = outcome.run;
     let answer = outcome.answer;
-    let summary = listing::summaries::of_checkpoint(answer);
-    let refused = summary.refused;
+    let summary = Summary::from(answer);
+    let refused = summary.number();
     After { run, refused }
 }
 
@@ -60,8 +61,8 @@ pub(crate) fn send(before: After, i: usize, j: usize) -> After
     let outcome = library_calls::send::send(before.run, i, j);
     let run = outcome.run;
     let answer = outcome.answer;
-    let summary = listing::summaries::of_send(answer);
-    let refused = summary.refused;
+    let summary = Summary::from(answer);
+    let refused = summary.number();
     After { run, refused }
 }
 
@@ -73,8 +74,8 @@ pub(crate) fn deliver(before: After, m: u32, length: usize) -> After
     let outcome = library_calls::deliver::deliver(before.run, m, &mut deleted[..length]);
     let run = outcome.run;
     let answer = outcome.answer;
-    let summary = listing::summaries::of_deliver(answer);
-    let refused = summary.refused;
+    let summary = Summary::from(answer);
+    let refused = summary.number();
     After { run, refused }
 }
 
@@ -93,8 +94,8 @@ pub(crate) fn recover(before: After, failed: u16, length: usize, members: usize)
     );
     let run = outcome.run;
     let answer = outcome.answer;
-    let summary = listing::summaries::of_recover(answer);
-    let refused = summary.refused;
+    let summary = Summary::from(answer);
+    let refused = summary.number();
     After { run, refused }
 }
 

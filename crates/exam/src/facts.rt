@@ -6,9 +6,10 @@ ghost use Rattle.model.specs.Words.{most_processes, kept_places};
 use crate::act::After;
 use crate::say;
 use crate::say::Sheet;
+use listing::Summary;
 use model::{
     Checkpoint, DELETIONS, Disk, Interval, Kept, LineAnswer, PROCESSES, Pin, Pins, RecoverAnswer,
-    Run, Vectors,
+    Recovery, Run, Vectors,
 };
 
 // A count, where there are places for that many: nothing is printed past them.
@@ -39,8 +40,8 @@ fn vector(sheet: &mut Sheet, all: Vectors, p: usize, n: usize)
 
 fn pin(sheet: &mut Sheet, at: Pin) {
     match at {
-        Pin::Nothing => say::text(sheet, b" -"),
-        Pin::At(index) => say::value(sheet, index.0 as u64),
+        None => say::text(sheet, b" -"),
+        Some(index) => say::value(sheet, index.0 as u64),
     }
 }
 
@@ -154,8 +155,8 @@ fn line(sheet: &mut Sheet, s: Run, failed: u16) -> bool {
     let outcome = library_calls::line::line(s, failed, &mut line);
     let answer = outcome.answer;
     match answer {
-        LineAnswer::Refused(_) => false,
-        LineAnswer::Written => {
+        Err(_) => false,
+        Ok(()) => {
             indexes(sheet, b"line", failed, &line, n);
             true
         }
@@ -194,8 +195,8 @@ pub(crate) fn deliver(sheet: &mut Sheet, before: After, m: u32) -> After {
     let outcome = library_calls::deliver::deliver(before.run, m, &mut deleted);
     let run = outcome.run;
     let answer = outcome.answer;
-    let summary = listing::summaries::of_deliver(answer);
-    let refused = summary.refused;
+    let summary = Summary::from(answer);
+    let refused = summary.number();
     say::fact(sheet, b"deliver", m as u64, refused as u64);
     say::fact(sheet, b"risen", m as u64, outcome.rose as u64);
     After { run, refused }
@@ -220,8 +221,13 @@ fn pairs(sheet: &mut Sheet, deleted: &[u16; DELETIONS], count: usize)
 fn recovery(sheet: &mut Sheet, failed: u16, answer: RecoverAnswer, deleted: &[u16; DELETIONS]) {
     say::heading(sheet, b"recover", failed as u64);
     match answer {
-        RecoverAnswer::Refused(_) => {}
-        RecoverAnswer::Recovered(rolled, count) => {
+        Err(_) => {}
+        Ok(
+            Recovery {
+                rolled_back: rolled,
+                deleted: count,
+            },
+        ) => {
             say::value(sheet, rolled as u64);
             say::value(sheet, count as u64);
             pairs(sheet, deleted, within(256, count));
@@ -241,7 +247,7 @@ pub(crate) fn recover(sheet: &mut Sheet, before: After, failed: u16) -> After {
     let answer = outcome.answer;
     indexes(sheet, b"written", failed, &line, n);
     recovery(sheet, failed, answer, &deleted);
-    let summary = listing::summaries::of_recover(answer);
-    let refused = summary.refused;
+    let summary = Summary::from(answer);
+    let refused = summary.number();
     After { run, refused }
 }

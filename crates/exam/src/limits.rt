@@ -5,6 +5,7 @@ ghost use Rattle.model.specs.Words.{most_deletions, most_processes};
 use crate::act::After;
 use crate::say::Sheet;
 use crate::{act, say};
+use listing::Summary;
 use model::{DELETIONS, PROCESSES};
 
 // "Count 0 and 17: 1. Count 1 and 16: accepted."
@@ -55,8 +56,8 @@ fn line(sheet: &mut Sheet, n: usize, length: usize)
     let mut line = [0u16; PROCESSES];
     let outcome = library_calls::line::line(start.run, 1, &mut line[..length]);
     let answer = outcome.answer;
-    let summary = listing::summaries::of_line(answer);
-    with_list(sheet, b"line", n, length, summary.refused);
+    let summary = Summary::from(answer);
+    with_list(sheet, b"line", n, length, summary.number());
 }
 
 fn recover_line(sheet: &mut Sheet, n: usize, length: usize)

@@ -4,6 +4,7 @@ ghost use Rattle.std.specs.Prelude.{◌≤◌};
 use crate::act::After;
 use crate::say::Sheet;
 use crate::{act, facts, limits, say};
+use listing::Summary;
 use model::{CheckpointIndex, DELETIONS, Named, PROCESSES};
 
 // A list of named checkpoints at the front of an array, and its length.
@@ -102,8 +103,8 @@ fn show(sheet: &mut Sheet, s: After, number: u64, list: NamedList) {
     let mut line = [0u16; PROCESSES];
     let outcome = library_calls::through::earliest_among(s.run, named, list.length, &mut line);
     let answer = outcome.answer;
-    let summary = listing::summaries::of_line(answer);
-    let refused = summary.refused;
+    let summary = Summary::from(answer);
+    let refused = summary.number();
     say::heading(sheet, b"earliest", number);
     say::value(sheet, refused as u64);
     if refused == 0 {
@@ -176,8 +177,8 @@ fn earliest_line(sheet: &mut Sheet, n: usize, length: usize)
         &mut line[..length],
     );
     let answer = outcome.answer;
-    let summary = listing::summaries::of_line(answer);
-    limits::with_list(sheet, b"earliestline", n, length, summary.refused);
+    let summary = Summary::from(answer);
+    limits::with_list(sheet, b"earliestline", n, length, summary.number());
 }
 
 pub(crate) fn note_8(sheet: &mut Sheet) {

@@ -1,6 +1,6 @@
 -- The start has what the invariant says.
 use Rattle.std.specs.Prelude.{◌≡◌, ◌≤◌, ◌<◌}
-use Rattle.laws.specs.Basics.{refl, sym, ◌∙◌, ap, true, false, false≢true, [], none, some, ℕ, suc, arith, eqb, eq-eqb, ne_eqb, by_eq}
+use Rattle.laws.specs.Basics.{refl, sym, ◌∙◌, ap, true, false, false≢true, [], None, Some, ℕ, suc, arith, eqb, eq-eqb, ne_eqb, by_eq}
 use Rattle.laws.specs.{Choice.pick_same, Options.some_same, Options.none≢some}
 use Rattle.histories.specs.History.{HistoryEvent, stored, sent, received, checkpoints}
 use Rattle.histories.proofs.{Places.Stands, Places.stands_nil, Places.sent_before_stored, Places.received_before_stored, Run.begin}
@@ -38,12 +38,12 @@ module _ (n : ℕ) where
   begin_mark p = refl
 
   -- Own pins name checkpoint 0.
-  pub begin_pin_own : (p : ℕ) → (begin n).pin p p ≡ some 0
+  pub begin_pin_own : (p : ℕ) → (begin n).pin p p ≡ Some 0
   unfolding begin
   begin_pin_own p = rw (eq-eqb p p refl)
 
   -- Other pins name nothing.
-  pub begin_pin_other : (p f : ℕ) → (p ≡ f → ⊥) → (begin n).pin p f ≡ none
+  pub begin_pin_other : (p f : ℕ) → (p ≡ f → ⊥) → (begin n).pin p f ≡ None
   unfolding begin
   begin_pin_other p f ne = rw (ne_eqb p f ne)
 
@@ -89,7 +89,7 @@ module _ (n : ℕ) where
       (λ ne. omega (arith, begin_blank q f, ap (λ g. (begin n).vector q g f) (begin_other p k q ne)))
 
   -- The own pin names checkpoint 0, and the next state is the live one.
-  pins_own : (p k : ℕ) → (begin n).pin p p ≡ some k → Pinned (begin n) p p k
+  pins_own : (p k : ℕ) → (begin n).pin p p ≡ Some k → Pinned (begin n) p p k
   pins_own p k e =
       let z : k ≡ 0 = sym (some_same (sym (begin_pin_own p) ∙ e)) in
       rw z (record {
@@ -99,13 +99,13 @@ module _ (n : ℕ) where
       })
 
   -- What a pin names is the checkpoint right before its process learnt all that it knows of f.
-  pins' : (p f k : ℕ) → f < n → (begin n).pin p f ≡ some k → Pinned (begin n) p f k
+  pins' : (p f k : ℕ) → f < n → (begin n).pin p f ≡ Some k → Pinned (begin n) p f k
   pins' p f k hf = by_eq p f
       (λ e. rw (← e) (pins_own p k))
       (λ ne d. absurd (none≢some (sym (begin_pin_other p f ne) ∙ d)))
 
   -- Where a process knows the current interval of f, its pin for f names a checkpoint.
-  pinned' : (p f : ℕ) → f < n → (begin n).vector p ((begin n).own p) f ≡ (begin n).own f → (k : ℕ) × ((begin n).pin p f ≡ some k)
+  pinned' : (p f : ℕ) → f < n → (begin n).vector p ((begin n).own p) f ≡ (begin n).own f → (k : ℕ) × ((begin n).pin p f ≡ Some k)
   pinned' p f hf d = by_eq p f
       (λ e. (0, rw (← e) (begin_pin_own p)))
       (λ ne. absurd (omega (arith, begin_other p ((begin n).own p) f ne, begin_own f)))

@@ -1,6 +1,6 @@
 -- A checkpoint keeps the invariant: the live state of i becomes a stored one, and the new live state differs at the own entry alone.
 use Rattle.std.specs.Prelude.{◌≡◌, ◌≤◌, ◌<◌}
-use Rattle.laws.specs.Basics.{sym, ◌∙◌, ap, true, some, inl, inr, ℕ, suc, arith, by_eq}
+use Rattle.laws.specs.Basics.{sym, ◌∙◌, ap, true, Some, inl, inr, ℕ, suc, arith, by_eq}
 use Rattle.laws.specs.Options.{some_same}
 use Rattle.histories.specs.History.{HistoryEvent, stored, sent, received, checkpoints}
 use Rattle.histories.proofs.{Places.Stands, Places.checkpoints_stored, Times.times, Times.single_end, Run.Ideal, Run.checkpointed}
@@ -140,7 +140,7 @@ module _ (r : Ideal) (i : ℕ) (v : Inv r) where
   ]
 
   -- Where a process knows the current interval of f, its pin for f names a checkpoint.
-  pinned' : (p f : ℕ) → f < r.n → r'.vector p (r'.own p) f ≡ r'.own f → (k : ℕ) × (r'.pin p f ≡ some k)
+  pinned' : (p f : ℕ) → f < r.n → r'.vector p (r'.own p) f ≡ r'.own f → (k : ℕ) × (r'.pin p f ≡ Some k)
   pinned' p f hf d = by_eq f i
       (λ e. by_eq p i
       (λ q. (r.own i, rw (e, q) (checkpointed_pin r i)))
@@ -150,7 +150,7 @@ module _ (r : Ideal) (i : ℕ) (v : Inv r) where
       (w.0, checkpointed_pin_column r i p f ne ∙ w.1))
 
   -- A pin that did not change, where the live entry did not.
-  pins_old : (p f k : ℕ) → f < r.n → r'.vector p (r'.own p) f ≡ r.vector p (r.own p) f → r.pin p f ≡ some k → Pinned r' p f k
+  pins_old : (p f k : ℕ) → f < r.n → r'.vector p (r'.own p) f ≡ r.vector p (r.own p) f → r.pin p f ≡ Some k → Pinned r' p f k
   pins_old p f k hf same e =
       let w = v.pins p f k hf e in
       record {
@@ -160,7 +160,7 @@ module _ (r : Ideal) (i : ℕ) (v : Inv r) where
       }
 
   -- The own pin names the checkpoint just stored.
-  pins_new : (k : ℕ) → r'.pin i i ≡ some k → Pinned r' i i k
+  pins_new : (k : ℕ) → r'.pin i i ≡ Some k → Pinned r' i i k
   pins_new k e =
       let is : k ≡ r.own i = some_same (sym e ∙ checkpointed_pin r i) in
       rw is (record {
@@ -170,7 +170,7 @@ module _ (r : Ideal) (i : ℕ) (v : Inv r) where
       })
 
   -- What a pin names is the checkpoint right before its process learnt all that it knows of f.
-  pins' : (p f k : ℕ) → f < r.n → r'.pin p f ≡ some k → Pinned r' p f k
+  pins' : (p f k : ℕ) → f < r.n → r'.pin p f ≡ Some k → Pinned r' p f k
   pins' p f k hf d = by_eq f i
       (λ e. by_eq p i
       (λ q. rw (e, q) (pins_new k (rw (e, q) at d)))

@@ -1,6 +1,6 @@
 -- How a checkpoint changes the run: one lemma for each view, and what it does to kept checkpoints and to the lists.
 use Rattle.std.specs.Prelude.{◌≡◌, ◌∷◌, ◌++◌, ◌⊎◌, ◌≤◌, ◌<◌}
-use Rattle.laws.specs.Basics.{refl, sym, ◌∙◌, ap, true, false, [], some, inl, inr, ℕ, suc, arith, by_eq}
+use Rattle.laws.specs.Basics.{refl, sym, ◌∙◌, ap, true, false, [], Some, inl, inr, ℕ, suc, arith, by_eq}
 use Rattle.laws.specs.{Options.some_same, Update.upds}
 use Rattle.histories.specs.History.{HistoryEvent, stored, sent, received}
 use Rattle.histories.proofs.Places.{Stands, stands_still, sent_before_stored, received_before_stored}
@@ -69,7 +69,7 @@ module _ (r : Ideal) (i : ℕ) where
   checkpointed_mark_other p ne = simp upds
 
   -- The own pin of i names the checkpoint just stored.
-  pub checkpointed_pin : (checkpointed r i).pin i i ≡ some (r.own i)
+  pub checkpointed_pin : (checkpointed r i).pin i i ≡ Some (r.own i)
   unfolding checkpointed
   checkpointed_pin = simp upds
 

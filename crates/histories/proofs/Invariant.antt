@@ -1,6 +1,6 @@
 -- What holds after every list of accepted calls. The proofs of the line's facts use these clauses alone.
 use Rattle.std.specs.Prelude.{◌≡◌, ◌≤◌, ◌<◌}
-use Rattle.laws.specs.Basics.{true, some, ℕ, suc}
+use Rattle.laws.specs.Basics.{true, Some, ℕ, suc}
 use Rattle.histories.specs.History.{HistoryEvent, stored, sent, received, checkpoints}
 use Rattle.histories.proofs.{Places.Stands, Times.times, Run.Ideal}
 
@@ -56,5 +56,5 @@ pub record Inv (r : Ideal) : Type 0 where
   pub source : (p g m f : ℕ) → Stands (sent m) g (r.events p) → f < r.n → (p ≡ f → ⊥) → 1 ≤ r.carried m f → Informed r p g m f (r.carried m f)
   pub learnt : (p k f : ℕ) → k ≤ r.own p → f < r.n → (p ≡ f → ⊥) → 1 ≤ r.vector p k f → Informed r p k (suc r.last) f (r.vector p k f)
   -- where p knows f's current interval, the pin of p for f names a checkpoint; whatever a pin names, p learnt all it knows of f right after it
-  pub pinned : (p f : ℕ) → f < r.n → r.vector p (r.own p) f ≡ r.own f → (k : ℕ) × (r.pin p f ≡ some k)
-  pub pins : (p f k : ℕ) → f < r.n → r.pin p f ≡ some k → Pinned r p f k
+  pub pinned : (p f : ℕ) → f < r.n → r.vector p (r.own p) f ≡ r.own f → (k : ℕ) × (r.pin p f ≡ Some k)
+  pub pins : (p f k : ℕ) → f < r.n → r.pin p f ≡ Some k → Pinned r p f k

@@ -1,7 +1,7 @@
 -- The line of the rule: it has a state at each process, which is the latest of all states that pass the rule, deleted or not;
 -- it is consistent by messages.
 use Rattle.std.specs.Prelude.{◌≡◌, ◌||◌, ◌≤◌, ◌<◌}
-use Rattle.laws.specs.Basics.{refl, sym, ◌∙◌, ap, true, false, some, ℕ, zero, suc, arith, eqb, ltb, leb, eq-eqb, ne_eqb, lt-ltb, le-ltb, leb-true, leb-false, by_bool, by_eq}
+use Rattle.laws.specs.Basics.{refl, sym, ◌∙◌, ap, true, false, Some, ℕ, zero, suc, arith, eqb, ltb, leb, eq-eqb, ne_eqb, lt-ltb, le-ltb, leb-true, leb-false, by_bool, by_eq}
 use Rattle.laws.specs.{Search.latest_is, Search.latest_out, Search.latest_of, Truth.and_both, Truth.and_no_right}
 use Rattle.histories.specs.History.{HistoryEvent, sent, received, checkpoints, Consistent}
 use Rattle.histories.proofs.{Places.Stands, Places.stands_le, Cuts.member_stands, Cuts.up_to_out, Cuts.after_state_out, Invariant.Inv}
@@ -28,18 +28,18 @@ module _ (r : Ideal) (v : Inv r) where
   keeps_below p k e = let w = keeps_out r p k e in (v.pins p w.0 k w.1 w.2).below
 
   -- The own pin names the last checkpoint.
-  pub own_pin : (p : ℕ) → p < r.n → (k : ℕ) × (r.pin p p ≡ some k) × (suc k ≡ r.own p)
+  pub own_pin : (p : ℕ) → p < r.n → (k : ℕ) × (r.pin p p ≡ Some k) × (suc k ≡ r.own p)
   own_pin p hp =
       let w = v.pinned p p hp (live_self p) in
       let z = v.pins p p w.0 hp w.1 in
       (w.0, w.1, omega (arith, z.next, live_self p, v.self p (suc w.0) z.below))
 
   -- The same, for the checkpoint right below the live state.
-  pub own_pin_is : (p k : ℕ) → p < r.n → suc k ≡ r.own p → r.pin p p ≡ some k
+  pub own_pin_is : (p k : ℕ) → p < r.n → suc k ≡ r.own p → r.pin p p ≡ Some k
   own_pin_is p k hp e =
       let w = own_pin p hp in
       let same : w.0 ≡ k = omega (arith, w.2) in
-      w.1 ∙ ap some same
+      w.1 ∙ ap Some same
 
   -- The last checkpoint is kept.
   pub last_kept : (p k : ℕ) → p < r.n → suc k ≡ r.own p → keeps r p k ≡ true
@@ -75,14 +75,14 @@ module _ (r : Ideal) (v : Inv r) where
         let z = v.pinned p f hf full in
         let d = v.pins p f z.0 hf z.1 in
         let same : z.0 ≡ k = one_rise p f z.0 k (r.own f) lt low w.3 d.below (omega (arith, d.less)) (omega (arith, d.next)) in
-        record { below = lt; kept = keeps_in r p f k hf (z.1 ∙ ap some same); fine = safe_out r F p k ok; next = w }
+        record { below = lt; kept = keeps_in r p f k hf (z.1 ∙ ap Some same); fine = safe_out r F p k ok; next = w }
 
     -- Checkpoint 0 passes.
     zero_safe : (p : ℕ) → safe r F p 0 ≡ true
     zero_safe p = safe_in r F p 0 (λ f hf q. omega (arith, v.blank p f, v.positive f))
 
     -- The member of a process that rolls back.
-    member_back : (p : ℕ) → rolled r F p ≡ true → (k : ℕ) × (member r F p ≡ some k) × Back p k
+    member_back : (p : ℕ) → rolled r F p ≡ true → (k : ℕ) × (member r F p ≡ Some k) × Back p k
     unfolding member
     member_back p e =
         let dead : safe r F p (r.own p) ≡ false = rolled_out r F p e in
@@ -99,7 +99,7 @@ module _ (r : Ideal) (v : Inv r) where
         )
 
     -- The member of a process that stays.
-    member_live : (p : ℕ) → rolled r F p ≡ false → member r F p ≡ some (r.own p)
+    member_live : (p : ℕ) → rolled r F p ≡ false → member r F p ≡ Some (r.own p)
     unfolding member
     member_live p e = latest_is (suc (r.own p)) _ (r.own p) (omega arith)
         (and_both (eqb (r.own p) (r.own p) || keeps r p (r.own p)) (safe r F p (r.own p)) (rw (eq-eqb (r.own p) (r.own p) refl)) (stays_out r F p e))
@@ -116,7 +116,7 @@ module _ (r : Ideal) (v : Inv r) where
     line_live p e = rw (member_live p e)
 
     -- The rule finds a state at each process.
-    pub line_found : (p : ℕ) → member r F p ≡ some (line r F p)
+    pub line_found : (p : ℕ) → member r F p ≡ Some (line r F p)
     unfolding line
     line_found p = by_bool (rolled r F p)
         (λ e. let w = member_back p e in rw w.1)

@@ -1,7 +1,7 @@
 -- One process's part of the run as functions, and what its own events make of it: a checkpoint, a send, a receipt of a carried vector.
 -- Nothing else in the run matters to it.
 use Rattle.std.specs.Prelude.{◌≡◌, ◌&&◌}
-use Rattle.laws.specs.Basics.{refl, sym, ◌∙◌, ap, Bool, true, false, Option, some, ℕ, suc, max, ltb, pick, by_bool}
+use Rattle.laws.specs.Basics.{refl, sym, ◌∙◌, ap, Bool, true, false, Option, Some, ℕ, suc, max, ltb, pick, by_bool}
 use Rattle.laws.specs.{Search.any_below, Update.upd, Update.upd_same, Update.upd_other}
 use Rattle.histories.proofs.Run.{Ideal, checkpointed, sending, newer, forces, taken_by, taken_in, delivered, lost}
 
@@ -25,7 +25,7 @@ took_at i P = record {
   own = suc P.own;
   vector = upd P.vector (suc P.own) (upd (P.vector P.own) i (suc P.own));
   mark = false;
-  pin = upd P.pin i (some P.own);
+  pin = upd P.pin i (Some P.own);
 }
 
 -- A send.

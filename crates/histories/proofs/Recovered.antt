@@ -1,6 +1,6 @@
 -- A recovery keeps the invariant: here the pins, and then all clauses together.
 use Rattle.std.specs.Prelude.{◌≡◌, ◌≤◌, ◌<◌}
-use Rattle.laws.specs.Basics.{sym, ◌∙◌, ap, Bool, true, false, some, ℕ, suc, arith, ltb, leb, lt-ltb, le-ltb, leb-true, leb-false, by_bool, by_eq}
+use Rattle.laws.specs.Basics.{sym, ◌∙◌, ap, Bool, true, false, Some, ℕ, suc, arith, ltb, leb, lt-ltb, le-ltb, leb-true, leb-false, by_bool, by_eq}
 use Rattle.laws.specs.{Options.some_same, Options.none≢some, Search.latest_is, Truth.and_both, Truth.and_no_right}
 use Rattle.histories.proofs.{Run.Ideal, Run.Failed, Run.keeps, Run.line, Run.rolled, Run.recovered, Rule.keeps_in, Rule.keeps_out}
 use Rattle.histories.proofs.{Invariant.Inv, Invariant.Pinned, Line.rising, Line.line_back}
@@ -22,14 +22,14 @@ module _ (r : Ideal) (v : Inv r) (F : Failed) where
 
   -- In a process that rolls back, the pin of a current entry is the kept checkpoint up to the member from which the entry rises.
   pin_back : (p f k : ℕ) → R p ≡ true → r'.vector p (r'.own p) f ≡ r'.own f → k ≤ L p → keeps r p k ≡ true → r.vector p k f < r'.own f
-      → ((j : ℕ) → k < j → j ≤ L p → r'.own f ≤ r.vector p j f) → r'.pin p f ≡ some k
+      → ((j : ℕ) → k < j → j ≤ L p → r'.own f ≤ r.vector p j f) → r'.pin p f ≡ Some k
   pin_back p f k e d le kept low high = recovered_pin_back r F p f e d ∙ latest_is (suc (L p)) _ k (omega arith)
       (and_both (keeps r p k) (ltb (r.vector p k f) (r'.own f)) kept (lt-ltb (r.vector p k f) (r'.own f) low))
       (λ j a b. and_no_right (keeps r p j) (ltb (r.vector p j f) (r'.own f)) (le-ltb (r.vector p j f) (r'.own f) (high j a (omega arith))))
 
   -- A pin of now: what it names, that it was kept before, and what the invariant asks.
   Found : (p f : ℕ) → Type 0
-  Found p f = (k : ℕ) × (r'.pin p f ≡ some k) × (keeps r p k ≡ true) × Pinned r' p f k
+  Found p f = (k : ℕ) × (r'.pin p f ≡ Some k) × (keeps r p k ≡ true) × Pinned r' p f k
 
   -- The own pin names the last checkpoint.
   found_own : (p : ℕ) → p < r.n → Found p p
@@ -86,7 +86,7 @@ module _ (r : Ideal) (v : Inv r) (F : Failed) where
       (λ e. leb-false _ _ e) in
       let low : r.vector p k f < r'.own f = omega (arith, w.less) in
       let high : r'.own f ≤ r.vector p (suc k) f = omega (arith, w.next) in
-      let pin_is : r'.pin p f ≡ some k = by_bool (R p)
+      let pin_is : r'.pin p f ≡ Some k = by_bool (R p)
       (λ e. pin_back p f k e d (omega arith) kept low (λ j a b. omega (arith, high, rising r v p f (suc k) j a (omega (arith, within r v F p)))))
       (λ e. recovered_pin_stays r F p f e d ∙ z.1) in (
         k,
@@ -106,26 +106,26 @@ module _ (r : Ideal) (v : Inv r) (F : Failed) where
       (λ ne. found_other p f hf ne d)
 
   -- A pin that names something is of a current entry.
-  pub recovered_current : (p f k : ℕ) → r'.pin p f ≡ some k → r'.vector p (r'.own p) f ≡ r'.own f
+  pub recovered_current : (p f k : ℕ) → r'.pin p f ≡ Some k → r'.vector p (r'.own p) f ≡ r'.own f
   recovered_current p f k e = by_eq (r'.vector p (r'.own p) f) (r'.own f)
       (λ d. d)
       (λ nd. absurd (none≢some (sym (recovered_pin_none r F p f nd) ∙ e)))
 
-  found_pin : (p f k : ℕ) → f < r.n → r'.pin p f ≡ some k → Found p f
+  found_pin : (p f k : ℕ) → f < r.n → r'.pin p f ≡ Some k → Found p f
   found_pin p f k hf e = found p f hf (recovered_current p f k e)
 
   -- Where a process knows the current interval of f, its pin for f names a checkpoint.
-  pinned' : (p f : ℕ) → f < r.n → r'.vector p (r'.own p) f ≡ r'.own f → (k : ℕ) × (r'.pin p f ≡ some k)
+  pinned' : (p f : ℕ) → f < r.n → r'.vector p (r'.own p) f ≡ r'.own f → (k : ℕ) × (r'.pin p f ≡ Some k)
   unfolding Found
   pinned' p f hf d = let w = found p f hf d in (w.0, w.1)
 
   -- What a pin names is the checkpoint right before its process learnt all that it knows of f.
-  pins' : (p f k : ℕ) → f < r.n → r'.pin p f ≡ some k → Pinned r' p f k
+  pins' : (p f k : ℕ) → f < r.n → r'.pin p f ≡ Some k → Pinned r' p f k
   unfolding Found
   pins' p f k hf e = let w = found_pin p f k hf e in rw (some_same (sym e ∙ w.1)) w.3
 
   -- What a pin names was kept before.
-  pin_kept : (p f k : ℕ) → f < r.n → r'.pin p f ≡ some k → keeps r p k ≡ true
+  pin_kept : (p f k : ℕ) → f < r.n → r'.pin p f ≡ Some k → keeps r p k ≡ true
   unfolding Found
   pin_kept p f k hf e = let w = found_pin p f k hf e in rw (some_same (sym e ∙ w.1)) w.2
 

@@ -1,6 +1,6 @@
 -- How a recovery changes the run: one lemma for each view.
 use Rattle.std.specs.Prelude.{◌≡◌, ◌&&◌, ◌≤◌}
-use Rattle.laws.specs.Basics.{refl, true, false, none, ℕ, suc, arith, ltb, eq-eqb, ne_eqb, leb-true, by_bool}
+use Rattle.laws.specs.Basics.{refl, true, false, None, ℕ, suc, arith, ltb, eq-eqb, ne_eqb, leb-true, by_bool}
 use Rattle.laws.specs.{Search.latest, Truth.and_left, Truth.and_right, Update.upds}
 use Rattle.histories.specs.History.{up_to}
 use Rattle.histories.proofs.Run.{Ideal, Failed, keeps, line, rolled, own_after, vector_after, pin_after, outlives, recovered}
@@ -49,7 +49,7 @@ module _ (r : Ideal) (F : Failed) where
   recovered_mark_stays p e = rw e
 
   -- A pin whose entry is not the current own entry becomes none.
-  pub recovered_pin_none : (p f : ℕ) → ((recovered r F).vector p ((recovered r F).own p) f ≡ (recovered r F).own f → ⊥) → (recovered r F).pin p f ≡ none
+  pub recovered_pin_none : (p f : ℕ) → ((recovered r F).vector p ((recovered r F).own p) f ≡ (recovered r F).own f → ⊥) → (recovered r F).pin p f ≡ None
   unfolding recovered pin_after
   recovered_pin_none p f ne = rw (ne_eqb (vector_after r F p (own_after r F p) f) (own_after r F f) ne)
 

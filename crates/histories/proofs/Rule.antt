@@ -1,6 +1,6 @@
 -- What the tests of the run say: a state passes the rule of the line, a process rolls back, a checkpoint is kept.
 use Rattle.std.specs.Prelude.{◌≡◌, ◌≤◌, ◌<◌}
-use Rattle.laws.specs.Basics.{refl, ap, true, false, Option, none, some, ℕ, eq-eqb, eqb-true, lt-ltb, ltb-true, ltb-false, not-true, not-false, by_bool}
+use Rattle.laws.specs.Basics.{refl, ap, true, false, Option, None, Some, ℕ, eq-eqb, eqb-true, lt-ltb, ltb-true, ltb-false, not-true, not-false, by_bool}
 use Rattle.laws.specs.{Search.any_out, Search.any_in, Search.all_out, Search.all_in, Search.all_fails, Truth.never_both}
 use Rattle.histories.proofs.Run.{Ideal, Failed, safe, names, keeps, rolled}
 
@@ -36,16 +36,16 @@ unfolding rolled
 stays_out r F p e = not-false _ e
 
 -- A checkpoint that a pin names is kept.
-pub keeps_in : (r : Ideal) (p f k : ℕ) → f < r.n → r.pin p f ≡ some k → keeps r p k ≡ true
+pub keeps_in : (r : Ideal) (p f k : ℕ) → f < r.n → r.pin p f ≡ Some k → keeps r p k ≡ true
 unfolding keeps
 keeps_in r p f k hf e = any_in r.n _ f hf (rw e (eq-eqb k k refl))
 
 -- What a pin names.
-names_out : (o : Option ℕ) (k : ℕ) → names o k ≡ true → o ≡ some k
-names_out none k e = never_both false e refl
-names_out (some j) k e = ap some (eqb-true j k e)
+names_out : (o : Option ℕ) (k : ℕ) → names o k ≡ true → o ≡ Some k
+names_out None k e = never_both false e refl
+names_out (Some j) k e = ap Some (eqb-true j k e)
 
 -- A kept checkpoint is named by a pin.
-pub keeps_out : (r : Ideal) (p k : ℕ) → keeps r p k ≡ true → (f : ℕ) × (f < r.n) × (r.pin p f ≡ some k)
+pub keeps_out : (r : Ideal) (p k : ℕ) → keeps r p k ≡ true → (f : ℕ) × (f < r.n) × (r.pin p f ≡ Some k)
 unfolding keeps
 keeps_out r p k e = let w = any_out r.n _ e in (w.0, w.1, names_out (r.pin p w.0) k w.2)

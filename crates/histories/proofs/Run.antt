@@ -2,7 +2,7 @@
 -- the vectors of all checkpoints of the surviving history, deleted or not, what each message carried, and the surviving history itself.
 -- Each step is a total function; a proof uses it for accepted calls alone.
 use Rattle.std.specs.Prelude.{◌&&◌, ◌||◌, ◌∷◌, ◌++◌, ◌+◌}
-use Rattle.laws.specs.Basics.{Bool, true, false, not, List, [], Option, none, some, ℕ, suc, max, eqb, ltb, leb, get_or, pick}
+use Rattle.laws.specs.Basics.{Bool, true, false, not, List, [], Option, None, Some, ℕ, suc, max, eqb, ltb, leb, get_or, pick}
 use Rattle.laws.specs.{Search.any_below, Search.all_below, Search.latest, Sums.sum_below, Update.upd}
 use Rattle.histories.specs.History.{HistoryEvent, stored, sent, received, up_to}
 
@@ -50,7 +50,7 @@ begin n = record {
   own = λ p. 1;
   vector = λ p k f. pick (eqb k 0) 0 (pick (eqb p f) 1 0);
   mark = λ p. false;
-  pin = λ p f. pick (eqb p f) (some 0) none;
+  pin = λ p f. pick (eqb p f) (Some 0) None;
   transit = λ m. false;
   carried = λ m f. 0;
   sender = λ m. 0;
@@ -103,7 +103,7 @@ checkpointed r i = record {
   own = upd r.own i (suc (r.own i));
   vector = upd r.vector i (upd (r.vector i) (suc (r.own i)) (upd (r.vector i (r.own i)) i (suc (r.own i))));
   mark = upd r.mark i false;
-  pin = upd r.pin i (upd (r.pin i) i (some (r.own i)));
+  pin = upd r.pin i (upd (r.pin i) i (Some (r.own i)));
   transit = r.transit;
   carried = r.carried;
   sender = r.sender;
@@ -186,8 +186,8 @@ safe r F p k = all_below r.n (λ f. pick (F f) (ltb (r.vector p k f) (r.own f)) 
 
 -- A pin names checkpoint k.
 abbrev pub names : Option ℕ → ℕ → Bool
-names none k = false
-names (some j) k = eqb j k
+names None k = false
+names (Some j) k = eqb j k
 
 -- Checkpoint k of p is kept: a pin of p names it.
 unfoldable pub keeps : Ideal → ℕ → ℕ → Bool
@@ -199,8 +199,8 @@ member r F p = latest (suc (r.own p)) (λ k. (eqb k (r.own p) || keeps r p k) &&
 
 -- The line, as indexes.
 abbrev pub or_zero : Option ℕ → ℕ
-or_zero none = 0
-or_zero (some k) = k
+or_zero None = 0
+or_zero (Some k) = k
 
 -- The line at p, 0 where the rule accepts no state.
 unfoldable pub line : Ideal → Failed → ℕ → ℕ
@@ -226,7 +226,7 @@ pin_after r F p f = pick (eqb (vector_after r F p (own_after r F p) f) (own_afte
     (pick (rolled r F p)
     (latest (suc (line r F p)) (λ k. keeps r p k && ltb (r.vector p k f) (own_after r F f)))
     (r.pin p f))
-    none
+    None
 
 -- A message outlives a recovery: it is under way, and was sent in an interval up to its sender's member.
 unfoldable pub outlives : Ideal → Failed → ℕ → Bool

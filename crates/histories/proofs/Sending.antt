@@ -1,6 +1,6 @@
 -- A send keeps the invariant: the new message carries the vector of the live state, and the sent mark is set.
 use Rattle.std.specs.Prelude.{◌≡◌, ◌∷◌, ◌++◌, ◌⊎◌, ◌≤◌, ◌<◌}
-use Rattle.laws.specs.Basics.{refl, sym, ◌∙◌, ap, true, [], some, inl, inr, ℕ, suc, arith, by_eq}
+use Rattle.laws.specs.Basics.{refl, sym, ◌∙◌, ap, true, [], Some, inl, inr, ℕ, suc, arith, by_eq}
 use Rattle.laws.specs.Update.{upds}
 use Rattle.histories.specs.History.{HistoryEvent, stored, sent, received, checkpoints}
 use Rattle.histories.proofs.Places.{Stands, stands_still, stands_end, sent_or_before, received_before_sent, checkpoints_sent}
@@ -244,7 +244,7 @@ module _ (r : Ideal) (i j : ℕ) where
         (λ nc. rw (sending_events_other p nc) (v.single p e ne))
 
     -- What a pin names is the checkpoint right before its process learnt all that it knows of f.
-    pins' : (p f k : ℕ) → f < r.n → r.pin p f ≡ some k → Pinned r' p f k
+    pins' : (p f k : ℕ) → f < r.n → r.pin p f ≡ Some k → Pinned r' p f k
     unfolding sending
     pins' p f k hf e = let w = v.pins p f k hf e in record { below = w.below; less = w.less; next = w.next }
 

@@ -2,7 +2,7 @@
 -- since. Each step keeps this.
 -- Assumes nothing.
 use Rattle.std.specs.Prelude.{◌≡◌, ◌⊎◌, ◌≤◌, ◌<◌}
-use Rattle.laws.specs.Basics.{refl, sym, ◌∙◌, Option, none, some, inl, inr, ℕ, arith, ltb, ltb-true, ltb-false, by_bool, by_eq}
+use Rattle.laws.specs.Basics.{refl, sym, ◌∙◌, Option, None, Some, inl, inr, ℕ, arith, ltb, ltb-true, ltb-false, by_bool, by_eq}
 use Rattle.histories.proofs.Run.{Ideal, Failed, begin, checkpointed, sending, forces, taken_in, delivered, lost, recovered}
 use Rattle.histories.proofs.{Invariant.Inv, Line.own_pin, Begin.begin_inv, Begin.begin_own, Begin.begin_self, Begin.begin_pin_other}
 use Rattle.histories.proofs.CheckpointedViews.{checkpointed_n, checkpointed_row_own, checkpointed_row_other, checkpointed_row, checkpointed_pin, checkpointed_pin_row, checkpointed_pin_column, checkpointed_receiver}
@@ -18,7 +18,7 @@ row r p f = r.vector p (r.own p) f
 -- A step that is no recovery: each entry stays, and so does its pin, or it rises, and its pin names a checkpoint.
 pub record Learns (r r' : Ideal) : Type 0 where
   pub size : r'.n ≡ r.n
-  pub each : (p f : ℕ) → f < r.n → ((row r' p f ≡ row r p f) × (r'.pin p f ≡ r.pin p f)) ⊎ ((row r p f < row r' p f) × (k : ℕ) × (r'.pin p f ≡ some k))
+  pub each : (p f : ℕ) → f < r.n → ((row r' p f ≡ row r p f) × (r'.pin p f ≡ r.pin p f)) ⊎ ((row r p f < row r' p f) × (k : ℕ) × (r'.pin p f ≡ Some k))
 
 pub same_learns : (r : Ideal) → Learns r r
 same_learns r = record { size = refl; each = λ p f hf. inl (refl, refl) }
@@ -84,8 +84,8 @@ Current r₀ r p f = (row r₀ p f ≡ r₀.own f) ⊎ (row r₀ p f < row r p f
 pub record Standing (r₀ r : Ideal) : Type 0 where
   pub size : r.n ≡ r₀.n
   pub rows : (p f : ℕ) → f < r₀.n → row r₀ p f ≤ row r p f
-  pub current : (p f k : ℕ) → f < r₀.n → r.pin p f ≡ some k → Current r₀ r p f
-  pub pinned : (p f : ℕ) → f < r₀.n → Current r₀ r p f → (k : ℕ) × (r.pin p f ≡ some k)
+  pub current : (p f k : ℕ) → f < r₀.n → r.pin p f ≡ Some k → Current r₀ r p f
+  pub pinned : (p f : ℕ) → f < r₀.n → Current r₀ r p f → (k : ℕ) × (r.pin p f ≡ Some k)
 
 pub next_standing : (r₀ r r' : Ideal) → Standing r₀ r → Learns r r' → Standing r₀ r'
 next_standing r₀ r r' h step = record {
@@ -105,7 +105,7 @@ next_standing r₀ r r' h step = record {
 }
 
 -- A run all of whose pins are current, as at the start and right after a recovery.
-fresh_standing : (r : Ideal) → Inv r → ((p f k : ℕ) → f < r.n → r.pin p f ≡ some k → row r p f ≡ r.own f) → Standing r r
+fresh_standing : (r : Ideal) → Inv r → ((p f k : ℕ) → f < r.n → r.pin p f ≡ Some k → row r p f ≡ r.own f) → Standing r r
 fresh_standing r v fresh = record {
   size = refl;
   rows = λ p f hf. omega arith;
@@ -113,7 +113,7 @@ fresh_standing r v fresh = record {
   pinned = λ p f hf c. elim c [ inl e ↦ v.pinned p f hf e | inr lt ↦ absurd (omega arith) ];
 }
 
-no_pin : (o : Option ℕ) (k : ℕ) → o ≡ none → o ≡ some k → ⊥
+no_pin : (o : Option ℕ) (k : ℕ) → o ≡ None → o ≡ Some k → ⊥
 no_pin o k a b = let z : ◌≡◌ {A = ℕ} 0 1 = cc in omega arith
 
 pub begin_standing : (n : ℕ) → Standing (begin n) (begin n)

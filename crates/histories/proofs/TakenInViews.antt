@@ -1,6 +1,6 @@
 -- How taking in a message changes the run: one lemma for each view, and what it does to kept checkpoints and to the lists.
 use Rattle.std.specs.Prelude.{◌≡◌, ◌∷◌, ◌++◌, ◌⊎◌, ◌≤◌, ◌<◌}
-use Rattle.laws.specs.Basics.{refl, sym, ◌∙◌, true, false, [], some, inl, inr, ℕ, max, arith, leb, lt-ltb, le-ltb, leb-true, leb-false, by_bool, by_eq}
+use Rattle.laws.specs.Basics.{refl, sym, ◌∙◌, true, false, [], Some, inl, inr, ℕ, max, arith, leb, lt-ltb, le-ltb, leb-true, leb-false, by_bool, by_eq}
 use Rattle.laws.specs.Update.{upds}
 use Rattle.histories.specs.History.{HistoryEvent, sent, received, checkpoints}
 use Rattle.histories.proofs.Places.{Stands, stands_still, stands_end, sent_before_received, received_or_before, checkpoints_received}
@@ -97,7 +97,7 @@ module _ (r : Ideal) (m : ℕ) where
   taken_in_events_other p ne = simp upds
 
   -- A pin of now names what a pin of before names.
-  pin_before : (p f k : ℕ) → r.receiver m < r.n → f < r.n → (taken_in r m).pin p f ≡ some k → keeps r p k ≡ true
+  pin_before : (p f k : ℕ) → r.receiver m < r.n → f < r.n → (taken_in r m).pin p f ≡ Some k → keeps r p k ≡ true
   pin_before p f k hi hf e = by_eq p i
       (λ c. by_bool (leb (r.carried m f) (r.vector i (r.own i) f))
       (λ b. rw c (keeps_in r i f k hf (sym (taken_in_pin_same f (leb-true _ _ b)) ∙ (rw c at e))))

@@ -1,7 +1,7 @@
 -- A message that reaches its receiver: the receipt changes the receiver's part and the blocks, then the message is taken out of its place.
 -- Assumes nothing.
 use Rattle.std.specs.Prelude.{◌≡◌, ◌*◌, ◌≤◌, ◌<◌}
-use Rattle.laws.specs.Basics.{sym, ◌∙◌, ap, Bool, true, false, not, List, none, some, ℕ, suc, arith, eqb, ltb, length, pick, by_bool}
+use Rattle.laws.specs.Basics.{sym, ◌∙◌, ap, Bool, true, false, not, List, None, Some, ℕ, suc, arith, eqb, ltb, length, pick, by_bool}
 use Rattle.laws.specs.{Lists.select}
 use Rattle.model.specs.{declared.Disk.Disk, declared.Message.Message, declared.Run.Run, Sound.sound}
 use Rattle.model.specs.Words.{forced, Process, block_count, blocks_of, process, with_process, with_messages, with_disk}
@@ -29,7 +29,7 @@ module _ (w : List ℕ) (h : sound (run_of w) ≡ true) (m k : ℕ) (e : place_o
   known = sound_words w h
 
   -- The message in the place is the one that was looked up, and its receiver is in the run.
-  pub found_there : found s m ≡ some (message_in w k)
+  pub found_there : found s m ≡ Some (message_in w k)
   unfolding message_at
   found_there = found_is w h m ∙ ap (message_at w) e
 
@@ -41,7 +41,7 @@ module _ (w : List ℕ) (h : sound (run_of w) ≡ true) (m k : ℕ) (e : place_o
 
   -- Which delivery is refused, once the lent list is long enough.
   pub delivery_judged : (l : List ℕ) → ltb (length l) (2 * count_of w * count_of w) ≡ false
-      → deliver_refusal s m l ≡ pick (forces (process s (message_in w k).receiver) (message_in w k).vector) (refusal_of (storing_admission s (message_in w k).receiver)) none
+      → deliver_refusal s m l ≡ pick (forces (process s (message_in w k).receiver) (message_in w k).vector) (refusal_of (storing_admission s (message_in w k).receiver)) None
   unfolding deliver_refusal first_of forces_past forces_over storing_admission refusal_of
   delivery_judged l enough = rw (h, short_none, found_there) (by_bool (forces (process s (message_in w k).receiver) (message_in w k).vector)
       (λ f. rw f (either_way (at_last_interval s (message_in w k).receiver) (past_blocks s (message_in w k).receiver)))

@@ -1,13 +1,14 @@
 -- One process's part of a sound state: it stays sound where a checkpoint is stored, where a carried vector is taken in, and where what no pin names is deleted.
 -- Assumes nothing.
-use Rattle.std.specs.Prelude.{◌≡◌, ◌&&◌, ◌||◌, ◌∷◌, ◌++◌, ◌+◌, ◌-◌, ◌≤◌, ◌<◌}
-use Rattle.laws.specs.Basics.{refl, sym, ◌∙◌, ap, Bool, true, false, not, List, [], map, Option, some, ℕ, zero, suc, arith, eqb, leb, length, get_or, take, drop, set, length-set, length-append, get_or-set_same, get_or-set_other, length-take-le, eq-eqb, ne_eqb, eqb-true, le-ltb, le-leb, leb-true, not-true, by_bool, by_eq}
+use Rattle.std.specs.Prelude.{◌≡◌, ◌&&◌, ◌||◌, ◌∷◌, ◌++◌, ◌+◌, ◌-◌, ◌≤◌, ◌<◌, None}
+use Rattle.laws.specs.Basics.{refl, sym, ◌∙◌, ap, Bool, true, false, not, List, [], map, Option, Some, ℕ, zero, suc, arith, eqb, leb, length, get_or, take, drop, set, length-set, length-append, get_or-set_same, get_or-set_other, length-take-le, eq-eqb, ne_eqb, eqb-true, le-ltb, le-leb, leb-true, not-true, by_bool, by_eq}
 use lib.ListN.{get_or-eq_default}
 use Rattle.laws.specs.{Lists.select, Lists.or_else, Lists.last_of, Elements.every_append, Elements.every_single, Elements.every_from, Elements.every_table}
 use Rattle.laws.specs.{Prefixes.select_same, Prefixes.every_select, Rows.every_at, Rows.every_by, Rows.every_beyond, Rows.some_at, Rows.by_lt}
 use Rattle.laws.specs.{Select.last_of_snoc, Select.some_append, Tables.get_d_table, Tables.length_table, Tests.every, Tests.some_of}
 use Rattle.laws.specs.Truth.{and_right, and_out, and_both, or_left, or_in_right, never_both}
-use Rattle.model.specs.declared.{Interval.Interval, CheckpointIndex.CheckpointIndex, Pin.Pin, Pin.TheVariants.Nothing, Pin.TheVariants.At}
+use Rattle.model.specs.Shapes.{Pin}
+use Rattle.model.specs.declared.{Interval.Interval, CheckpointIndex.CheckpointIndex}
 use Rattle.model.specs.declared.Checkpoint.{Checkpoint}
 use Rattle.model.specs.Words.{most_processes, entry, below, live_index_of, last_stored_of, names, is_pinned, Process, no_checkpoint, block_count}
 use Rattle.model.specs.Steps.{settled, advanced, storing, checkpointed, taken_entry, taken_vector, taken_pin, taken_pins, taken_in}
@@ -33,7 +34,7 @@ pub record Loose (n : ℕ) (W : List Interval → Bool) (p : ℕ) (B P : Process
   pub kept_ascend : ascending 0 (indexes P.kept) ≡ true
   pub kept_own : every (λ c. eqb (entry c.vector p).0 c.index.0) P.kept ≡ true
   pub kept_last : (or_else (last_of P.kept) no_checkpoint).index.0 ≡ (entry P.vector p).0 - 1
-  pub own_pin : names (get_or P.pins p Nothing) (last_stored_of (entry P.vector p)) ≡ true
+  pub own_pin : names (get_or P.pins p None) (last_stored_of (entry P.vector p)) ≡ true
   pub pins_kept : every (pin_sound P.kept) P.pins ≡ true
   pub vector_unused : zero_from n P.vector ≡ true
   pub pins_unused : nothing_from n P.pins ≡ true
@@ -103,7 +104,7 @@ select_last t (x ∷ []) d some-there h = rw h (omega arith, refl)
 select_last t (x ∷ y ∷ l) d some-there h =
     let rest = select_last t (y ∷ l) x (omega arith) h in
     by_bool (t x)
-    (λ e. rw e (omega arith, ap (λ (o : Option _). some (or_else o x)) rest.1))
+    (λ e. rw e (omega arith, ap (λ (o : Option _). Some (or_else o x)) rest.1))
     (λ e. rw e (rest.0, rest.1))
 
 -- A vector and a row of pins of 16 places, zero and none from n on, by place.
@@ -115,24 +116,24 @@ zero_by : (n : ℕ) (v : List Interval) → ((k : ℕ) → n ≤ k → k < lengt
 unfolding zero_from
 zero_by n v h = every_from (λ (x : Interval). eqb x.0 0) (record { 0 = 0 }) n v (λ k le lt. eq-eqb _ _ (h k le lt))
 
-nothing_at : (n : ℕ) (pins : List Pin) → nothing_from n pins ≡ true → (k : ℕ) → n ≤ k → k < length pins → is_nothing_of (get_or pins k Nothing) ≡ true
+nothing_at : (n : ℕ) (pins : List Pin) → nothing_from n pins ≡ true → (k : ℕ) → n ≤ k → k < length pins → is_nothing_of (get_or pins k None) ≡ true
 unfolding nothing_from
-nothing_at n pins h k le lt = every_beyond is_nothing_of n pins k Nothing h le lt
+nothing_at n pins h k le lt = every_beyond is_nothing_of n pins k None h le lt
 
-nothing_by : (n : ℕ) (pins : List Pin) → ((k : ℕ) → n ≤ k → k < length pins → is_nothing_of (get_or pins k Nothing) ≡ true) → nothing_from n pins ≡ true
+nothing_by : (n : ℕ) (pins : List Pin) → ((k : ℕ) → n ≤ k → k < length pins → is_nothing_of (get_or pins k None) ≡ true) → nothing_from n pins ≡ true
 unfolding nothing_from
-nothing_by n pins h = every_from is_nothing_of Nothing n pins h
+nothing_by n pins h = every_from is_nothing_of None n pins h
 
 -- A pin that names a kept one still does where one more is kept.
 pin_more : (l : List Checkpoint) (c : Checkpoint) (pin : Pin) → pin_sound l pin ≡ true → pin_sound (l ++ (c ∷ [])) pin ≡ true
 unfolding pin_sound
-pin_more l c Nothing h = refl
-pin_more l c (At a) h = some_append (λ x. names (At a) x.index) l (c ∷ []) ∙ or_left _ _ h
+pin_more l c None h = refl
+pin_more l c (Some a) h = some_append (λ x. names (Some a) x.index) l (c ∷ []) ∙ or_left _ _ h
 
-pin_last : (l : List Checkpoint) (c : Checkpoint) → pin_sound (l ++ (c ∷ [])) (At c.index) ≡ true
+pin_last : (l : List Checkpoint) (c : Checkpoint) → pin_sound (l ++ (c ∷ [])) (Some c.index) ≡ true
 unfolding pin_sound some_of
 pin_last l c =
-    let there : Checkpoint → Bool = λ x. names (At c.index) x.index in
+    let there : Checkpoint → Bool = λ x. names (Some c.index) x.index in
     some_append there l (c ∷ []) ∙ or_in_right (some_of there l) (some_of there (c ∷ [])) (or_left (eqb c.index.0 c.index.0) false (eq-eqb c.index.0 c.index.0 refl))
 
 -- What a kept checkpoint records.
@@ -174,7 +175,7 @@ module _ (n : ℕ) (U W : List Interval → Bool) (i cause : ℕ) (P : Process) 
   stored_loose =
       let v = P.vector in
       let x : Interval = record { 0 = (entry P.vector i).0 + 1 } in
-      let pin : Pin = At (live_index_of (entry P.vector i)) in
+      let pin : Pin = Some (live_index_of (entry P.vector i)) in
       let long = length-set v i x in
       let pins = length-set P.pins i pin in
       record {
@@ -187,12 +188,12 @@ module _ (n : ℕ) (U W : List Interval → Bool) (i cause : ℕ) (P : Process) 
         kept_ascend = ascending_more 0 no_checkpoint P.kept (storing cause i P) h.kept_ascend (omega arith) (λ some-there. omega (arith, h.kept_last, h.own_some));
         kept_own = every_append _ P.kept _ h.kept_own (every_single _ _ (eq-eqb (entry P.vector i).0 (entry P.vector i).0 refl));
         kept_last = ap (λ (o : Option Checkpoint). (or_else o no_checkpoint).index.0) (last_of_snoc P.kept (storing cause i P)) ∙ let z = own_entry in omega (arith, z);
-        own_pin = rw (get_or-set_same P.pins i pin Nothing (omega (arith, h.pins_long))) (let next : (entry P.vector i).0 ≡ (entry (advanced i P.vector) i).0 - 1 = omega (arith, own_entry) in eq-eqb _ _ next);
-        pins_kept = every_by _ (set P.pins i pin) Nothing (λ k lt. by_eq k i
-            (λ e. rw (e, get_or-set_same P.pins i pin Nothing (omega (arith, h.pins_long))) (pin_last P.kept (storing cause i P)))
-            (λ ne. rw (get_or-set_other P.pins i k pin Nothing ne) (pin_more P.kept (storing cause i P) _ (every_at _ P.pins k Nothing (omega (arith, pins)) h.pins_kept))));
+        own_pin = rw (get_or-set_same P.pins i pin None (omega (arith, h.pins_long))) (let next : (entry P.vector i).0 ≡ (entry (advanced i P.vector) i).0 - 1 = omega (arith, own_entry) in eq-eqb _ _ next);
+        pins_kept = every_by _ (set P.pins i pin) None (λ k lt. by_eq k i
+            (λ e. rw (e, get_or-set_same P.pins i pin None (omega (arith, h.pins_long))) (pin_last P.kept (storing cause i P)))
+            (λ ne. rw (get_or-set_other P.pins i k pin None ne) (pin_more P.kept (storing cause i P) _ (every_at _ P.pins k None (omega (arith, pins)) h.pins_kept))));
         vector_unused = zero_by n (set v i x) (λ k le lt. rw (get_or-set_other v i k x (record { 0 = 0 }) (other k le)) (zero_at n v h.vector_unused k le (omega (arith, long))));
-        pins_unused = nothing_by n (set P.pins i pin) (λ k le lt. rw (get_or-set_other P.pins i k pin Nothing (other k le)) (nothing_at n P.pins h.pins_unused k le (omega (arith, pins))));
+        pins_unused = nothing_by n (set P.pins i pin) (λ k le lt. rw (get_or-set_other P.pins i k pin None (other k le)) (nothing_at n P.pins h.pins_unused k le (omega (arith, pins))));
         stored_unused = every_append _ P.kept _ h.stored_unused (every_single _ _ h.vector_unused);
         records_sound = every_append _ P.kept _ h.records_sound (every_single _ _ record_new);
       }
@@ -209,8 +210,8 @@ module _ (n : ℕ) (W : List Interval → Bool) (i : ℕ) (carried : List Interv
   unfolding taken_vector taken_entry
   own_same = get_d_table 16 (taken_entry P.vector carried) i (record { 0 = 0 }) (omega arith) ∙ rw (le-ltb (entry P.vector i).0 (entry carried i).0 low)
 
-  pin_at : (k : ℕ) → k < most_processes → pin_sound P.kept (get_or P.pins k Nothing) ≡ true
-  pin_at k lt = every_at _ P.pins k Nothing (omega (arith, h.pins_long)) h.pins_kept
+  pin_at : (k : ℕ) → k < most_processes → pin_sound P.kept (get_or P.pins k None) ≡ true
+  pin_at k lt = every_at _ P.pins k None (omega (arith, h.pins_long)) h.pins_kept
 
   pub taken_loose : Loose n W i B (taken_in i carried P)
   unfolding taken_in taken_vector taken_entry taken_pins taken_pin
@@ -233,15 +234,15 @@ module _ (n : ℕ) (W : List Interval → Bool) (i : ℕ) (carried : List Interv
         ap (λ (x : Interval). x.0) (get_d_table 16 (taken_entry P.vector carried) k (record { 0 = 0 }) row) ∙ rw (no_higher k le) (zero_at n P.vector h.vector_unused k le (omega (arith, row, h.vector_long))));
     pins_unused = nothing_by n _ (λ k le lt.
         let row : k < 16 = omega (arith, lt, length_table 16 (taken_pin i P.vector carried P.pins)) in
-        ap is_nothing_of (get_d_table 16 (taken_pin i P.vector carried P.pins) k Nothing row) ∙ rw (no_higher k le) (nothing_at n P.pins h.pins_unused k le (omega (arith, row, h.pins_long))));
+        ap is_nothing_of (get_d_table 16 (taken_pin i P.vector carried P.pins) k None row) ∙ rw (no_higher k le) (nothing_at n P.pins h.pins_unused k le (omega (arith, row, h.pins_long))));
     stored_unused = h.stored_unused;
     records_sound = h.records_sound;
   }
 
 -- What no pin names is deleted.
 names_same : (pin : Pin) (a b : CheckpointIndex) → a.0 ≡ b.0 → names pin a ≡ names pin b
-names_same Nothing a b e = refl
-names_same (At c) a b e = rw e
+names_same None a b e = refl
+names_same (Some c) a b e = rw e
 
 some_select : {A : Type 0} (u t : A → Bool) (l : List A) → ((x : A) → u x ≡ true → t x ≡ true) → some_of u l ≡ true → some_of u (select t l) ≡ true
 unfolding some_of select
@@ -252,11 +253,11 @@ some_select u t (x ∷ l) h e = by_bool (u x)
     (λ r. rw r (or_in_right (u x) (some_of u (select t l)) (some_select u t l h (rw q at e))))
     (λ r. rw r (some_select u t l h (rw q at e))))
 
-pin_stays : (pins : List Pin) (k : ℕ) (kept : List Checkpoint) → k < length pins → (pin : Pin) → get_or pins k Nothing ≡ pin → pin_sound kept pin ≡ true → pin_sound (select (is_pinned pins) kept) pin ≡ true
+pin_stays : (pins : List Pin) (k : ℕ) (kept : List Checkpoint) → k < length pins → (pin : Pin) → get_or pins k None ≡ pin → pin_sound kept pin ≡ true → pin_sound (select (is_pinned pins) kept) pin ≡ true
 unfolding pin_sound is_pinned
-pin_stays pins k kept lt Nothing e h = refl
-pin_stays pins k kept lt (At a) e h =
-    some_select (λ c. names (At a) c.index) (λ c. some_of (λ pin. names pin c.index) pins) kept (λ c q. some_at (λ pin. names pin c.index) pins k Nothing lt (rw e q)) h
+pin_stays pins k kept lt None e h = refl
+pin_stays pins k kept lt (Some a) e h =
+    some_select (λ c. names (Some a) c.index) (λ c. some_of (λ pin. names pin c.index) pins) kept (λ c q. some_at (λ pin. names pin c.index) pins k None lt (rw e q)) h
 
 some_front : {A : Type 0} (f : A → Bool) (n : ℕ) (l : List A) → every (λ x. not (f x)) (drop n l) ≡ true → some_of f l ≡ some_of f (take n l)
 unfolding some_of every
@@ -269,8 +270,8 @@ some_front f (suc n) (x ∷ l) h = ap (λ (b : Bool). f x || b) (some_front f n 
 
 nothing_names : (a : CheckpointIndex) (pin : Pin) → is_nothing_of pin ≡ true → not (names pin a) ≡ true
 unfolding is_nothing_of
-nothing_names a Nothing h = refl
-nothing_names a (At b) h = never_both false h refl
+nothing_names a None h = refl
+nothing_names a (Some b) h = never_both false h refl
 
 pub record_same : (X Y : Process) → block_count X ≡ block_count Y → (c : Checkpoint) → record_sound X c ≡ record_sound Y c
 unfolding record_sound
@@ -279,8 +280,8 @@ record_same X Y e c = rw e
 module _ (n : ℕ) (W : List Interval → Bool) (i : ℕ) (B P : Process) (h : Loose n W i B P) (inside : i < n) (few : n ≤ most_processes) where
   last_pinned : is_pinned P.pins (or_else (last_of P.kept) no_checkpoint) ≡ true
   unfolding is_pinned
-  last_pinned = some_at (λ pin. names pin (or_else (last_of P.kept) no_checkpoint).index) P.pins i Nothing (omega (arith, h.pins_long))
-      (names_same (get_or P.pins i Nothing) _ (last_stored_of (entry P.vector i)) h.kept_last ∙ h.own_pin)
+  last_pinned = some_at (λ pin. names pin (or_else (last_of P.kept) no_checkpoint).index) P.pins i None (omega (arith, h.pins_long))
+      (names_same (get_or P.pins i None) _ (last_stored_of (entry P.vector i)) h.kept_last ∙ h.own_pin)
 
   left : (1 ≤ length (select (is_pinned P.pins) P.kept)) × (last_of (select (is_pinned P.pins) P.kept) ≡ last_of P.kept)
   left = select_last (is_pinned P.pins) P.kept no_checkpoint h.kept_count_some last_pinned
@@ -316,7 +317,7 @@ module _ (n : ℕ) (W : List Interval → Bool) (i : ℕ) (B P : Process) (h : L
     kept_own = every_select _ (is_pinned P.pins) P.kept h.kept_own;
     kept_last = ap (λ (o : Option Checkpoint). (or_else o no_checkpoint).index.0) left.1 ∙ h.kept_last;
     own_pin = h.own_pin;
-    pins_kept = every_by _ P.pins Nothing (λ k lt. pin_stays P.pins k P.kept lt _ refl (every_at _ P.pins k Nothing lt h.pins_kept));
+    pins_kept = every_by _ P.pins None (λ k lt. pin_stays P.pins k P.kept lt _ refl (every_at _ P.pins k None lt h.pins_kept));
     vector_unused = h.vector_unused;
     pins_unused = h.pins_unused;
     stored_unused = every_select _ (is_pinned P.pins) P.kept h.stored_unused;

@@ -1,19 +1,19 @@
 -- The line call: what its outcome is, by the list's length, the failed set, and whether each process has a member.
 -- Assumes nothing.
-use Rattle.std.specs.Prelude.{◌≡◌, ◌^◌, ◌≤◌}
-use Rattle.laws.specs.Basics.{refl, sym, ◌∙◌, ap, Bool, true, false, not, false≢true, List, [], none, some, ℕ, arith, ltb, leb, length, get_or, sets, pick, by_bool}
+use Rattle.std.specs.Prelude.{◌≡◌, ◌^◌, ◌≤◌, Err, Ok}
+use Rattle.laws.specs.Basics.{refl, sym, ◌∙◌, ap, Bool, true, false, not, false≢true, List, [], None, Some, ℕ, arith, ltb, leb, length, get_or, sets, pick, by_bool}
 use Rattle.laws.specs.{Below.not_out, Lists.table}
 use Rattle.words_line.specs.Line.{limits_in, has_members, pasts_in, indexes_in, OwnSome, KeptCountMost, AllUsed, AllFound}
 use Rattle.words_line.proofs.LineRule.{pasts_length, all_found, past_at, found_one, line_is}
-use Rattle.model.specs.declared.{Interval.Interval, CheckpointIndex.CheckpointIndex, Refusal.Refusal, Run.Run, LineAnswer.LineAnswer}
+use Prim.{tt}
+use Rattle.model.specs.Shapes.{LineAnswer}
+use Rattle.model.specs.declared.{Interval.Interval, CheckpointIndex.CheckpointIndex, Refusal.Refusal, Run.Run}
 use Rattle.model.specs.declared.Refusal.TheVariants.{UnsoundState, ListTooShort, NoSuchFailedProcess}
-use Rattle.model.specs.declared.LineAnswer.TheVariants.{Refused, Written}
 use Rattle.model.specs.{Sound.sound, Steps.line_of, Refusals.outside, Refusals.no_member_of, Refusals.line_refusal, laws.Refusals.refusal_in}
 use Rattle.admissions.specs.Admissions.{recovery_admission_of}
 use Rattle.whole_runs.specs.Outcomes.{Outcome, line_outcome}
 use Rattle.words.specs.Layout.{count_of, run_of}
 use Rattle.words.proofs.{View.count_is_lem, ViewSound.sound_fits, ViewSound.sound_few, ViewSound.sound_part}
-use Rattle.admissions.specs.declared.Admission.TheVariants as admission
 
 module _ (w : List ℕ) (h : sound (run_of w) ≡ true) (F : ℕ) (line : List ℕ) where
   abbrev s : Run
@@ -24,15 +24,15 @@ module _ (w : List ℕ) (h : sound (run_of w) ≡ true) (F : ℕ) (line : List �
 
   -- The outcome of a refusal, and of a line.
   unfoldable pub refused : Refusal → Outcome LineAnswer
-  refused why = record { run = s; answer = Refused why; rose = 0; deleted = []; line = line }
+  refused why = record { run = s; answer = Err why; rose = 0; deleted = []; line = line }
 
-  by_refusal : (why : Refusal) → line_refusal s F line ≡ some why → line_outcome s F line ≡ refused why
+  by_refusal : (why : Refusal) → line_refusal s F line ≡ Some why → line_outcome s F line ≡ refused why
   unfolding line_outcome refused
   by_refusal why e = rw e
 
   pub line_short : ltb (length line) (count_of w) ≡ true → line_outcome s F line ≡ refused ListTooShort
   unfolding line_refusal
-  line_short e = by_refusal ListTooShort (refusal_in _ (some ListTooShort) (1, (rw h, tt), ap (ltb (length line)) count ∙ e, refl))
+  line_short e = by_refusal ListTooShort (refusal_in _ (Some ListTooShort) (1, (rw h, tt), ap (ltb (length line)) count ∙ e, refl))
 
   module _ (long : ltb (length line) (count_of w) ≡ false) where
     long_enough : ltb (length line) s.count ≡ false
@@ -40,35 +40,35 @@ module _ (w : List ℕ) (h : sound (run_of w) ≡ true) (F : ℕ) (line : List �
 
     set_refused : leb (2 ^ count_of w) F ≡ true → line_outcome s F line ≡ refused NoSuchFailedProcess
     unfolding line_refusal
-    set_refused o = by_refusal NoSuchFailedProcess (refusal_in _ (some NoSuchFailedProcess) (2, (rw h, (long_enough, tt)), rw count o, refl))
+    set_refused o = by_refusal NoSuchFailedProcess (refusal_in _ (Some NoSuchFailedProcess) (2, (rw h, (long_enough, tt)), rw count o, refl))
 
-    pub line_refused : (why : Refusal) → recovery_admission_of (count_of w) F ≡ admission.Refused why → line_outcome s F line ≡ refused why
+    pub line_refused : (why : Refusal) → recovery_admission_of (count_of w) F ≡ Err why → line_outcome s F line ≡ refused why
     unfolding recovery_admission_of
     line_refused why e = by_bool (leb (2 ^ count_of w) F)
         (λ o.
-        let q : admission.Refused NoSuchFailedProcess ≡ admission.Refused why = rw o at e in
+        let q : Err NoSuchFailedProcess ≡ Err why = rw o at e in
         let same : NoSuchFailedProcess ≡ why = cc in
         rw (← same) (set_refused o))
-        (λ o. let q : admission.Accepted ≡ admission.Refused why = rw o at e in absurd (false≢true cc))
+        (λ o. let q : (Ok tt) ≡ Err why = rw o at e in absurd (false≢true cc))
 
-    module _ (passed : recovery_admission_of (count_of w) F ≡ admission.Accepted) where
+    module _ (passed : recovery_admission_of (count_of w) F ≡ Ok tt) where
       inside : outside s F ≡ false
       unfolding recovery_admission_of
       inside = by_bool (leb (2 ^ count_of w) F)
-          (λ o. let q : admission.Refused NoSuchFailedProcess ≡ admission.Accepted = rw o at passed in absurd (false≢true cc))
+          (λ o. let q : Err NoSuchFailedProcess ≡ Ok tt = rw o at passed in absurd (false≢true cc))
           (λ o. rw count o)
 
       missing_outcome : no_member_of s F ≡ true → line_outcome s F line ≡ refused UnsoundState
       unfolding line_refusal
-      missing_outcome e = by_refusal UnsoundState (refusal_in _ (some UnsoundState) (3, (rw h, (long_enough, (inside, tt))), e, refl))
+      missing_outcome e = by_refusal UnsoundState (refusal_in _ (Some UnsoundState) (3, (rw h, (long_enough, (inside, tt))), e, refl))
 
-      written_outcome : no_member_of s F ≡ false → line_outcome s F line ≡ record { run = s; answer = Written; rose = 0; deleted = []; line = sets line 0 (line_of s F) }
+      written_outcome : no_member_of s F ≡ false → line_outcome s F line ≡ record { run = s; answer = Ok tt; rose = 0; deleted = []; line = sets line 0 (line_of s F) }
       unfolding line_outcome line_refusal
-      written_outcome e = let judged : line_refusal s F line ≡ none = refusal_in _ none (rw h, (long_enough, (inside, (e, tt)))) in rw judged
+      written_outcome e = let judged : line_refusal s F line ≡ None = refusal_in _ None (rw h, (long_enough, (inside, (e, tt)))) in rw judged
 
       pub line_passed : line_outcome s F line ≡ record {
         run = s;
-        answer = pick (no_member_of s F) (Refused UnsoundState) Written;
+        answer = pick (no_member_of s F) (Err UnsoundState) (Ok tt);
         rose = 0;
         deleted = [];
         line = pick (no_member_of s F) line (sets line 0 (line_of s F));

@@ -1,28 +1,27 @@
 -- A message looked up in the words is the one that the run has under way; taken out of them it is lost.
 -- Assumes nothing.
-use Rattle.std.specs.Prelude.{◌≡◌, ◌&&◌, ◌≤◌, ◌<◌}
-use Rattle.laws.specs.Basics.{refl, sym, ◌∙◌, ap, true, false, not, List, [], none, some, ℕ, zero, suc, arith, eqb, length, eq-eqb, ne_eqb, by_bool, by_eq}
+use Rattle.std.specs.Prelude.{◌≡◌, ◌&&◌, ◌≤◌, ◌<◌, Err, Ok}
+use Rattle.laws.specs.Basics.{refl, sym, ◌∙◌, ap, true, false, not, List, [], None, Some, ℕ, zero, suc, arith, eqb, length, eq-eqb, ne_eqb, by_bool, by_eq}
 use Rattle.laws.specs.{Lists.select, Lists.last_of, Lists.table, Prefixes.select_none, Rows.by_lt, Select.select_select}
 use Rattle.model.specs.{declared.Message.Message, declared.Refusal.TheVariants.NotUnderWay, declared.Run.Run, laws.Refusals.refusal_in}
 use Rattle.model.specs.{Words.with_messages, Steps.found, Steps.others, Steps.lose_state, Sound.sound, Refusals.lose_refusal}
 use Rattle.whole_runs.specs.Outcomes.{lose_outcome}
 use Rattle.words.specs.{Layout.word, Layout.wide2, Layout.end_of, Layout.message_in, Layout.is_message, Layout.messages_in, Layout.run_of, Frames.OnlyMessages}
 use Rattle.words.proofs.{View.last_is_lem, ViewChange.with_messages_lem, ViewClean.clean_messages, ViewSound.SoundWords, ViewSound.sound_words}
-use Rattle.words.specs.declared.messages.Found.TheVariants.{Nothing, At}
 use Rattle.words.specs.messages.Places.{place_below, place_of, found_at, taken_out}
 use Rattle.words.proofs.messages.Selected.{message_at, found_below, place_under, place_number, is_one}
 use Rattle.words.proofs.messages.Zeros.{clean_taken}
 use Rattle.in_place.specs.Left.{Leaves}
 use Rattle.words.proofs.messages.Taken.{taken_length, taken_count, taken_rest, taken_fits, taken_others, taken_many}
-use Rattle.model.specs.declared.LoseAnswer.TheVariants as lose-answer
+use Prim.{tt}
 
 -- Where nothing was found, and where something was.
-pub nothing : (k : ℕ) → Nothing ≡ found_at k → k ≡ 0
+pub nothing : (k : ℕ) → None ≡ found_at k → k ≡ 0
 unfolding found_at
 nothing zero e = refl
 nothing (suc k) e = absurd (let z : ◌≡◌ {A = ℕ} 0 1 = cc in omega arith)
 
-pub there : (k j : ℕ) → At j ≡ found_at k → k ≡ suc j
+pub there : (k j : ℕ) → Some j ≡ found_at k → k ≡ suc j
 unfolding found_at
 there zero j e = absurd (let z : ◌≡◌ {A = ℕ} 0 1 = cc in omega arith)
 there (suc k) j e = ap suc (let z : j ≡ k = cc in sym z)
@@ -32,7 +31,7 @@ no_number_zero : (x : Message) → (is_message x && eqb x.number 0) ≡ false
 unfolding is_message
 no_number_zero x = by_bool (eqb x.number 0) (λ e. rw e) (λ e. rw e)
 
-none_unpinned : (l : List Message) → last_of (select (λ x. eqb x.number 0) (select is_message l)) ≡ none
+none_unpinned : (l : List Message) → last_of (select (λ x. eqb x.number 0) (select is_message l)) ≡ None
 unfolding last_of
 none_unpinned l = ap last_of (select_select (λ x. eqb x.number 0) is_message l ∙ select_none (λ x. is_message x && eqb x.number 0) l no_number_zero)
 
@@ -49,11 +48,11 @@ module _ (w : List ℕ) (h : sound (run_of w) ≡ true) (m : ℕ) where
       (λ e. rw e (none_unpinned (table (end_of w) (message_in w))))
       (λ ne. rw (ne_eqb m 0 ne) (found_below w m ne (end_of w)))
 
-  pub lose_refused : place_of w m ≡ 0 → lose_outcome s m ≡ record { run = s; answer = lose-answer.Refused NotUnderWay; rose = 0; deleted = []; line = [] }
+  pub lose_refused : place_of w m ≡ 0 → lose_outcome s m ≡ record { run = s; answer = Err NotUnderWay; rose = 0; deleted = []; line = [] }
   unfolding lose_outcome lose_refusal message_at
   lose_refused e =
-      let gone : found s m ≡ none = found_is ∙ ap (message_at w) e in
-      let judged : lose_refusal s m ≡ some NotUnderWay = refusal_in _ (some NotUnderWay) (1, (rw h, tt), rw gone, refl) in
+      let gone : found s m ≡ None = found_is ∙ ap (message_at w) e in
+      let judged : lose_refusal s m ≡ Some NotUnderWay = refusal_in _ (Some NotUnderWay) (1, (rw h, tt), rw gone, refl) in
       rw judged
 
   module _ (k : ℕ) (e : place_of w m ≡ suc k) where
@@ -110,11 +109,11 @@ module _ (w : List ℕ) (h : sound (run_of w) ≡ true) (m : ℕ) where
     taken_run = with_messages_lem w v taken_only known.fit (taken_fits w known.size known.end k place_in) counted
         ∙ rw (left, last_stays)
 
-    pub lose_accepted : lose_outcome s m ≡ record { run = run_of v; answer = lose-answer.Lost; rose = 0; deleted = []; line = [] }
+    pub lose_accepted : lose_outcome s m ≡ record { run = run_of v; answer = Ok tt; rose = 0; deleted = []; line = [] }
     unfolding lose_outcome lose_refusal lose_state message_at
     lose_accepted =
-        let there : found s m ≡ some (message_in w k) = found_is ∙ ap (message_at w) e in
-        let judged : lose_refusal s m ≡ none = refusal_in _ none (rw h, (rw there, tt)) in
+        let there : found s m ≡ Some (message_in w k) = found_is ∙ ap (message_at w) e in
+        let judged : lose_refusal s m ≡ None = refusal_in _ None (rw h, (rw there, tt)) in
         rw (judged, taken_run)
 
     pub one_there : 1 ≤ word w 1

@@ -1,9 +1,11 @@
 -- The earliest call: what its outcome is, by its tests in their order.
 -- Assumes nothing.
-use Rattle.std.specs.Prelude.{◌≡◌, ◌||◌, ◌*◌, ◌≤◌}
-use Rattle.laws.specs.Basics.{refl, sym, ◌∙◌, ap, true, false, not, List, [], Option, none, some, ℕ, arith, eqb, ltb, leb, length, sets, le-ltb, ltb-false}
+use Rattle.std.specs.Prelude.{◌≡◌, ◌||◌, ◌*◌, ◌≤◌, Err, Ok}
+use Rattle.laws.specs.Basics.{refl, sym, ◌∙◌, ap, true, false, not, List, [], Option, None, Some, ℕ, arith, eqb, ltb, leb, length, sets, le-ltb, ltb-false}
 use Rattle.laws.specs.{Lists.table, Search.any_below, Tests.some_of, Truth.or_none}
-use Rattle.model.specs.declared.{Refusal.Refusal, Named.Named, Run.Run, LineAnswer.LineAnswer, LineAnswer.TheVariants.Refused, LineAnswer.TheVariants.Written}
+use Prim.{tt}
+use Rattle.model.specs.Shapes.{LineAnswer}
+use Rattle.model.specs.declared.{Refusal.Refusal, Named.Named, Run.Run}
 use Rattle.model.specs.declared.Refusal.TheVariants.{ListTooShort, NoSuchProcess, UnfitNamedList, NotKept, CausallyOrdered}
 use Rattle.model.specs.{Sound.sound, laws.Refusals.refusal_in}
 use Rattle.whole_runs.specs.Outcomes.{Outcome, judged}
@@ -22,15 +24,15 @@ module _ (w : List ℕ) (h : sound (run_of w) ≡ true) (l line : List ℕ) wher
   count = count_is_lem w (sound_fits w h)
 
   unfoldable pub refused : Refusal → Outcome LineAnswer
-  refused why = record { run = s; answer = Refused why; rose = 0; deleted = []; line = line }
+  refused why = record { run = s; answer = Err why; rose = 0; deleted = []; line = line }
 
-  by_refusal : (why : Refusal) → earliest_refusal s (named_in l) line ≡ some why → earliest_outcome s (named_in l) line ≡ refused why
+  by_refusal : (why : Refusal) → earliest_refusal s (named_in l) line ≡ Some why → earliest_outcome s (named_in l) line ≡ refused why
   unfolding earliest_outcome refused
   by_refusal why e = rw e
 
   pub reach_short : ltb (length line) (count_of w) ≡ true → earliest_outcome s (named_in l) line ≡ refused ListTooShort
   unfolding earliest_refusal
-  reach_short e = by_refusal ListTooShort (refusal_in _ (some ListTooShort) (1, (rw h, tt), ap (ltb (length line)) count ∙ e, refl))
+  reach_short e = by_refusal ListTooShort (refusal_in _ (Some ListTooShort) (1, (rw h, tt), ap (ltb (length line)) count ∙ e, refl))
 
   module _ (long : ltb (length line) (count_of w) ≡ false) where
     long_enough : ltb (length line) s.count ≡ false
@@ -38,7 +40,7 @@ module _ (w : List ℕ) (h : sound (run_of w) ≡ true) (l line : List ℕ) wher
 
     pub reach_absent : some_absent (count_of w) (named_in l) ≡ true → earliest_outcome s (named_in l) line ≡ refused NoSuchProcess
     unfolding earliest_refusal
-    reach_absent e = by_refusal NoSuchProcess (refusal_in _ (some NoSuchProcess) (2, (rw h, (long_enough, tt)), rw count e, refl))
+    reach_absent e = by_refusal NoSuchProcess (refusal_in _ (Some NoSuchProcess) (2, (rw h, (long_enough, tt)), rw count e, refl))
 
     module _ (present : some_absent (count_of w) (named_in l) ≡ false) where
       present_in : some_absent s.count (named_in l) ≡ false
@@ -46,7 +48,7 @@ module _ (w : List ℕ) (h : sound (run_of w) ≡ true) (l line : List ℕ) wher
 
       pub reach_unfit : unfit (count_of w) (named_in l) ≡ true → earliest_outcome s (named_in l) line ≡ refused UnfitNamedList
       unfolding earliest_refusal
-      reach_unfit e = by_refusal UnfitNamedList (refusal_in _ (some UnfitNamedList) (3, (rw h, (long_enough, (present_in, tt))), rw count e, refl))
+      reach_unfit e = by_refusal UnfitNamedList (refusal_in _ (Some UnfitNamedList) (3, (rw h, (long_enough, (present_in, tt))), rw count e, refl))
 
       module _ (fit : unfit (count_of w) (named_in l) ≡ false) where
         fit_in : unfit s.count (named_in l) ≡ false
@@ -54,18 +56,18 @@ module _ (w : List ℕ) (h : sound (run_of w) ≡ true) (l line : List ℕ) wher
 
         pub reach_not_kept : some_of (not_kept s) (named_in l) ≡ true → earliest_outcome s (named_in l) line ≡ refused NotKept
         unfolding earliest_refusal
-        reach_not_kept e = by_refusal NotKept (refusal_in _ (some NotKept) (4, (rw h, (long_enough, (present_in, (fit_in, tt)))), e, refl))
+        reach_not_kept e = by_refusal NotKept (refusal_in _ (Some NotKept) (4, (rw h, (long_enough, (present_in, (fit_in, tt)))), e, refl))
 
         module _ (kept : some_of (not_kept s) (named_in l) ≡ false) where
           pub reach_ordered : some_ordered s (named_in l) ≡ true → earliest_outcome s (named_in l) line ≡ refused CausallyOrdered
           unfolding earliest_refusal
-          reach_ordered e = by_refusal CausallyOrdered (refusal_in _ (some CausallyOrdered) (5, (rw h, (long_enough, (present_in, (fit_in, (kept, tt))))), e, refl))
+          reach_ordered e = by_refusal CausallyOrdered (refusal_in _ (Some CausallyOrdered) (5, (rw h, (long_enough, (present_in, (fit_in, (kept, tt))))), e, refl))
 
           pub reach_line : some_ordered s (named_in l) ≡ false
-              → earliest_outcome s (named_in l) line ≡ record { run = s; answer = Written; rose = 0; deleted = []; line = sets line 0 (earliest_line s (named_in l)) }
+              → earliest_outcome s (named_in l) line ≡ record { run = s; answer = Ok tt; rose = 0; deleted = []; line = sets line 0 (earliest_line s (named_in l)) }
           unfolding earliest_refusal earliest_outcome
           reach_line e =
-              let passed : earliest_refusal s (named_in l) line ≡ none = refusal_in _ none (rw h, (long_enough, (present_in, (fit_in, (kept, (e, tt)))))) in
+              let passed : earliest_refusal s (named_in l) line ≡ None = refusal_in _ None (rw h, (long_enough, (present_in, (fit_in, (kept, (e, tt)))))) in
               rw passed
 
 -- It changes no state.
@@ -74,10 +76,10 @@ unfolding earliest_outcome
 same_run s l line = by_judged (earliest_refusal s l line)
   where
     by_judged : (o : Option Refusal) → s ≡ (judged {A = Outcome LineAnswer} o
-        (λ r. record { run = s; answer = Refused r; rose = 0; deleted = []; line = line })
-        (record { run = s; answer = Written; rose = 0; deleted = []; line = sets line 0 (earliest_line s l) })).run
-    by_judged none = refl
-    by_judged (some r) = refl
+        (λ r. record { run = s; answer = Err r; rose = 0; deleted = []; line = line })
+        (record { run = s; answer = Ok tt; rose = 0; deleted = []; line = sets line 0 (earliest_line s l) })).run
+    by_judged None = refl
+    by_judged (Some r) = refl
 
 -- A fit list of m pairs: no more than 16.
 pub fit_few : (n : ℕ) (l : List ℕ) → unfit n (named_in l) ≡ false → pair_count_of (length l) ≤ n
@@ -137,10 +139,10 @@ module _ (w : List ℕ) (h : sound (run_of w) ≡ true) (l line : List ℕ) (m n
       ordered_out e = reach_ordered w h l line long present fit kept (sym ordered_in ∙ e)
 
       pub line_out : any_below m (λ k. before_some w f.starts m (process_of l k) (index_of_def l k)) ≡ false
-          → earliest_outcome (run_of w) (named_in l) line ≡ record { run = run_of w; answer = Written; rose = 0; deleted = []; line = sets line 0 (table n (λ p. greatest_in w f.starts p m)) }
+          → earliest_outcome (run_of w) (named_in l) line ≡ record { run = run_of w; answer = Ok tt; rose = 0; deleted = []; line = sets line 0 (table n (λ p. greatest_in w f.starts p m)) }
       line_out e =
           reach_line w h l line long present fit kept (sym ordered_in ∙ e)
-          ∙ ap (λ (x : List ℕ). record { run = run_of w; answer = Written; rose = 0; deleted = []; line = sets line 0 x }) (sym line_in)
+          ∙ ap (λ (x : List ℕ). record { run = run_of w; answer = Ok tt; rose = 0; deleted = []; line = sets line 0 x }) (sym line_in)
         where
           line_in : table n (λ p. greatest_in w f.starts p m) ≡ earliest_line (run_of w) (named_in l)
           line_in = rw (pairs, starts_are, same) (line_is l w h there few every_one)

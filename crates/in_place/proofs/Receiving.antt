@@ -1,18 +1,19 @@
 -- A delivery on the words: which one is refused, what one leaves that brings nothing new, and what one leaves that does.
 -- Assumes nothing.
-use Rattle.std.specs.Prelude.{◌≡◌, ◌&&◌, ◌+◌, ◌*◌, ◌≤◌, ◌<◌}
-use Rattle.laws.specs.Basics.{refl, sym, ◌∙◌, ap, subst, Bool, true, false, not, List, [], none, some, ℕ, suc, arith, ltb, length, sets, eqb-true, le-ltb, pick}
+use Rattle.std.specs.Prelude.{◌≡◌, ◌&&◌, ◌+◌, ◌*◌, ◌≤◌, ◌<◌, Err, Ok}
+use Rattle.laws.specs.Basics.{refl, sym, ◌∙◌, ap, subst, Bool, true, false, not, List, [], None, Some, ℕ, suc, arith, ltb, length, sets, eqb-true, le-ltb, pick}
 use Rattle.laws.specs.{Rows.and_true, Truth.and_no_right}
 use Rattle.model.specs.declared.{CheckpointIndex.CheckpointIndex, Disk.Disk, Interval.Interval, Message.Message, Refusal.Refusal, Run.Run}
-use Rattle.model.specs.declared.{Refusal.TheVariants.ListTooShort, Refusal.TheVariants.NotUnderWay, DeliverAnswer.DeliverAnswer}
-use Rattle.model.specs.declared.DeliverAnswer.TheVariants.{Refused, Received, Forced}
+use Rattle.model.specs.Shapes.{DeliverAnswer}
+use Rattle.model.specs.declared.{Refusal.TheVariants.ListTooShort, Refusal.TheVariants.NotUnderWay}
 use Rattle.model.specs.Words.{forced, live_index_of, live, Process, block_count, blocks_of, process, with_process, with_messages, with_disk}
 use Rattle.model.specs.Steps.{found, others, newer, forces, settled, listed, gone, deletions, billed, advanced, checkpointed, taken_in, risen, delivered, deliver_state, deliver_risen, deliver_deletions}
 use Rattle.model.specs.{Sound.sound, Refusals.first_of, Refusals.deliver_refusal}
 use Rattle.model.proofs.Risen.{risen_is_exact}
 use Rattle.whole_runs.specs.Outcomes.{pairs, deliver_answer, deliver_outcome}
 use Rattle.words_process.specs.{receipts.Receipt.vector_first, receipts.Sized.Sized, Moves.disk_in, Moves.Moves, Steps.received}
-use Rattle.admissions.specs.declared.Admission.{Admission}
+use Prim.{tt}
+use Rattle.admissions.specs.Admissions.{Admission}
 use Rattle.admissions.specs.Admissions.{refusal_of}
 use Rattle.words_process.proofs.{receipts.Billing.billed_none, receipts.Parts.part_back}
 use Rattle.words_process.proofs.receipts.Still.{none_newer, taken_still, settled_still, gone_still}
@@ -24,13 +25,12 @@ use Rattle.in_place.specs.{Left.Leaves, Storing.storing_admission}
 use Rattle.in_place.proofs.{Checkpointing.index_is, Checkpointing.accepted_own, Leaving.same_words}
 use Rattle.in_place.proofs.Delivering.{found_there, receiver_in, delivery_judged, delivered_state, delivered_deletions, delivered_run, delivered_leaves, move_size, move_end, move_one, move_place}
 use Rattle.in_place.proofs.Losing.{found_is, place_in, taken_run, taken_leaves}
-use Rattle.admissions.specs.declared.Admission.TheVariants as admission
 
 -- What a delivery of message m to words w, with the list l, answers and leaves.
 abbrev pub Left : List ℕ → List ℕ → ℕ → DeliverAnswer → ℕ → List ℕ → List ℕ → Type 0
 Left w l m a rose v d =
     (run_of v ≡ (deliver_outcome (run_of w) m l).run) × ((a ≡ (deliver_outcome (run_of w) m l).answer) × ((rose ≡ (deliver_outcome (run_of w) m l).rose) × ((d ≡ (deliver_outcome (run_of w) m l).deleted)
-    × (((why : Refusal) → a ≡ Refused why → v ≡ w) × Leaves w v))))
+    × (((why : Refusal) → a ≡ Err why → v ≡ w) × Leaves w v))))
 
 pub renumbered : (w l : List ℕ) (m n : ℕ) → n ≡ m → (a : DeliverAnswer) (rose : ℕ) (v d : List ℕ) → Left w l n a rose v d → Left w l m a rose v d
 renumbered w l m n e a rose v d g = subst (λ (k : ℕ). Left w l k a rose v d) e g
@@ -38,23 +38,23 @@ renumbered w l m n e a rose v d g = subst (λ (k : ℕ). Left w l k a rose v d) 
 -- What it leaves that reaches process i, takes the vector c in and stores a checkpoint first where `stores` says so.
 abbrev Takes : List ℕ → List ℕ → ℕ → ℕ → List Interval → Type 0
 Takes w l k i c =
-    (stores : Bool) → forces (process (run_of w) i) c ≡ stores → admission.Accepted ≡ pick stores (storing_admission (run_of w) i) admission.Accepted
+    (stores : Bool) → forces (process (run_of w) i) c ≡ stores → Ok tt ≡ pick stores (storing_admission (run_of w) i) (Ok tt)
     → (a : DeliverAnswer) (rose : ℕ) (v y g : List ℕ)
     → Moves w i (settled (received i stores c (process_in w i))) (billed (disk_in w) (pick stores (word w (blocks_at_of i)) 0) (blocks_of (gone (received i stores c (process_in w i))))) v
     → y ≡ taken_out v k
-    → a ≡ pick stores (Forced (live_index_of (interval_of (word w (part_at i + i)))) (length (deletions i (received i stores c (process_in w i))))) (Received (length (deletions i (received i stores c (process_in w i)))))
+    → a ≡ pick stores (Ok (record { forced = Some (live_index_of (interval_of (word w (part_at i + i)))); deleted = length (deletions i (received i stores c (process_in w i))) })) (Ok (record { forced = None; deleted = length (deletions i (received i stores c (process_in w i))) }))
     → rose ≡ risen (vector_first stores i (vector_in w (part_at i))) c
     → g ≡ sets l 0 (pairs (deletions i (received i stores c (process_in w i))))
     → Left w l (message_in w k).number a rose y g
 
 -- A verdict that is asked for only where a checkpoint is forced.
-pushed : (b : Bool) (v : Admission) → pick b (refusal_of v) none ≡ refusal_of (pick b v admission.Accepted)
+pushed : (b : Bool) (v : Admission) → pick b (refusal_of v) None ≡ refusal_of (pick b v (Ok tt))
 unfolding refusal_of
 pushed true v = refl
 pushed false v = refl
 
 -- An accepted delivery is not refused.
-not_refused : (b : Bool) (index : CheckpointIndex) (n : ℕ) (why : Refusal) → pick b (Forced index n) (Received n) ≡ Refused why → ⊥
+not_refused : (b : Bool) (index : CheckpointIndex) (n : ℕ) (why : Refusal) → pick {A = DeliverAnswer} b (Ok (record { forced = Some index; deleted = n })) (Ok (record { forced = None; deleted = n })) ≡ Err why → ⊥
 not_refused true index n why q = let z : ◌≡◌ {A = ℕ} 0 1 = cc in omega arith
 not_refused false index n why q = let z : ◌≡◌ {A = ℕ} 0 1 = cc in omega arith
 
@@ -80,21 +80,21 @@ sized w = record {
 }
 
 module _ (w : List ℕ) (h : sound (run_of w) ≡ true) (l : List ℕ) (m : ℕ) where
-  refused : (why : Refusal) → deliver_refusal (run_of w) m l ≡ some why → Left w l m (Refused why) 0 w l
+  refused : (why : Refusal) → deliver_refusal (run_of w) m l ≡ Some why → Left w l m (Err why) 0 w l
   unfolding deliver_outcome
   refused why e = rw e (refl, (refl, (refl, (refl, (λ x q. refl, same_words w)))))
 
   count : (run_of w).count ≡ count_of w
   count = count_is_lem w (sound_words w h).fit
 
-  pub list_short : ltb (length l) (2 * count_of w * count_of w) ≡ true → Left w l m (Refused ListTooShort) 0 w l
+  pub list_short : ltb (length l) (2 * count_of w * count_of w) ≡ true → Left w l m (Err ListTooShort) 0 w l
   unfolding deliver_refusal first_of
   list_short e = refused ListTooShort (rw (h, count, e))
 
-  pub not_under_way : ltb (length l) (2 * count_of w * count_of w) ≡ false → place_of w m ≡ 0 → Left w l m (Refused NotUnderWay) 0 w l
+  pub not_under_way : ltb (length l) (2 * count_of w * count_of w) ≡ false → place_of w m ≡ 0 → Left w l m (Err NotUnderWay) 0 w l
   unfolding deliver_refusal first_of message_at
   not_under_way enough e =
-      let missing : found (run_of w) m ≡ none = found_is w h m ∙ ap (message_at w) e in
+      let missing : found (run_of w) m ≡ None = found_is w h m ∙ ap (message_at w) e in
       let long : ltb (length l) (2 * (run_of w).count * (run_of w).count) ≡ false = ap (λ (n : ℕ). ltb (length l) (2 * n * n)) count ∙ enough in
       refused NotUnderWay (rw (h, long, missing))
 
@@ -124,17 +124,17 @@ module _ (w : List ℕ) (h : sound (run_of w) ≡ true) (l : List ℕ) (k : ℕ)
   same = sound_process_is w h i inside
 
   -- What is refused, by whether a checkpoint is forced.
-  judged : (stores : Bool) → forces (process s i) c ≡ stores → deliver_refusal s m l ≡ refusal_of (pick stores (storing_admission s i) admission.Accepted)
+  judged : (stores : Bool) → forces (process s i) c ≡ stores → deliver_refusal s m l ≡ refusal_of (pick stores (storing_admission s i) (Ok tt))
   judged stores f =
       delivery_judged w h m k e l (le-ltb (length l) (2 * count_of w * count_of w) enough)
-      ∙ ap (λ (b : Bool). pick b (refusal_of (storing_admission s i)) none) f
+      ∙ ap (λ (b : Bool). pick b (refusal_of (storing_admission s i)) None) f
       ∙ pushed stores (storing_admission s i)
 
-  pub not_taken : (stores : Bool) → forces (process s i) c ≡ stores → (why : Refusal) → admission.Refused why ≡ pick stores (storing_admission s i) admission.Accepted → Left w l m (Refused why) 0 w l
+  pub not_taken : (stores : Bool) → forces (process s i) c ≡ stores → (why : Refusal) → Err why ≡ pick stores (storing_admission s i) (Ok tt) → Left w l m (Err why) 0 w l
   unfolding refusal_of
   not_taken stores f why q = refused w h l m why (judged stores f ∙ ap refusal_of (sym q))
 
-  accepted : deliver_refusal s m l ≡ none
+  accepted : deliver_refusal s m l ≡ None
       → deliver_outcome s m l ≡ record { run = deliver_state s x; answer = deliver_answer s x; rose = deliver_risen s x; deleted = sets l 0 (pairs (deliver_deletions s x)); line = [] }
   unfolding deliver_outcome
   accepted fine = rw (fine, found_there w h m k e)
@@ -175,9 +175,9 @@ module _ (w : List ℕ) (h : sound (run_of w) ≡ true) (l : List ℕ) (k : ℕ)
     unfolding deliver_deletions deletions
     still_deletes = ap (listed i) gone_none
 
-    still_answer : deliver_answer s x ≡ Received 0
+    still_answer : deliver_answer s x ≡ Ok (record { forced = None; deleted = 0 })
     unfolding deliver_answer listed
-    still_answer = (λ j. pick (forces_none j) (Forced (live i (process s i)).index (length (still_deletes j))) (Received (length (still_deletes j))))
+    still_answer = (λ j. pick (forces_none j) (Ok (record { forced = Some (live i (process s i)).index; deleted = length (still_deletes j) })) (Ok (record { forced = None; deleted = length (still_deletes j) })))
 
     still_rose : deliver_risen s x ≡ 0
     unfolding deliver_risen process_in
@@ -186,11 +186,11 @@ module _ (w : List ℕ) (h : sound (run_of w) ≡ true) (l : List ℕ) (k : ℕ)
         ∙ ap (λ (P : Process). risen P.vector c) same
         ∙ eqb-true (risen (vector_in w (part_at i)) c) 0 ((risen_is_exact (vector_in w (part_at i)) c).nothing ∙ ap not still)
 
-    fine_still : deliver_refusal s m l ≡ none
+    fine_still : deliver_refusal s m l ≡ None
     unfolding refusal_of
     fine_still = judged false forces_none
 
-    pub still_out : (v : List ℕ) → v ≡ taken_out w k → Left w l m (Received 0) 0 v l
+    pub still_out : (v : List ℕ) → v ≡ taken_out w k → Left w l m (Ok (record { forced = None; deleted = 0 })) 0 v l
     still_out v out = rw (accepted fine_still, out) (
       taken_run w h m k e ∙ sym still_state,
       (
@@ -210,8 +210,8 @@ module _ (w : List ℕ) (h : sound (run_of w) ≡ true) (l : List ℕ) (k : ℕ)
   unfolding forces process_in
   forces_marked brings = ap (λ (P : Process). forces P c) same ∙ ap (λ (b : Bool). mark_in w i && b) brings ∙ and_true (mark_in w i)
 
-  module _ (stores : Bool) (f : forces (process s i) c ≡ stores) (passed : admission.Accepted ≡ pick stores (storing_admission s i) admission.Accepted) where
-    fine : deliver_refusal s m l ≡ none
+  module _ (stores : Bool) (f : forces (process s i) c ≡ stores) (passed : (Ok tt) ≡ pick stores (storing_admission s i) (Ok tt)) where
+    fine : deliver_refusal s m l ≡ None
     unfolding refusal_of
     fine = judged stores f ∙ ap refusal_of (sym passed)
 
@@ -221,16 +221,16 @@ module _ (w : List ℕ) (h : sound (run_of w) ≡ true) (l : List ℕ) (k : ℕ)
     abbrev d : Disk
     d = billed (disk_in w) (pick stores (word w (blocks_at_of i)) 0) (blocks_of (gone Q))
 
-    answer_is : deliver_answer s x ≡ pick stores (Forced (live_index_of (interval_of (word w (part_at i + i)))) (length (deletions i Q))) (Received (length (deletions i Q)))
+    answer_is : deliver_answer s x ≡ pick stores (Ok (record { forced = Some (live_index_of (interval_of (word w (part_at i + i)))); deleted = length (deletions i Q) })) (Ok (record { forced = None; deleted = length (deletions i Q) }))
     unfolding deliver_answer
-    answer_is = λ j. pick (f j) (Forced (index_is w h i inside j) (length (delivered_deletions w h m k e stores f j))) (Received (length (delivered_deletions w h m k e stores f j)))
+    answer_is = λ j. pick (f j) (Ok (record { forced = Some (index_is w h i inside j); deleted = length (delivered_deletions w h m k e stores f j) })) (Ok (record { forced = None; deleted = length (delivered_deletions w h m k e stores f j) }))
 
     rose_is : deliver_risen s x ≡ risen (vector_first stores i (vector_in w (part_at i))) c
     unfolding deliver_risen vector_first process_in
     rose_is = λ j. risen (pick (f j) (advanced i (same j).vector) (same j).vector) c
 
     taken : (a : DeliverAnswer) (rose : ℕ) (v y g : List ℕ) → Moves w i (settled Q) d v → y ≡ taken_out v k
-        → a ≡ pick stores (Forced (live_index_of (interval_of (word w (part_at i + i)))) (length (deletions i Q))) (Received (length (deletions i Q)))
+        → a ≡ pick stores (Ok (record { forced = Some (live_index_of (interval_of (word w (part_at i + i)))); deleted = length (deletions i Q) })) (Ok (record { forced = None; deleted = length (deletions i Q) }))
         → rose ≡ risen (vector_first stores i (vector_in w (part_at i))) c → g ≡ sets l 0 (pairs (deletions i Q)) → Left w l m a rose y g
     taken a rose v y g move out answer rises list = rw (accepted fine, out) (
       delivered_run w h m k e (settled Q) d v move ∙ sym (delivered_state w h m k e stores f),
@@ -255,8 +255,8 @@ module _ (w : List ℕ) (h : sound (run_of w) ≡ true) (l : List ℕ) (k : ℕ)
   unfolding message_in
   place_there = (omega (arith, place_in w h m k e, (sound_words w h).end), receiver_in w h m k e)
 
-  pub own_early : (p : ℕ) → p < count_of w → (stores : Bool) → admission.Accepted ≡ pick stores (storing_admission s p) admission.Accepted → stores ≡ true → word w (part_at p + p) < 65535
-  own_early p lt stores passed q = accepted_own w h p lt (passed ∙ ap (λ (b : Bool). pick b (storing_admission s p) admission.Accepted) q)
+  pub own_early : (p : ℕ) → p < count_of w → (stores : Bool) → Ok tt ≡ pick stores (storing_admission s p) (Ok tt) → stores ≡ true → word w (part_at p + p) < 65535
+  own_early p lt stores passed q = accepted_own w h p lt (passed ∙ ap (λ (b : Bool). pick b (storing_admission s p) (Ok tt)) q)
 
   pub out_there : (p : ℕ) → p ≡ (message_in w k).receiver → (P : Process) (t : Disk) (v : List ℕ) → Moves w p P t v → (length v ≡ 6464) × (end_of v ≤ 64) × (k < 64) × (1 ≤ word v 1)
   out_there p q P t v move =

@@ -1,7 +1,7 @@
 -- A recovery that deletes nothing leaves a sound state sound, whether calls led to it or not: a process that goes back keeps its last stored checkpoint, so no own entry
 -- falls, and every vector stays within the own entries.
 -- Assumes nothing.
-use Rattle.std.specs.Prelude.{◌≡◌, ◌&&◌, ◌∷◌, ◌+◌, ◌≤◌, ◌<◌}
+use Rattle.std.specs.Prelude.{◌≡◌, ◌&&◌, ◌∷◌, ◌+◌, ◌≤◌, ◌<◌, None, Some}
 use Rattle.laws.specs.Basics.{refl, sym, ◌∙◌, ap, Bool, true, false, not, List, [], ℕ, zero, suc, arith, eqb, leb, length, get_or, drop, eq-eqb, eqb-true, lt-ltb, le-ltb, ltb-true, le-leb, leb-true, by_bool, by_eq}
 use lib.Dec.{leb-suc-zero}
 use lib.ListN.{length-map}
@@ -10,7 +10,7 @@ use Rattle.laws.specs.{Elements.every_append, Elements.every_single, Elements.ev
 use Rattle.laws.specs.{Prefixes.select_none, Prefixes.every_select, Prefixes.every_last, Select.all_chosen, Tables.get_d_table, Tables.length_table, Tests.every}
 use Rattle.laws.specs.{Rows.every_at, Rows.every_by, Rows.every_beyond, Rows.every_both, Rows.some_at, Truth.and_out, Truth.and_both}
 use Rattle.laws.specs.Sums.{sum_below, sum_none, sum_same, length_gather}
-use Rattle.model.specs.declared.{Interval.Interval, CheckpointIndex.CheckpointIndex, Pin.TheVariants.Nothing, Pin.TheVariants.At, Checkpoint.Checkpoint}
+use Rattle.model.specs.declared.{Interval.Interval, CheckpointIndex.CheckpointIndex, Checkpoint.Checkpoint}
 use Rattle.model.specs.{declared.Message.Message, declared.Disk.Disk, declared.Run.Run, laws.Sound.SoundProcess, laws.Sound.SoundState, laws.Sound.sound_state}
 use Rattle.model.specs.Words.{most_processes, entry, below, last_stored_of, names, is_pinned, Process, live, blocks_of, no_checkpoint, block_count, process, with_process, own, under_way, with_messages, with_disk}
 use Rattle.model.specs.Steps.{Deletion, listed, advanced, with_processes, allowed, states, latest_allowed, member, rolled_back, vector_after, not_lost, own_after, latest_pin, moved_pin, pin_after, pins_after, recovered, lost_by, still_under_way, gone_at_of, deleted_at, billed, recover_state, recover_deletions}
@@ -48,19 +48,19 @@ unfolding with_messages with_disk
 disk_first s l k d = refl
 
 -- The pin for the last of some checkpoints: it names one of them, and it names the index of the last.
-latest_sound : (kept l : List Checkpoint) → every (λ c. pin_sound kept (At c.index)) l ≡ true → pin_sound kept (latest_pin (last_of l)) ≡ true
+latest_sound : (kept l : List Checkpoint) → every (λ c. pin_sound kept (Some c.index)) l ≡ true → pin_sound kept (latest_pin (last_of l)) ≡ true
 unfolding last_of latest_pin every pin_sound
 latest_sound kept [] h = refl
 latest_sound kept (x ∷ l) h =
-    let q = and_out (pin_sound kept (At x.index)) (every (λ c. pin_sound kept (At c.index)) l) h in
-    every_last (λ c. pin_sound kept (At c.index)) l x q.1 q.0
+    let q = and_out (pin_sound kept (Some x.index)) (every (λ c. pin_sound kept (Some c.index)) l) h in
+    every_last (λ c. pin_sound kept (Some c.index)) l x q.1 q.0
 
 latest_names : (l : List Checkpoint) (d : Checkpoint) (a : CheckpointIndex) → 1 ≤ length l → (or_else (last_of l) d).index.0 ≡ a.0 → names (latest_pin (last_of l)) a ≡ true
 unfolding last_of latest_pin
 latest_names [] d a some-there e = absurd (omega arith)
 latest_names (x ∷ l) d a some-there e = eq-eqb (or_else (last_of l) x).index.0 a.0 e
 
-self_sound : (kept : List Checkpoint) → every (λ c. pin_sound kept (At c.index)) kept ≡ true
+self_sound : (kept : List Checkpoint) → every (λ c. pin_sound kept (Some c.index)) kept ≡ true
 unfolding pin_sound
 self_sound kept = every_by _ kept no_checkpoint (λ k lt. let a = (get_or kept k no_checkpoint).index in some_at _ kept k no_checkpoint lt (eq-eqb a.0 a.0 refl))
 
@@ -170,9 +170,9 @@ module _ (s : Run) (size : Sized s) (whole : sound s ≡ true) (F : ℕ) (still 
         (λ e. rw e q.vector_unused)
 
     -- its pins
-    pin_at : (f : ℕ) → f < most_processes → get_or (pins_after s F p) f Nothing ≡ pin_after s F p f
+    pin_at : (f : ℕ) → f < most_processes → get_or (pins_after s F p) f None ≡ pin_after s F p f
     unfolding pins_after
-    pin_at f less = get_d_table most_processes (pin_after s F p) f Nothing less
+    pin_at f less = get_d_table most_processes (pin_after s F p) f None less
 
     all_below : rolled_back s F p ≡ true → every (λ x. below (entry x.vector p) (own_after s F p)) (process s p).kept ≡ true
     all_below e = every_by _ (process s p).kept no_checkpoint (λ k less.
@@ -189,7 +189,7 @@ module _ (s : Run) (size : Sized s) (whole : sound s ≡ true) (F : ℕ) (still 
     moved_own_lem e = rw (none_lost, all_chosen (λ x. below (entry x.vector p) (own_after s F p)) (process s p).kept (all_below e))
         (latest_names (process s p).kept no_checkpoint (last_stored_of (own s p)) kept_some q.kept_last)
 
-    own_pin : names (get_or (pins_after s F p) p Nothing) (last_stored_of (own s p)) ≡ true
+    own_pin : names (get_or (pins_after s F p) p None) (last_stored_of (own s p)) ≡ true
     unfolding pin_after own_after
     own_pin = rw (pin_at p (place s whole p lt), eq-eqb (entry (vector_after s F p) p).0 (entry (vector_after s F p) p).0 refl)
         (by_bool (rolled_back s F p) (λ e. rw e (moved_own_lem e)) (λ e. rw e q.own_pin))
@@ -207,7 +207,7 @@ module _ (s : Run) (size : Sized s) (whole : sound s ≡ true) (F : ℕ) (still 
     pins_kept = every_table (pin_sound (process s p).kept) most_processes (pin_after s F p) (λ f less. by_bool (eqb (entry (vector_after s F p) f).0 (own_after s F f).0)
         (λ e. rw e (by_bool (rolled_back s F p)
         (λ r. rw r (moved_sound f))
-        (λ r. rw r (every_at _ (process s p).pins f Nothing (omega (arith, less, pins_long)) q.pins_kept))))
+        (λ r. rw r (every_at _ (process s p).pins f None (omega (arith, less, pins_long)) q.pins_kept))))
         (λ e. rw e))
 
   -- Past the run every own entry is zero, and stays so.
@@ -229,7 +229,7 @@ module _ (s : Run) (size : Sized s) (whole : sound s ≡ true) (F : ℕ) (still 
     own_past = rw nobody own_zero
 
   module _ (p : ℕ) (lt : p < s.count) where
-    moved_past : (f : ℕ) → s.count ≤ f → f < most_processes → moved_pin s F p f ≡ Nothing
+    moved_past : (f : ℕ) → s.count ≤ f → f < most_processes → moved_pin s F p f ≡ None
     unfolding moved_pin latest_pin last_of
     moved_past f past less =
         rw (select_none (λ x. below (entry x.vector f) (own_after s F f)) (not_lost s F p) (λ x. rw (own_past f past less) (leb-suc-zero (entry x.vector f).0)))
@@ -242,12 +242,12 @@ module _ (s : Run) (size : Sized s) (whole : sound s ≡ true) (F : ℕ) (still 
         (λ r. rw r old)))
         (λ e. rw e)
       where
-        old : is_nothing_of (get_or (process s p).pins f Nothing) ≡ true
-        old = every_beyond is_nothing_of s.count (process s p).pins f Nothing ((sound_state s whole).processes p lt).pins_unused past (omega (arith, less, pins_long p lt))
+        old : is_nothing_of (get_or (process s p).pins f None) ≡ true
+        old = every_beyond is_nothing_of s.count (process s p).pins f None ((sound_state s whole).processes p lt).pins_unused past (omega (arith, less, pins_long p lt))
 
     pins_unused : nothing_from s.count (pins_after s F p) ≡ true
     unfolding nothing_from pins_after
-    pins_unused = every_from is_nothing_of Nothing s.count (pins_after s F p) (λ f past less.
+    pins_unused = every_from is_nothing_of None s.count (pins_after s F p) (λ f past less.
         let inside : f < most_processes = omega (arith, less, length_table most_processes (pin_after s F p)) in
         ap is_nothing_of (pin_at p lt f inside) ∙ pin_past f past inside)
 

@@ -1,12 +1,12 @@
 -- What a send leaves of the words stands for the state that document 01 has.
 -- Assumes nothing.
-use Rattle.std.specs.Prelude.{◌≡◌, ◌∷◌, ◌++◌, ◌+◌, ◌-◌, ◌*◌, ◌≤◌, ◌<◌}
-use Rattle.laws.specs.Basics.{refl, sym, ◌∙◌, ap, true, List, [], none, some, ℕ, arith, eqb, length, length-append, ne_eqb, eqb-true, eqb-false, by_bool}
+use Rattle.std.specs.Prelude.{◌≡◌, ◌∷◌, ◌++◌, ◌+◌, ◌-◌, ◌*◌, ◌≤◌, ◌<◌, Err, Ok}
+use Rattle.laws.specs.Basics.{refl, sym, ◌∙◌, ap, true, List, [], None, Some, ℕ, arith, eqb, length, length-append, ne_eqb, eqb-true, eqb-false, by_bool}
 use Rattle.model.specs.declared.{Message.Message, Refusal.Refusal}
 use Rattle.model.specs.{Words.process, Words.with_process, Words.under_way, Words.with_messages, Steps.sent_message, Steps.marked, Steps.send_state}
 use Rattle.model.specs.{Sound.sound, Refusals.unsound, Refusals.send_refusal, laws.Refusals.skipped}
 use Rattle.whole_runs.specs.Outcomes.{send_outcome}
-use Rattle.admissions.specs.declared.Admission.TheVariants.{Accepted, Refused}
+use Prim.{tt}
 use Rattle.admissions.specs.Admissions.{refusal_of, send_admission_of}
 use Rattle.admissions.proofs.Cases.{accepted_send, admission_rules}
 use Rattle.words.specs.Layout.{state_size, word, wide2, count_of, end_of, kept_count_at_of, mark_at, blocks_at_of, part_at, pins_at_of, mark_in, is_message, messages_in, end_fits_of, run_of}
@@ -20,7 +20,6 @@ use Rattle.words.proofs.messages.Closed.{closed_length, closed_rest, closed_mess
 use Rattle.words.proofs.messages.Added.{added_length, added_count, added_rest, added_messages, added_fits}
 use Rattle.words.proofs.messages.Zeros.{clean_closed, clean_added}
 use Rattle.in_place.specs.{Left.Leaves, Sending.sent_in, Sending.sent_words}
-use Rattle.model.specs.declared.SendAnswer.TheVariants as send-answer
 
 -- A place is left: the same messages, and nothing else has changed but their places.
 pub record EnoughRoom (w v : List ℕ) : Type 0 where
@@ -223,17 +222,17 @@ module _ (w : List ℕ) (h : sound (run_of w) ≡ true) (i j : ℕ) where
       skipped (unsound (run_of w)) _ (rw h)
       ∙ rw (count_is_lem w k.fit, underway_is w k.fit, last_is_lem w k.fit) (sym (admission_rules i j (count_of w) (word w 1) (wide2 w 2)))
 
-  pub send_refused : (why : Refusal) → send_admission_of i j (count_of w) (word w 1) (wide2 w 2) ≡ Refused why
-      → send_outcome (run_of w) i j ≡ record { run = run_of w; answer = send-answer.Refused why; rose = 0; deleted = []; line = [] }
+  pub send_refused : (why : Refusal) → send_admission_of i j (count_of w) (word w 1) (wide2 w 2) ≡ Err why
+      → send_outcome (run_of w) i j ≡ record { run = run_of w; answer = Err why; rose = 0; deleted = []; line = [] }
   unfolding send_outcome refusal_of
-  send_refused why e = let judged : send_refusal (run_of w) i j ≡ some why = rules ∙ ap refusal_of e in rw judged
+  send_refused why e = let judged : send_refusal (run_of w) i j ≡ Some why = rules ∙ ap refusal_of e in rw judged
 
-  module _ (e : send_admission_of i j (count_of w) (word w 1) (wide2 w 2) ≡ Accepted) where
+  module _ (e : send_admission_of i j (count_of w) (word w 1) (wide2 w 2) ≡ Ok tt) where
     pub send_places : (i < count_of w) × (j < count_of w) × (word w 1 < 64) × (wide2 w 2 < 1000000)
     send_places = accepted_send i j (count_of w) (word w 1) (wide2 w 2) e
 
-    pub send_accepted : send_outcome (run_of w) i j ≡ record { run = run_of (sent_words w i j); answer = send-answer.Sent (wide2 w 2 + 1); rose = 0; deleted = []; line = [] }
+    pub send_accepted : send_outcome (run_of w) i j ≡ record { run = run_of (sent_words w i j); answer = Ok (wide2 w 2 + 1); rose = 0; deleted = []; line = [] }
     unfolding send_outcome refusal_of
     send_accepted =
-        let judged : send_refusal (run_of w) i j ≡ none = rules ∙ ap refusal_of e in
+        let judged : send_refusal (run_of w) i j ≡ None = rules ∙ ap refusal_of e in
         rw (judged, sent_run w h i j send_places.0 send_places.2, last_is_lem w (sound_words w h).fit)

@@ -1,10 +1,10 @@
 -- What a start leaves of the words stands for the first state of a run, and holds zero in every unused place.
 -- Assumes nothing.
-use Rattle.std.specs.Prelude.{◌≡◌, ◌&&◌, ◌∷◌, ◌+◌, ◌-◌, ◌*◌, ◌≤◌, ◌<◌}
-use Rattle.laws.specs.Basics.{refl, sym, ◌∙◌, ap, true, false, not, List, [], none, ℕ, zero, suc, arith, eqb, leb, length, get_or, take, set, replicate, length-set, length-replicate, get_or-replicate, get_or-set_same, get_or-set_other, eq-eqb, eqb-true, le-ltb, ltb-false, leb-true, not-false, by_bool, by_eq}
+use Rattle.std.specs.Prelude.{◌≡◌, ◌&&◌, ◌∷◌, ◌+◌, ◌-◌, ◌*◌, ◌≤◌, ◌<◌, Some}
+use Rattle.laws.specs.Basics.{refl, sym, ◌∙◌, ap, true, false, not, List, [], None, ℕ, zero, suc, arith, eqb, leb, length, get_or, take, set, replicate, length-set, length-replicate, get_or-replicate, get_or-set_same, get_or-set_other, eq-eqb, eqb-true, le-ltb, ltb-false, leb-true, not-false, by_bool, by_eq}
 use native.Mathlib.Numerals.{add-one}
 use Rattle.laws.specs.{Lists.table, Search.all_below, Search.any_none, Search.all_in, Sums.sum_below, Tables.table_is, Truth.and_right}
-use Rattle.model.specs.declared.{Interval.Interval, Pin.TheVariants.Nothing, Pin.TheVariants.At, Checkpoint.Checkpoint}
+use Rattle.model.specs.declared.{Interval.Interval, Checkpoint.Checkpoint}
 use Rattle.model.specs.{Words.zero_vector, Words.no_pins_of, Words.blank, Sound.is_block_count_of}
 use Rattle.model.specs.{Steps.with_processes, Steps.checkpoint_zero, Steps.started, Steps.start_state, Steps.opening, Words.ones, Words.most_processes}
 use Rattle.model.specs.{laws.Refusals.no_rule, laws.Refusals.by_refusal, Refusals.first_of, Refusals.start_refusal}
@@ -127,12 +127,12 @@ module _ (n : ℕ) (block_counts : List ℕ) (few : n ≤ 16) where
         (λ ne. zero_part f (omega arith) ne (λ z. omega arith) (λ z. omega arith)
         ∙ ap (λ (x : Interval). x.0) (sym (get_or-set_other zero_vector k f (record { 0 = 1 }) (record { 0 = 0 }) ne ∙ get_or-replicate 16 f (record { 0 = 0 }) (record { 0 = 0 }) less))))
 
-    pins_first : pins_in v (pins_at_of k) ≡ set no_pins_of k (At (record { 0 = 0 }))
+    pins_first : pins_in v (pins_at_of k) ≡ set no_pins_of k (Some (record { 0 = 0 }))
     unfolding pins_in pin_of_def
-    pins_first = sym (table_is Nothing (set no_pins_of k (At (record { 0 = 0 }))) 16 (λ f. pin_of_def (word v (pins_at_of k + f))) (length-set no_pins_of k (At (record { 0 = 0 })))
+    pins_first = sym (table_is None (set no_pins_of k (Some (record { 0 = 0 }))) 16 (λ f. pin_of_def (word v (pins_at_of k + f))) (length-set no_pins_of k (Some (record { 0 = 0 })))
         (λ f less. by_eq f k
-        (λ e. rw e (get_or-set_same no_pins_of k (At (record { 0 = 0 })) Nothing room ∙ ap pin_of_def (sym own_pin)))
-        (λ ne. get_or-set_other no_pins_of k f (At (record { 0 = 0 })) Nothing ne ∙ get_or-replicate 16 f Nothing Nothing less ∙ ap pin_of_def (sym (pin_word f less ne)))))
+        (λ e. rw e (get_or-set_same no_pins_of k (Some (record { 0 = 0 })) None room ∙ ap pin_of_def (sym own_pin)))
+        (λ ne. get_or-set_other no_pins_of k f (Some (record { 0 = 0 })) None ne ∙ get_or-replicate 16 f None None less ∙ ap pin_of_def (sym (pin_word f less ne)))))
       where
         pin_word : (f : ℕ) → f < 16 → (f ≡ k → ⊥) → word v (pins_at_of k + f) ≡ 0
         pin_word f less ne = ap (word v) (let e : pins_at_of k + f ≡ part_at k + (16 + f) = omega arith in e) ∙ zero_part (16 + f) (omega arith) (λ z. omega arith) (λ z. ne (omega arith)) (λ z. omega arith)
@@ -265,7 +265,7 @@ unfolding fits
 not_size w q = rw q
 
 -- An accepted start has 1 to 16 processes and words of the right number.
-module _ (many n : ℕ) (block_counts : List ℕ) (fine : start_refusal_in many n block_counts ≡ none) where
+module _ (many n : ℕ) (block_counts : List ℕ) (fine : start_refusal_in many n block_counts ≡ None) where
   pub accepted_few : n ≤ 16
   unfolding start_refusal_in
   accepted_few = leb-true n 16 (and_right (leb 1 n) (leb n 16) (not-false _ (no_rule _ fine 0)))

@@ -1,9 +1,11 @@
 -- A start on the words: all of them zero, then n and the block counts, then checkpoint 0 of each process, then the blocks that these take.
 -- Assumes nothing.
-use Rattle.std.specs.Prelude.{◌≡◌, ◌&&◌, ◌∷◌, ◌+◌, ◌≤◌}
+use Rattle.std.specs.Prelude.{◌≡◌, ◌&&◌, ◌∷◌, ◌+◌, ◌≤◌, Err, Ok}
 use Rattle.laws.specs.Basics.{not, List, [], Option, ℕ, zero, suc, eqb, ltb, leb, length, get_or, replicate, pick}
 use Rattle.laws.specs.{Search.any_below, Sums.sum_below}
-use Rattle.model.specs.declared.{Refusal.Refusal, StartAnswer.StartAnswer, StartAnswer.TheVariants.Refused, StartAnswer.TheVariants.Started}
+use Prim.{tt}
+use Rattle.model.specs.Shapes.{StartAnswer}
+use Rattle.model.specs.declared.Refusal.{Refusal}
 use Rattle.model.specs.declared.Refusal.TheVariants.{CountOutsideRange, UnsoundState, ListTooShort, BlockCountOutsideRange}
 use Rattle.model.specs.{Words.most_processes, Words.blank, Steps.start_state, Sound.is_block_count_of, Refusals.first_of}
 use Rattle.whole_runs.specs.Outcomes.{Outcome, judged, start_outcome}
@@ -49,8 +51,8 @@ start_refusal_in many n block_counts = first_of (
 -- The outcome: "A refused start returns a state of zeros with every pin none".
 unfoldable pub start_outcome_in : ℕ → ℕ → List ℕ → Outcome StartAnswer
 start_outcome_in many n block_counts = judged (start_refusal_in many n block_counts)
-    (λ why. record { run = blank 0; answer = Refused why; rose = 0; deleted = []; line = [] })
-    (record { run = start_state n block_counts; answer = Started; rose = 0; deleted = []; line = [] })
+    (λ why. record { run = blank 0; answer = Err why; rose = 0; deleted = []; line = [] })
+    (record { run = start_state n block_counts; answer = Ok tt; rose = 0; deleted = []; line = [] })
 
 -- Where enough is lent, it is the outcome of document 01's start.
 unfoldable pub StartsTheSame : Type 0

@@ -1,17 +1,15 @@
 // Deliver message m to its receiver, which takes in the vector that it carries, and stores a checkpoint first where that is forced.
-ghost use Rattle.std.specs.Prelude.{◌≡◌, ◌*◌, ◌≤◌, ◌<◌};
+ghost use Rattle.std.specs.Prelude.{◌≡◌, ◌*◌, ◌≤◌, ◌<◌, Ok, Err, Some, None};
 ghost use Rattle.laws.specs.Basics.{true, suc, length, pick};
 ghost use Rattle.model.specs.declared.Refusal.{Refusal};
 ghost use Rattle.model.specs.{Words.live_index_of, Words.process, Words.most_processes, Steps.forces, Sound.sound};
-ghost use Rattle.admissions.specs.declared.Admission.TheVariants.{Accepted};
 ghost use Rattle.whole_runs.specs.{Outcomes.deliver_outcome, WholeRuns.StatePromise};
 ghost use Rattle.words.specs.{Layout.count_of, Layout.mark_in, Layout.message_in, Layout.run_of, Layout.state_size, messages.Places.place_of};
 ghost use Rattle.in_place.specs.{Left.Leaves, Storing.storing_admission};
 ghost use Rattle.whole_runs.specs.Calls as made;
 
 use admissions::Admission;
-use model::{DeliverAnswer, Interval, PROCESSES, Refusal};
-use words::messages::Found;
+use model::{DeliverAnswer, Delivery, Interval, PROCESSES, Refusal};
 use words::places;
 
 // What a deliver call answers. `rose` is the set of the receiver's entries that rose, bit f for entry f; 0 with a refusal.
@@ -22,22 +20,28 @@ pub struct Delivered {
 }
 
 fn refuse(why: Refusal) -> Delivered
-    ensures { result ≡ record { answer = DeliverAnswer.Refused why; rose = 0 } }
+    ensures { result ≡ record { answer = Err why; rose = 0 } }
 {
-    let answer = DeliverAnswer::Refused(why);
+    let answer = Err(why);
     Delivered { answer, rose: 0 }
 }
 
 // The answer of an accepted delivery to a process with this own entry before it.
 fn answer_of(forced: bool, own: Interval, count: usize) -> DeliverAnswer
     requires { 1 ≤ own.0 }
-    ensures { result ≡ pick forced (DeliverAnswer.Forced (live_index_of own) count) (DeliverAnswer.Received count) }
+    ensures { result ≡ pick forced (Ok (record { forced = Some (live_index_of own); deleted = count })) (Ok (record { forced = None; deleted = count })) }
 {
     if forced {
         let index = words::rows::vector::live_index(own);
-        DeliverAnswer::Forced(index, count)
+        Ok(Delivery {
+            forced: Some(index),
+            deleted: count,
+        })
     } else {
-        DeliverAnswer::Received(count)
+        Ok(Delivery {
+            forced: None,
+            deleted: count,
+        })
     }
 }
 
@@ -52,12 +56,12 @@ fn has_sent(w: &[u16], i: usize) -> bool
 // Whether a delivery to process i is refused, and why. One that forces no checkpoint is not.
 fn forced_admission(w: &[u16], i: usize, forced: bool) -> Admission
     requires { (sound (run_of w.now) ≡ true) × (i < count_of w.now) }
-    ensures { result ≡ pick forced (storing_admission (run_of w.now) i) Accepted }
+    ensures { result ≡ pick forced (storing_admission (run_of w.now) i) (Ok tt) }
 {
     if forced {
         return super::checkpoint::storing_admission(w, i);
     }
-    Admission::Accepted
+    Ok(())
 }
 
 // The message in place k reaches its receiver i: a checkpoint is stored first, if one is forced, and then i takes the carried vector in.
@@ -70,12 +74,12 @@ fn take_from(
     deleted: &mut [u16],
 ) -> Delivered
     requires w_value { (sound (run_of w.old) ≡ true) × (place_of w.old (message_in w.old k).number ≡ suc k) × (2 * count_of w.old * count_of w.old ≤ length deleted.old) }
-    requires i_value { (i ≡ (message_in w.old k).receiver) × (carried ≡ (message_in w.old k).vector) × (forces (process (run_of w.old) i) carried ≡ forced) × (Accepted ≡ pick forced (storing_admission (run_of w.old) i) Accepted) }
+    requires i_value { (i ≡ (message_in w.old k).receiver) × (carried ≡ (message_in w.old k).vector) × (forces (process (run_of w.old) i) carried ≡ forced) × (Ok tt ≡ pick forced (storing_admission (run_of w.old) i) (Ok tt)) }
     ensures w_after { run_of w.new ≡ (deliver_outcome (run_of w.old) (message_in w.old k).number deleted.old).run }
     ensures answer_value { result.answer ≡ (deliver_outcome (run_of w.old) (message_in w.old k).number deleted.old).answer }
     ensures rose_value { result.rose ≡ (deliver_outcome (run_of w.old) (message_in w.old k).number deleted.old).rose }
     ensures deleted_after { deleted.new ≡ (deliver_outcome (run_of w.old) (message_in w.old k).number deleted.old).deleted }
-    ensures w_unchanged { (why : Refusal) → result.answer ≡ DeliverAnswer.Refused why → w.new ≡ w.old }
+    ensures w_unchanged { (why : Refusal) → result.answer ≡ Err why → w.new ≡ w.old }
     ensures leaves { Leaves w.old w.new }
 {
     let own = words_process::steps::own_of(w, i);
@@ -93,7 +97,7 @@ fn deliver_from(w: &mut [u16], k: usize, deleted: &mut [u16]) -> Delivered
     ensures answer_value { result.answer ≡ (deliver_outcome (run_of w.old) (message_in w.old k).number deleted.old).answer }
     ensures rose_value { result.rose ≡ (deliver_outcome (run_of w.old) (message_in w.old k).number deleted.old).rose }
     ensures deleted_after { deleted.new ≡ (deliver_outcome (run_of w.old) (message_in w.old k).number deleted.old).deleted }
-    ensures w_unchanged { (why : Refusal) → result.answer ≡ DeliverAnswer.Refused why → w.new ≡ w.old }
+    ensures w_unchanged { (why : Refusal) → result.answer ≡ Err why → w.new ≡ w.old }
     ensures leaves { Leaves w.old w.new }
 {
     let i = w[places::RECEIVERS + k] as usize;
@@ -102,14 +106,17 @@ fn deliver_from(w: &mut [u16], k: usize, deleted: &mut [u16]) -> Delivered
     let newer = words::rows::vector::is_newer(vector, carried);
     if !newer {
         words::messages::take_out(w, k);
-        let answer = DeliverAnswer::Received(0);
+        let answer = Ok(Delivery {
+            forced: None,
+            deleted: 0,
+        });
         return Delivered { answer, rose: 0 };
     }
     let forced = has_sent(w, i);
     let admission = forced_admission(w, i, forced);
     match admission {
-        Admission::Refused(why) => refuse(why),
-        Admission::Accepted => take_from(w, k, i, forced, carried, deleted),
+        Err(why) => refuse(why),
+        Ok(()) => take_from(w, k, i, forced, carried, deleted),
     }
 }
 
@@ -120,7 +127,7 @@ pub fn deliver_on(w: &mut [u16], m: u32, deleted: &mut [u16]) -> Delivered
     ensures answer_value { result.answer ≡ (deliver_outcome (run_of w.old) m deleted.old).answer }
     ensures rose_value { result.rose ≡ (deliver_outcome (run_of w.old) m deleted.old).rose }
     ensures deleted_after { deleted.new ≡ (deliver_outcome (run_of w.old) m deleted.old).deleted }
-    ensures w_unchanged { (why : Refusal) → result.answer ≡ DeliverAnswer.Refused why → w.new ≡ w.old }
+    ensures w_unchanged { (why : Refusal) → result.answer ≡ Err why → w.new ≡ w.old }
     ensures leaves { Leaves w.old w.new }
 {
     let n = w[places::COUNT] as usize;
@@ -130,8 +137,8 @@ pub fn deliver_on(w: &mut [u16], m: u32, deleted: &mut [u16]) -> Delivered
     }
     let found = words::messages::place_of(w, m);
     match found {
-        Found::Nothing => refuse(Refusal::NotUnderWay),
-        Found::At(k) => deliver_from(w, k, deleted),
+        None => refuse(Refusal::NotUnderWay),
+        Some(k) => deliver_from(w, k, deleted),
     }
 }
 
@@ -142,7 +149,7 @@ pub fn deliver(w: &mut [u16], m: u32, deleted: &mut [u16]) -> Delivered
     ensures answer_value { result.answer ≡ (deliver_outcome (run_of w.old) m deleted.old).answer }
     ensures rose_value { result.rose ≡ (deliver_outcome (run_of w.old) m deleted.old).rose }
     ensures deleted_after { deleted.new ≡ (deliver_outcome (run_of w.old) m deleted.old).deleted }
-    ensures w_unchanged { (why : Refusal) → result.answer ≡ DeliverAnswer.Refused why → w.new ≡ w.old }
+    ensures w_unchanged { (why : Refusal) → result.answer ≡ Err why → w.new ≡ w.old }
     ensures leaves { Leaves w.old w.new }
     ensures state_promise { StatePromise (run_of w.old) (made.deliver m deleted.old) (run_of w.new) }
 {

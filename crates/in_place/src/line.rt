@@ -1,14 +1,13 @@
 // The line for a failed set: the index of every process's member goes into the lent list. Nothing else changes.
-ghost use Rattle.std.specs.Prelude.{◌≡◌, ◌≤◌};
+ghost use Rattle.std.specs.Prelude.{◌≡◌, ◌≤◌, Err, Ok};
 ghost use Rattle.laws.specs.Basics.{true, false, not, length, get_or, sets, pick};
 ghost use Rattle.laws.specs.Lists.{table};
 ghost use Rattle.model.specs.{Refusals.no_member_of, Sound.sound, Steps.line_of, Words.most_processes};
-ghost use Rattle.model.specs.declared.{LineAnswer.TheVariants.Refused, LineAnswer.TheVariants.Written, Refusal.TheVariants.UnsoundState};
+ghost use Rattle.model.specs.declared.Refusal.TheVariants.{UnsoundState};
 ghost use Rattle.whole_runs.specs.{Outcomes.line_outcome, Sweep.EmptyLinePromise, WholeRuns.LinePromise};
 ghost use Rattle.words.specs.Layout.{count_of, run_of};
 ghost use Rattle.words_line.specs.Line.{limits_in, pasts_in, indexes_in};
 
-use admissions::Admission;
 use model::{CheckpointIndex, LineAnswer, PROCESSES, Refusal};
 use words::places;
 
@@ -53,16 +52,16 @@ pub fn members_of(w: &[u16], n: usize, failed: u32) -> Members
 // A failed set that is within the run: the line is written if the rule accepts a state of each process.
 fn line_within(w: &[u16], n: usize, failed: u32, line: &mut [u16]) -> LineAnswer
     requires { (sound (run_of w.now) ≡ true) × (n ≡ count_of w.now) × (n ≤ length line.old) }
-    ensures value { result ≡ pick (no_member_of (run_of w.now) failed) (Refused UnsoundState) Written }
+    ensures value { result ≡ pick (no_member_of (run_of w.now) failed) (Err UnsoundState) (Ok tt) }
     ensures line_after { line.new ≡ pick (no_member_of (run_of w.now) failed) line.old (sets line.old 0 (line_of (run_of w.now) failed)) }
 {
     let members = members_of(w, n, failed);
     if !members.all {
-        return LineAnswer::Refused(Refusal::UnsoundState);
+        return Err(Refusal::UnsoundState);
     }
     let indexes = members.indexes;
     write_line(line, indexes, n);
-    LineAnswer::Written
+    Ok(())
 }
 
 // The words stand for a sound state. Bit p of the failed set stands for process p.
@@ -75,12 +74,12 @@ pub fn line_on(w: &[u16], failed: u32, line: &mut [u16]) -> LineAnswer
     let n = w[places::COUNT] as usize;
     let short = admissions::is_line_short(line.len(), n);
     if short {
-        return LineAnswer::Refused(Refusal::ListTooShort);
+        return Err(Refusal::ListTooShort);
     }
     let admission = admissions::recovery_admission(failed, n);
     match admission {
-        Admission::Refused(why) => LineAnswer::Refused(why),
-        Admission::Accepted => line_within(w, n, failed, line),
+        Err(why) => Err(why),
+        Ok(()) => line_within(w, n, failed, line),
     }
 }
 
@@ -96,7 +95,7 @@ pub fn line(w: &[u16], failed: u32, line: &mut [u16]) -> LineAnswer
 {
     let sound = words_sound::is_sound(w);
     if !sound {
-        return LineAnswer::Refused(Refusal::UnsoundState);
+        return Err(Refusal::UnsoundState);
     }
     line_on(w, failed, line)
 }

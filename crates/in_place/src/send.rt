@@ -1,14 +1,13 @@
 // Send from i to j: the message carries i's vector, and i's sent mark is set.
-ghost use Rattle.std.specs.Prelude.{◌≡◌, ◌+◌, ◌<◌};
+ghost use Rattle.std.specs.Prelude.{◌≡◌, ◌+◌, ◌<◌, Err};
 ghost use Rattle.laws.specs.Basics.{true};
 ghost use Rattle.model.specs.{Sound.sound, Words.most_under_way, Words.most_messages};
-ghost use Rattle.model.specs.declared.{Refusal.Refusal, SendAnswer.TheVariants.Refused};
+ghost use Rattle.model.specs.declared.Refusal.{Refusal};
 ghost use Rattle.whole_runs.specs.{Outcomes.send_outcome, WholeRuns.StatePromise};
 ghost use Rattle.words.specs.Layout.{word, count_of, wide2, run_of};
 ghost use Rattle.in_place.specs.{Left.Leaves, Sending.sent_words};
 ghost use Rattle.whole_runs.specs.Calls as made;
 
-use admissions::Admission;
 use model::{Message, Refusal, SendAnswer};
 use words::places;
 
@@ -40,7 +39,7 @@ pub fn send_on(w: &mut [u16], i: usize, j: usize) -> SendAnswer
     requires { sound (run_of w.old) ≡ true }
     ensures w_after { run_of w.new ≡ (send_outcome (run_of w.old) i j).run }
     ensures value { result ≡ (send_outcome (run_of w.old) i j).answer }
-    ensures w_unchanged { (why : Refusal) → result ≡ Refused why → w.new ≡ w.old }
+    ensures w_unchanged { (why : Refusal) → result ≡ Err why → w.new ≡ w.old }
     ensures leaves { Leaves w.old w.new }
 {
     let n = w[places::COUNT] as usize;
@@ -48,10 +47,10 @@ pub fn send_on(w: &mut [u16], i: usize, j: usize) -> SendAnswer
     let last = words::wide2(w, places::LAST);
     let admission = admissions::send_admission(i, j, n, many, last);
     match admission {
-        Admission::Refused(why) => SendAnswer::Refused(why),
-        Admission::Accepted => {
+        Err(why) => Err(why),
+        Ok(()) => {
             let number = put_sent(w, i, j);
-            SendAnswer::Sent(number)
+            Ok(number)
         }
     }
 }
@@ -61,13 +60,13 @@ pub fn send_on(w: &mut [u16], i: usize, j: usize) -> SendAnswer
 pub fn send(w: &mut [u16], i: usize, j: usize) -> SendAnswer
     ensures w_after { run_of w.new ≡ (send_outcome (run_of w.old) i j).run }
     ensures value { result ≡ (send_outcome (run_of w.old) i j).answer }
-    ensures w_unchanged { (why : Refusal) → result ≡ Refused why → w.new ≡ w.old }
+    ensures w_unchanged { (why : Refusal) → result ≡ Err why → w.new ≡ w.old }
     ensures leaves { Leaves w.old w.new }
     ensures state_promise { StatePromise (run_of w.old) (made.send i j) (run_of w.new) }
 {
     let sound = words_sound::is_sound(w);
     if !sound {
-        return SendAnswer::Refused(Refusal::UnsoundState);
+        return Err(Refusal::UnsoundState);
     }
     send_on(w, i, j)
 }

@@ -1,9 +1,8 @@
 // Start: each process stores checkpoint 0 with a vector of zeros, its own entry is then 1, and its own pin names checkpoint 0.
-ghost use Rattle.std.specs.Prelude.{◌≡◌, ◌∷◌, ◌≤◌};
+ghost use Rattle.std.specs.Prelude.{◌≡◌, ◌∷◌, ◌≤◌, Ok};
 ghost use Rattle.laws.specs.Basics.{true, [], length, get_or};
 ghost use Rattle.laws.specs.{Search.all_below, Sums.sum_below};
 ghost use Rattle.model.specs.{Sound.is_block_count_of, Words.most_processes};
-ghost use Rattle.model.specs.declared.StartAnswer.TheVariants.{Started};
 ghost use Rattle.whole_runs.specs.WholeRuns.{StartPromise};
 ghost use Rattle.words.specs.{Layout.run_of, Layout.state_size, Clean.Clean};
 ghost use Rattle.in_place.specs.Starting.{zeros, with_counts, with_firsts, started_words, start_outcome_in, start_words};
@@ -96,22 +95,22 @@ fn answer_of(many: usize, n: usize, block_counts: &[u32]) -> StartAnswer
     ensures { result ≡ (start_outcome_in many n block_counts.now).answer }
 {
     if n < 1 {
-        return StartAnswer::Refused(Refusal::CountOutsideRange);
+        return Err(Refusal::CountOutsideRange);
     }
     if PROCESSES < n {
-        return StartAnswer::Refused(Refusal::CountOutsideRange);
+        return Err(Refusal::CountOutsideRange);
     }
     if many != WORDS {
-        return StartAnswer::Refused(Refusal::UnsoundState);
+        return Err(Refusal::UnsoundState);
     }
     if block_counts.len() < n {
-        return StartAnswer::Refused(Refusal::ListTooShort);
+        return Err(Refusal::ListTooShort);
     }
     let ok = are_block_counts(block_counts, n);
     if !ok {
-        return StartAnswer::Refused(Refusal::BlockCountOutsideRange);
+        return Err(Refusal::BlockCountOutsideRange);
     }
-    StartAnswer::Started
+    Ok(())
 }
 
 // A run of n processes with the block count of each: those at n and above are neither judged nor stored. The words of a refused start are zero; those of another
@@ -121,7 +120,7 @@ pub fn start(w: &mut [u16], n: usize, block_counts: &[u32]) -> StartAnswer
     ensures w_after { run_of w.new ≡ (start_outcome_in (length w.old) n block_counts.now).run }
     ensures w_after_2 { w.new ≡ start_words w.old n block_counts.now }
     ensures clean { length w.old ≡ state_size → Clean w.new }
-    ensures start_promise { result ≡ Started → StartPromise n block_counts.now (run_of w.new) }
+    ensures start_promise { result ≡ Ok tt → StartPromise n block_counts.now (run_of w.new) }
 {
     let many = w.len();
     let answer = answer_of(many, n, block_counts);
@@ -130,10 +129,10 @@ pub fn start(w: &mut [u16], n: usize, block_counts: &[u32]) -> StartAnswer
     }
     clear_all(w);
     match answer {
-        StartAnswer::Refused(why) => StartAnswer::Refused(why),
-        StartAnswer::Started => {
+        Err(why) => Err(why),
+        Ok(()) => {
             put_started(w, n, block_counts);
-            StartAnswer::Started
+            Ok(())
         }
     }
 }

@@ -20,15 +20,15 @@ fn line_through(w: &[u16], named: &[u32], m: usize, n: usize, line: &mut [u16]) 
     let found = words_line::through::find_starts(w, named, m);
     let all = found.all;
     if !all {
-        return LineAnswer::Refused(Refusal::NotKept);
+        return Err(Refusal::NotKept);
     }
     let starts = found.starts;
     let ordered = words_line::through::is_ordered(w, named, starts, m);
     if ordered {
-        return LineAnswer::Refused(Refusal::CausallyOrdered);
+        return Err(Refusal::CausallyOrdered);
     }
     words_line::through::write_greatest(w, starts, m, n, line);
-    LineAnswer::Written
+    Ok(())
 }
 
 // The words stand for a sound state. Numbers 3, 4, 18, 19 and 20 in this order, then the line.
@@ -42,15 +42,15 @@ pub fn earliest_on(w: &[u16], named: &[u32], line: &mut [u16]) -> LineAnswer
     let m = words_line::through::pair_count(named.len());
     let short = admissions::is_line_short(line.len(), n);
     if short {
-        return LineAnswer::Refused(Refusal::ListTooShort);
+        return Err(Refusal::ListTooShort);
     }
     let absent = words_line::through::names_absent(named, m, n);
     if absent {
-        return LineAnswer::Refused(Refusal::NoSuchProcess);
+        return Err(Refusal::NoSuchProcess);
     }
     let unfit = words_line::through::is_unfit(named, m, n);
     if unfit {
-        return LineAnswer::Refused(Refusal::UnfitNamedList);
+        return Err(Refusal::UnfitNamedList);
     }
     line_through(w, named, m, n, line)
 }
@@ -66,7 +66,7 @@ pub fn earliest(w: &[u16], named: &[u32], line: &mut [u16]) -> LineAnswer
 {
     let sound = words_sound::is_sound(w);
     if !sound {
-        return LineAnswer::Refused(Refusal::UnsoundState);
+        return Err(Refusal::UnsoundState);
     }
     earliest_on(w, named, line)
 }

@@ -1,9 +1,10 @@
 -- The search for the checkpoint that a pin moves to, and what a row of known pins holds.
 -- Assumes nothing.
-use Rattle.std.specs.Prelude.{◌≡◌, ◌∷◌, ◌+◌, ◌≤◌, ◌<◌}
+use Rattle.std.specs.Prelude.{◌≡◌, ◌∷◌, ◌+◌, ◌≤◌, ◌<◌, None, Some}
 use Rattle.laws.specs.Basics.{refl, sym, ◌∙◌, ap, Bool, true, false, List, [], append-nil, ℕ, zero, suc, arith, eqb, length, get_or, get_or-replicate, get_or-set_same, pick, by_bool, by_eq}
 use Rattle.laws.specs.{Lists.select, Lists.last_of, Lists.table, Select.select_append, Tables.length_table, Tables.get_d_table, Truth.never_both}
-use Rattle.model.specs.declared.{Interval.Interval, Checkpoint.Checkpoint, Pin.Pin, Pin.TheVariants.Nothing, Pin.TheVariants.At}
+use Rattle.model.specs.Shapes.{Pin}
+use Rattle.model.specs.declared.{Interval.Interval, Checkpoint.Checkpoint}
 use Rattle.model.specs.{Words.entry, Words.below, Sound.is_nothing_of, Steps.advanced, Steps.latest_pin}
 use Rattle.words.specs.Layout.{word, index_at_of, stored_at, pin_of_def, vector_in, checkpoint_in}
 use Rattle.words.proofs.Reading.{pin_some}
@@ -78,15 +79,15 @@ pub pick_least : (b : Bool) (x y : ℕ) → x < y → pick b x 0 < y
 pick_least true x y less = less
 pick_least false x y less = omega arith
 
-pub pin_pick : (b : Bool) (x : ℕ) → pin_of_def (pick b x 0) ≡ pick b (pin_of_def x) Nothing
+pub pin_pick : (b : Bool) (x : ℕ) → pin_of_def (pick b x 0) ≡ pick b (pin_of_def x) None
 unfolding pin_of_def
 pin_pick true x = refl
 pin_pick false x = refl
 
-pub nothing_is : (pin : Pin) → is_nothing_of pin ≡ true → pin ≡ Nothing
+pub nothing_is : (pin : Pin) → is_nothing_of pin ≡ true → pin ≡ None
 unfolding is_nothing_of
-nothing_is Nothing e = refl
-nothing_is (At a) e = never_both false e refl
+nothing_is None e = refl
+nothing_is (Some a) e = never_both false e refl
 
 pub advanced_own : (p : ℕ) (v : List Interval) → p < length v → entry (advanced p v) p ≡ record { 0 = (entry v p).0 + 1 }
 unfolding advanced

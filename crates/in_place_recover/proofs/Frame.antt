@@ -3,7 +3,8 @@
 use Rattle.std.specs.Prelude.{◌≡◌, ◌&&◌, ◌+◌, ◌-◌, ◌*◌, ◌≤◌, ◌<◌}
 use Rattle.laws.specs.Basics.{refl, ◌∙◌, ap, true, not, List, ℕ, zero, suc, arith, leb, leb-true, pick, by_bool}
 use Rattle.laws.specs.{Lists.select, Lists.table, Tables.table_same}
-use Rattle.model.specs.declared.{Interval.Interval, Disk.Disk, Pin.Pin}
+use Rattle.model.specs.Shapes.{Pin}
+use Rattle.model.specs.declared.{Interval.Interval, Disk.Disk}
 use Rattle.model.specs.{Words.is_pinned, Words.Process, Steps.advanced}
 use Rattle.words.specs.Frames.{OnlyProcess, OnlyDisk}
 use Rattle.words.specs.Layout.{word, kept_count_at_of, mark_at, blocks_at_of, part_at, pins_at_of, index_at_of, stored_at, row_in, vector_in, pins_in, mark_in, checkpoint_in}

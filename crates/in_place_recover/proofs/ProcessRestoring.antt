@@ -5,7 +5,8 @@ use Rattle.laws.specs.Basics.{refl, sym, ◌∙◌, ap, true, false, not, List, 
 use lib.Seq.{ext_get_or}
 use Rattle.laws.specs.{Elements.every_table, Lists.select, Lists.table, Rows.and_true, Search.all_below, Search.all_out, Select.all_chosen, Select.none_chosen}
 use Rattle.laws.specs.{Tables.get_d_table, Tables.table_same, Tests.every, Truth.and_no_right}
-use Rattle.model.specs.declared.{Interval.Interval, Pin.Pin}
+use Rattle.model.specs.Shapes.{Pin}
+use Rattle.model.specs.declared.Interval.{Interval}
 use Rattle.model.specs.{Words.entry, Words.is_pinned, Steps.listed, Steps.billed, Steps.advanced}
 use Rattle.whole_runs.specs.Outcomes.{pairs}
 use Rattle.words.specs.{Clean.CleanKept, Frames.OnlyProcess, Parts.process_in, Puts.Put, Puts.puts, Puts.one, Puts.vector_put}

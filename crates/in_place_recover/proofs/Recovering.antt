@@ -1,11 +1,11 @@
 -- The recover call: what its outcome is, by the lengths of the lists, the failed set, and whether each process has a member; and what an accepted one leaves.
 -- Assumes nothing.
-use Rattle.std.specs.Prelude.{◌≡◌, ◌||◌, ◌+◌, ◌*◌, ◌^◌, ◌≤◌, ◌<◌}
-use Rattle.laws.specs.Basics.{refl, sym, ◌∙◌, ap, true, false, not, false≢true, List, none, some, ℕ, zero, suc, arith, ltb, leb, length, get_or, sets, by_bool}
+use Rattle.std.specs.Prelude.{◌≡◌, ◌||◌, ◌+◌, ◌*◌, ◌^◌, ◌≤◌, ◌<◌, Err, Ok}
+use Rattle.laws.specs.Basics.{refl, sym, ◌∙◌, ap, true, false, not, false≢true, List, None, Some, ℕ, zero, suc, arith, ltb, leb, length, get_or, sets, by_bool}
 use Rattle.laws.specs.{Counting.count_same, Lists.select, Lists.gather, Lists.table, Sums.sum_below, Sums.sum_same, Tables.gather_same, Tests.count_below}
-use Rattle.model.specs.declared.{CheckpointIndex.CheckpointIndex, Disk.Disk, Interval.Interval, Message.Message, Refusal.Refusal, RecoverAnswer.RecoverAnswer}
+use Rattle.model.specs.Shapes.{RecoverAnswer}
+use Rattle.model.specs.declared.{CheckpointIndex.CheckpointIndex, Disk.Disk, Interval.Interval, Message.Message, Refusal.Refusal}
 use Rattle.model.specs.declared.{Refusal.TheVariants.UnsoundState, Refusal.TheVariants.ListTooShort, Refusal.TheVariants.NoSuchFailedProcess, Run.Run}
-use Rattle.model.specs.declared.RecoverAnswer.TheVariants.{Refused, Recovered}
 use Rattle.model.specs.{Words.Process, Words.blocks_of, Words.with_process, Words.with_messages, Words.with_disk, Sound.sound, laws.Refusals.refusal_in}
 use Rattle.model.specs.Steps.{Deletion, listed, billed, with_processes, rolled_back, recovered, still_under_way, gone_at_of, deleted_at, recover_state, recover_deletions, rolled_back_count}
 use Rattle.model.specs.Refusals.{outside, no_member_of, short_deletions, short_line, recover_refusal}
@@ -21,20 +21,20 @@ use Rattle.in_place_recover.proofs.Recovery.{rolled, recovered_is, gone_is, rest
 use Rattle.in_place.specs.Left.{Leaves}
 use Rattle.in_place_recover.specs.Recovering.{part_then, gone_then, losses_then, disk_then, AllRestorable, Restored}
 use Rattle.in_place.proofs.{Checkpointing.disk_is, Leaving.same_words}
-use Rattle.admissions.specs.declared.Admission.TheVariants as admission
+use Prim.{tt}
 
 -- What a recovery of the words w for the failed set F, with the lists `lent` and `line`, answers and leaves.
 abbrev pub Left : List ℕ → ℕ → List ℕ → List ℕ → RecoverAnswer → List ℕ → List ℕ → List ℕ → Type 0
 Left w F lent line r v d l =
     (run_of v ≡ (recover_outcome (run_of w) F lent line).run) × ((r ≡ (recover_outcome (run_of w) F lent line).answer) × ((d ≡ (recover_outcome (run_of w) F lent line).deleted)
-    × ((l ≡ (recover_outcome (run_of w) F lent line).line) × (((why : Refusal) → r ≡ Refused why → v ≡ w) × Leaves w v))))
+    × ((l ≡ (recover_outcome (run_of w) F lent line).line) × (((why : Refusal) → r ≡ Err why → v ≡ w) × Leaves w v))))
 
 -- What it leaves whose members, indexes and own entries these are: the processes are restored, then the messages are sifted.
 abbrev Recovers : List ℕ → ℕ → List ℕ → List ℕ → ℕ → List ℕ → List CheckpointIndex → List Interval → Type 0
 Recovers w F lent line n pasts indexes owns =
     (v u : List ℕ) → Restored w pasts owns n v → Sifted indexes v u → (back gone : ℕ) (d l : List ℕ) → back ≡ count_below n (λ p. goes_back w p (get_or pasts p 0))
     → gone ≡ length (losses_then w pasts owns n) → d ≡ sets lent 0 (pairs (losses_then w pasts owns n)) → l ≡ sets line 0 (table n (λ p. (get_or indexes p (record { 0 = 0 })).0))
-    → Left w F lent line (Recovered back gone) u d l
+    → Left w F lent line (Ok (record { rolled_back = back; deleted = gone })) u d l
 
 -- Processes that take the same parts.
 processes_same : (n : ℕ) (f g : ℕ → Process) (s : Run) → ((p : ℕ) → p < n → f p ≡ g p) → with_processes n f s ≡ with_processes n g s
@@ -57,41 +57,41 @@ module _ (w : List ℕ) (h : sound (run_of w) ≡ true) (F : ℕ) (lent line : L
   count : s.count ≡ n
   count = count_is_lem w (sound_words w h).fit
 
-  refused : (why : Refusal) → recover_refusal s F lent line ≡ some why → Left w F lent line (Refused why) w lent line
+  refused : (why : Refusal) → recover_refusal s F lent line ≡ Some why → Left w F lent line (Err why) w lent line
   unfolding recover_outcome
   refused why e = rw e (refl, (refl, (refl, (refl, (λ x q. refl, same_words w)))))
 
   short_is : (short_deletions s lent || short_line s line) ≡ (ltb (length lent) (2 * n * n) || ltb (length line) n)
   short_is = ap (λ (k : ℕ). ltb (length lent) (2 * k * k) || ltb (length line) k) count
 
-  pub lists_short : (ltb (length lent) (2 * n * n) || ltb (length line) n) ≡ true → Left w F lent line (Refused ListTooShort) w lent line
+  pub lists_short : (ltb (length lent) (2 * n * n) || ltb (length line) n) ≡ true → Left w F lent line (Err ListTooShort) w lent line
   unfolding recover_refusal
-  lists_short e = refused ListTooShort (refusal_in _ (some ListTooShort) (1, (rw h, tt), short_is ∙ e, refl))
+  lists_short e = refused ListTooShort (refusal_in _ (Some ListTooShort) (1, (rw h, tt), short_is ∙ e, refl))
 
   module _ (long : (ltb (length lent) (2 * n * n) || ltb (length line) n) ≡ false) where
-    outside_refused : leb (2 ^ n) F ≡ true → Left w F lent line (Refused NoSuchFailedProcess) w lent line
+    outside_refused : leb (2 ^ n) F ≡ true → Left w F lent line (Err NoSuchFailedProcess) w lent line
     unfolding recover_refusal
-    outside_refused o = refused NoSuchFailedProcess (refusal_in _ (some NoSuchFailedProcess) (2, (rw h, (short_is ∙ long, tt)), rw count o, refl))
+    outside_refused o = refused NoSuchFailedProcess (refusal_in _ (Some NoSuchFailedProcess) (2, (rw h, (short_is ∙ long, tt)), rw count o, refl))
 
-    pub set_refused : (why : Refusal) → recovery_admission_of n F ≡ admission.Refused why → Left w F lent line (Refused why) w lent line
+    pub set_refused : (why : Refusal) → recovery_admission_of n F ≡ Err why → Left w F lent line (Err why) w lent line
     unfolding recovery_admission_of
     set_refused why e = by_bool (leb (2 ^ n) F)
         (λ o.
-        let q : admission.Refused NoSuchFailedProcess ≡ admission.Refused why = rw o at e in
+        let q : Err NoSuchFailedProcess ≡ Err why = rw o at e in
         let same : NoSuchFailedProcess ≡ why = cc in
         rw (← same) (outside_refused o))
-        (λ o. let q : admission.Accepted ≡ admission.Refused why = rw o at e in absurd (false≢true cc))
+        (λ o. let q : (Ok tt) ≡ Err why = rw o at e in absurd (false≢true cc))
 
-    module _ (passed : recovery_admission_of n F ≡ admission.Accepted) where
+    module _ (passed : recovery_admission_of n F ≡ Ok tt) where
       inside : outside s F ≡ false
       unfolding recovery_admission_of
       inside = by_bool (leb (2 ^ n) F)
-          (λ o. let q : admission.Refused NoSuchFailedProcess ≡ admission.Accepted = rw o at passed in absurd (false≢true cc))
+          (λ o. let q : Err NoSuchFailedProcess ≡ Ok tt = rw o at passed in absurd (false≢true cc))
           (λ o. rw count o)
 
-      pub no_member : no_member_of s F ≡ true → Left w F lent line (Refused UnsoundState) w lent line
+      pub no_member : no_member_of s F ≡ true → Left w F lent line (Err UnsoundState) w lent line
       unfolding recover_refusal
-      no_member e = refused UnsoundState (refusal_in _ (some UnsoundState) (3, (rw h, (short_is ∙ long, (inside, tt))), e, refl))
+      no_member e = refused UnsoundState (refusal_in _ (Some UnsoundState) (3, (rw h, (short_is ∙ long, (inside, tt))), e, refl))
 
       -- Each process has a member: the words of an accepted recovery.
       module _ (there : no_member_of s F ≡ false) where
@@ -104,9 +104,9 @@ module _ (w : List ℕ) (h : sound (run_of w) ≡ true) (F : ℕ) (lent line : L
         abbrev owns : List Interval
         owns = owns_after_of w pasts
 
-        accepted : recover_refusal s F lent line ≡ none
+        accepted : recover_refusal s F lent line ≡ None
         unfolding recover_refusal
-        accepted = refusal_in _ none (rw h, (short_is ∙ long, (inside, (there, tt))))
+        accepted = refusal_in _ None (rw h, (short_is ∙ long, (inside, (there, tt))))
 
         all : has_members w n (limits_in w n F) ≡ true
         all = all_found w h F ∙ ap not there
@@ -156,12 +156,12 @@ module _ (w : List ℕ) (h : sound (run_of w) ≡ true) (F : ℕ) (lent line : L
 
           recovered_to : (back gone : ℕ) (d l : List ℕ) → back ≡ count_below n (λ p. goes_back w p (get_or pasts p 0)) → gone ≡ length (losses_then w pasts owns n)
               → d ≡ sets lent 0 (pairs (losses_then w pasts owns n)) → l ≡ sets line 0 (table n (λ p. (get_or indexes p (record { 0 = 0 })).0))
-              → Left w F lent line (Recovered back gone) u d l
+              → Left w F lent line (Ok (record { rolled_back = back; deleted = gone })) u d l
           unfolding recover_outcome
           recovered_to back gone d l backs many list indexed = rw accepted (
             run_is,
             (
-              (λ j. Recovered ((backs ∙ back_count) j) ((many ∙ ap length losses_are) j)),
+              (λ j. Ok (record { rolled_back = (backs ∙ back_count) j; deleted = (many ∙ ap length losses_are) j })),
               (
                 list ∙ ap (λ (x : List Deletion). sets lent 0 (pairs x)) losses_are,
                 (

@@ -1,10 +1,11 @@
 -- The recovery of one process on the words says what Steps says of the run that sound words stand for.
 -- Assumes nothing.
-use Rattle.std.specs.Prelude.{◌≡◌, ◌&&◌, ◌+◌, ◌-◌, ◌*◌, ◌≤◌, ◌<◌}
+use Rattle.std.specs.Prelude.{◌≡◌, ◌&&◌, ◌+◌, ◌-◌, ◌*◌, ◌≤◌, ◌<◌, None}
 use Rattle.laws.specs.Basics.{sym, ◌∙◌, ap, Bool, true, false, not, List, [], ℕ, arith, eqb, leb, length, get_or, get_or-replicate, get_or-set_other, eq-eqb, ne_eqb, eqb-true, lt-ltb, le-ltb, le-leb, lt-leb, leb-true, pick, by_bool, by_eq}
 use Rattle.laws.specs.{Choice.pick_same, Elements.every_table, Lists.select, Lists.last_of, Lists.table, Prefixes.select_none, Rows.by_lt, Rows.every_beyond}
 use Rattle.laws.specs.{Search.any_below, Search.any_in, Search.any_out, Select.all_chosen, Tables.get_d_table, Tables.table_same, Tests.some_of, Truth.never_both}
-use Rattle.model.specs.declared.{Interval.Interval, Checkpoint.Checkpoint, Pin.Pin, Pin.TheVariants.Nothing, Run.Run}
+use Rattle.model.specs.Shapes.{Pin}
+use Rattle.model.specs.declared.{Interval.Interval, Checkpoint.Checkpoint, Run.Run}
 use Rattle.model.specs.Words.{entry, below, is_pinned, names, zero_vector, live, Process, process, own, blocks_of}
 use Rattle.model.specs.{Refusals.no_member_of, Sound.is_nothing_of, Sound.nothing_from, Sound.sound}
 use Rattle.model.specs.Steps.{advanced, member, rolled_back, vector_after, not_lost, own_after, latest_pin, moved_pin, pin_after, pins_after, recovered, gone_at_of}
@@ -193,12 +194,12 @@ module _ (w : List ℕ) (h : sound (run_of w) ≡ true) (F : ℕ) (all : has_mem
     unfolding moved_pin
     moved_pin_lem le f less is = found_is w owns p f less (past_of p) (λ j under. (part p lt).used j (omega arith)) ∙ (λ j. latest_pin (last_of (select (λ c. below (entry c.vector f) (is j)) (sym (lost_not le) j))))
 
-    kept_pin : (f : ℕ) → f < 16 → pin_of_def (get_or (row_in w (pins_at_of p)) f 0) ≡ get_or (process s p).pins f Nothing
+    kept_pin : (f : ℕ) → f < 16 → pin_of_def (get_or (row_in w (pins_at_of p)) f 0) ≡ get_or (process s p).pins f None
     unfolding process_in
-    kept_pin f less = sym (ap (λ (P : Process). get_or P.pins f Nothing) (sound_process_is w h p lt) ∙ ap (λ (l : List Pin). get_or l f Nothing) (pins_row w (pins_at_of p)) ∙ row_pin (row_in w (pins_at_of p)) f less)
+    kept_pin f less = sym (ap (λ (P : Process). get_or P.pins f None) (sound_process_is w h p lt) ∙ ap (λ (l : List Pin). get_or l f None) (pins_row w (pins_at_of p)) ∙ row_pin (row_in w (pins_at_of p)) f less)
 
     chosen_pin : (f : ℕ) → f < 16 → entry owns f ≡ own_after s F f → pin_of_def (get_or (pick (goes_back w p (past_of p)) (found_in_of w owns p (past_of p)) (row_in w (pins_at_of p))) f 0)
-        ≡ pick (rolled_back s F p) (moved_pin s F p f) (get_or (process s p).pins f Nothing)
+        ≡ pick (rolled_back s F p) (moved_pin s F p f) (get_or (process s p).pins f None)
     chosen_pin f less is = by_bool (goes_back w p (past_of p))
         (λ e. rw (sym (rolled p lt), e) (moved_pin_lem (leb-true (past_of p) (word w (kept_count_at_of p)) e) f less is))
         (λ e. rw (sym (rolled p lt), e) (kept_pin f less))
@@ -208,7 +209,7 @@ module _ (w : List ℕ) (h : sound (run_of w) ≡ true) (F : ℕ) (all : has_mem
     pin_known f less is =
         ap pin_of_def (known_at_lem (restored_vector w p (past_of p)) owns (pick (goes_back w p (past_of p)) (found_in_of w owns p (past_of p)) (row_in w (pins_at_of p))) f less)
         ∙ pin_pick (eqb (entry (restored_vector w p (past_of p)) f).0 (entry owns f).0) _
-        ∙ (λ j. pick (eqb (entry (vector_is p lt j) f).0 (is j).0) (chosen_pin f less is j) Nothing)
+        ∙ (λ j. pick (eqb (entry (vector_is p lt j) f).0 (is j).0) (chosen_pin f less is j) None)
 
     -- No vector has an entry for a place of no process, and no pin is for it: whatever its own entry is taken to be.
     module _ (f : ℕ) (le : count_of w ≤ f) (less : f < 16) where
@@ -219,23 +220,23 @@ module _ (w : List ℕ) (h : sound (run_of w) ≡ true) (F : ℕ) (all : has_mem
           ∙ stored_zero w h p lt (past_of p - 1) (omega (arith, leb-true (past_of p) (word w (kept_count_at_of p)) e, past_some p lt)) f le less))
           (λ e. rw e (ap (λ (x : Interval). x.0) (vector_word w (part_at p) f less) ∙ vector_zero w h p lt f le less))
 
-      moved_unused : moved_pin s F p f ≡ Nothing
+      moved_unused : moved_pin s F p f ≡ None
       unfolding moved_pin latest_pin last_of
       moved_unused = ap (λ (l : List Checkpoint). latest_pin (last_of l)) (select_none (λ c. below (entry c.vector f) (own_after s F f)) (not_lost s F p)
           (λ c. le-ltb (entry c.vector f).0 (own_after s F f).0 (omega (arith, own_unused f le less))))
 
-      kept_unused : get_or (process s p).pins f Nothing ≡ Nothing
+      kept_unused : get_or (process s p).pins f None ≡ None
       unfolding process_in nothing_from
       kept_unused =
           let e = rw (sound_process_is w h p lt) at (sound_known w h p lt).pins_unused in
-          ap (λ (P : Process). get_or P.pins f Nothing) (sound_process_is w h p lt)
-          ∙ nothing_is (get_or (pins_in w (pins_at_of p)) f Nothing) (every_beyond is_nothing_of s.count (pins_in w (pins_at_of p)) f Nothing e (omega (arith, count_is_lem w (sound_fits w h))) (omega (arith, pins_length w (pins_at_of p))))
+          ap (λ (P : Process). get_or P.pins f None) (sound_process_is w h p lt)
+          ∙ nothing_is (get_or (pins_in w (pins_at_of p)) f None) (every_beyond is_nothing_of s.count (pins_in w (pins_at_of p)) f None e (omega (arith, count_is_lem w (sound_fits w h))) (omega (arith, pins_length w (pins_at_of p))))
 
-      pin_unused : pin_after s F p f ≡ Nothing
+      pin_unused : pin_after s F p f ≡ None
       unfolding pin_after
-      pin_unused = rw (moved_unused, kept_unused, pick_same (rolled_back s F p) Nothing) (pick_same (eqb (entry (vector_after s F p) f).0 (own_after s F f).0) Nothing)
+      pin_unused = rw (moved_unused, kept_unused, pick_same {A = Pin} (rolled_back s F p) None) (pick_same {A = Pin} (eqb (entry (vector_after s F p) f).0 (own_after s F f).0) None)
 
-      pin_other : ((entry owns f).0 ≡ 0 → ⊥) → pin_of_def (get_or row f 0) ≡ Nothing
+      pin_other : ((entry owns f).0 ≡ 0 → ⊥) → pin_of_def (get_or row f 0) ≡ None
       unfolding restored_pins pin_of_def
       pin_other ne =
           let none : get_or row f 0 ≡ 0 = known_at_lem (restored_vector w p (past_of p)) owns (pick (goes_back w p (past_of p)) (found_in_of w owns p (past_of p)) (row_in w (pins_at_of p))) f less

@@ -4,7 +4,8 @@
 use Rattle.std.specs.Prelude.{◌≡◌, ◌&&◌, ◌+◌, ◌-◌, ◌≤◌, ◌<◌}
 use Rattle.laws.specs.Basics.{Bool, not, List, ℕ, ltb, leb, length, get_or, pick}
 use Rattle.laws.specs.Lists.{select, table}
-use Rattle.model.specs.declared.{Interval.Interval, Pin.Pin, Checkpoint.Checkpoint}
+use Rattle.model.specs.Shapes.{Pin}
+use Rattle.model.specs.declared.{Interval.Interval, Checkpoint.Checkpoint}
 use Rattle.model.specs.{Words.most_processes, Words.is_pinned, Words.Process, Words.most_interval, Steps.advanced}
 use Rattle.words.specs.Layout.{word, kept_count_at_of, mark_at, blocks_at_of, part_at, pins_at_of, stored_at, interval_of, row_in, vector_in, pins_in, mark_in}
 use Rattle.words_line.specs.Restored.{known_row, found_in_of}

@@ -3,12 +3,11 @@
 
 #![tactic(auto)]
 
-ghost use Rattle.std.specs.Prelude.{◌≡◌, ◌*◌, ◌≤◌, ◌<◌};
+ghost use Rattle.std.specs.Prelude.{◌≡◌, ◌*◌, ◌≤◌, ◌<◌, Err, Ok};
 ghost use Rattle.laws.specs.Basics.{true, length, get_or, sets, pick};
 ghost use Rattle.laws.specs.Tests.{count_below};
 ghost use Rattle.model.specs.{Sound.sound, Words.most_processes};
-ghost use Rattle.model.specs.declared.{Refusal.Refusal, RecoverAnswer.TheVariants.Refused};
-ghost use Rattle.admissions.specs.declared.Admission.TheVariants.{Accepted};
+ghost use Rattle.model.specs.declared.Refusal.{Refusal};
 ghost use Rattle.admissions.specs.Admissions.{recovery_admission_of};
 ghost use Rattle.whole_runs.specs.{Outcomes.pairs, Outcomes.recover_outcome, Clean.CleanPromise, Sweep.SweepPromise};
 ghost use Rattle.whole_runs.specs.WholeRuns.{LinePromise, StatePromise};
@@ -17,8 +16,7 @@ ghost use Rattle.in_place_recover.specs.{Restored.goes_back, Recovering.losses_t
 ghost use Rattle.in_place.specs.Left.{Leaves};
 ghost use Rattle.whole_runs.specs.Calls as made;
 
-use admissions::Admission;
-use model::{Interval, PROCESSES, RecoverAnswer, Refusal};
+use model::{Interval, PROCESSES, RecoverAnswer, Recovery, Refusal};
 use words::places;
 
 // process.rt: the recovery of one process, on its part of the words
@@ -76,12 +74,12 @@ fn recover_within(
     deleted: &mut [u16],
     line: &mut [u16],
 ) -> RecoverAnswer
-    requires { (sound (run_of w.old) ≡ true) × (n ≡ count_of w.old) × (2 * n * n ≤ length deleted.old) × (n ≤ length line.old) × (recovery_admission_of n failed ≡ Accepted) }
+    requires { (sound (run_of w.old) ≡ true) × (n ≡ count_of w.old) × (2 * n * n ≤ length deleted.old) × (n ≤ length line.old) × (recovery_admission_of n failed ≡ Ok tt) }
     ensures w_after { run_of w.new ≡ (recover_outcome (run_of w.old) failed deleted.old line.old).run }
     ensures value { result ≡ (recover_outcome (run_of w.old) failed deleted.old line.old).answer }
     ensures deleted_after { deleted.new ≡ (recover_outcome (run_of w.old) failed deleted.old line.old).deleted }
     ensures line_after { line.new ≡ (recover_outcome (run_of w.old) failed deleted.old line.old).line }
-    ensures w_unchanged { (why : Refusal) → result ≡ Refused why → w.new ≡ w.old }
+    ensures w_unchanged { (why : Refusal) → result ≡ Err why → w.new ≡ w.old }
     ensures leaves { Leaves w.old w.new }
 {
     let limits = words_line::line::limits_of(w, n, failed);
@@ -89,7 +87,7 @@ fn recover_within(
     let pasts: &mut [u16] = &mut table;
     let all = words_line::line::find_members(w, n, limits, pasts);
     if !all {
-        return RecoverAnswer::Refused(Refusal::UnsoundState);
+        return Err(Refusal::UnsoundState);
     }
     let indexes = words_line::line::indexes_of(w, n, pasts);
     let owns = crate::process::owns::owns_after(w, pasts);
@@ -97,7 +95,10 @@ fn recover_within(
     in_place::line::write_line(line, indexes, n);
     let gone = restore_all(w, n, pasts, owns, deleted);
     words_line::sifted::sift(w, indexes);
-    RecoverAnswer::Recovered(back, gone)
+    Ok(Recovery {
+        rolled_back: back,
+        deleted: gone,
+    })
 }
 
 // The words stand for a sound state. Bit p of the failed set stands for process p.
@@ -112,18 +113,18 @@ pub fn recover_on(
     ensures value { result ≡ (recover_outcome (run_of w.old) failed deleted.old line.old).answer }
     ensures deleted_after { deleted.new ≡ (recover_outcome (run_of w.old) failed deleted.old line.old).deleted }
     ensures line_after { line.new ≡ (recover_outcome (run_of w.old) failed deleted.old line.old).line }
-    ensures w_unchanged { (why : Refusal) → result ≡ Refused why → w.new ≡ w.old }
+    ensures w_unchanged { (why : Refusal) → result ≡ Err why → w.new ≡ w.old }
     ensures leaves { Leaves w.old w.new }
 {
     let n = w[places::COUNT] as usize;
     let short = admissions::is_too_short(deleted.len(), line.len(), n);
     if short {
-        return RecoverAnswer::Refused(Refusal::ListTooShort);
+        return Err(Refusal::ListTooShort);
     }
     let admission = admissions::recovery_admission(failed, n);
     match admission {
-        Admission::Refused(why) => RecoverAnswer::Refused(why),
-        Admission::Accepted => recover_within(w, n, failed, deleted, line),
+        Err(why) => Err(why),
+        Ok(()) => recover_within(w, n, failed, deleted, line),
     }
 }
 
@@ -136,7 +137,7 @@ pub fn recover(w: &mut [u16], failed: u32, deleted: &mut [u16], line: &mut [u16]
     ensures value { result ≡ (recover_outcome (run_of w.old) failed deleted.old line.old).answer }
     ensures deleted_after { deleted.new ≡ (recover_outcome (run_of w.old) failed deleted.old line.old).deleted }
     ensures line_after { line.new ≡ (recover_outcome (run_of w.old) failed deleted.old line.old).line }
-    ensures w_unchanged { (why : Refusal) → result ≡ Refused why → w.new ≡ w.old }
+    ensures w_unchanged { (why : Refusal) → result ≡ Err why → w.new ≡ w.old }
     ensures leaves { Leaves w.old w.new }
     ensures line_promise { LinePromise (run_of w.old) failed }
     ensures state_promise { StatePromise (run_of w.old) (made.recover failed deleted.old line.old) (run_of w.new) }
@@ -145,7 +146,7 @@ pub fn recover(w: &mut [u16], failed: u32, deleted: &mut [u16], line: &mut [u16]
 {
     let sound = words_sound::is_sound(w);
     if !sound {
-        return RecoverAnswer::Refused(Refusal::UnsoundState);
+        return Err(Refusal::UnsoundState);
     }
     recover_on(w, failed, deleted, line)
 }

@@ -1,6 +1,5 @@
 -- Lists: the elements that pass a test, the last one, a list by its index, lists put together, and a list laid into a table of fixed size.
-use Rattle.std.specs.Prelude.{Bool, List, [], ◌∷◌, ◌++◌, ℕ, zero, suc, ◌-◌, length, replicate}
-use Rattle.std.proofs.Math.Option.{Option, none, some}
+use Rattle.std.specs.Prelude.{Bool, List, [], ◌∷◌, ◌++◌, ℕ, zero, suc, ◌-◌, length, replicate, Option, None, Some}
 use Rattle.laws.specs.Choice.{pick}
 
 -- the elements that pass, in their order
@@ -10,13 +9,13 @@ select t (x ∷ l) = pick (t x) (x ∷ select t l) (select t l)
 
 -- a value, or x where there is none
 abbrev pub or_else : {A : Type 0} → Option A → A → A
-or_else none x = x
-or_else (some y) x = y
+or_else None x = x
+or_else (Some y) x = y
 
 -- the last element, if there is one
 unfoldable pub last_of : {A : Type 0} → List A → Option A
-last_of [] = none
-last_of (x ∷ l) = some (or_else (last_of l) x)
+last_of [] = None
+last_of (x ∷ l) = Some (or_else (last_of l) x)
 
 -- f 0, f 1, .., f (n - 1)
 unfoldable pub table : {A : Type 0} → ℕ → (ℕ → A) → List A

@@ -1,8 +1,7 @@
 -- What is left of a list after a place, tested. A loop that walks a list has, after i iterations, passed the first i elements and has `drop i` before
 -- it; these laws take one element off what is left, and say what is left of a list that is used up.
-use Rattle.std.specs.Prelude.{◌≡◌, refl, Bool, true, false, ◌&&◌, ◌||◌, List, [], ◌∷◌, map, ℕ, zero, suc, ◌+◌, ◌≤◌, ◌<◌, length, get_or, take, drop, ltb}
+use Rattle.std.specs.Prelude.{◌≡◌, refl, Bool, true, false, ◌&&◌, ◌||◌, List, [], ◌∷◌, map, ℕ, zero, suc, ◌+◌, ◌≤◌, ◌<◌, length, get_or, take, drop, ltb, Some}
 use Rattle.std.proofs.Common.{sym, ◌∙◌, add-one, arith, drop_of_length-le, ltb-true, ltb-false}
-use Rattle.std.proofs.Math.Option.{some}
 use Rattle.std.proofs.Math.Seq.{drop-cons}
 use Rattle.laws.specs.Choice.{by_bool}
 use Rattle.laws.specs.Lists.{last_of}
@@ -86,7 +85,7 @@ some_where t (x ∷ l) d e = by_bool (t x)
     (λ q. let w = some_where t l d (rw q at e) in (suc w.0, omega (arith, w.1), w.2))
 
 -- The last of the first h elements.
-pub last_take : {A : Type 0} (l : List A) (h : ℕ) (d : A) → h < length l → last_of (take (suc h) l) ≡ some (get_or l h d)
+pub last_take : {A : Type 0} (l : List A) (h : ℕ) (d : A) → h < length l → last_of (take (suc h) l) ≡ Some (get_or l h d)
 unfolding last_of
 last_take [] h d b = absurd (omega arith)
 last_take (x ∷ l) zero d b = refl

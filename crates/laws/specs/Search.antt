@@ -1,8 +1,7 @@
 -- Tests over all numbers below a bound: some passes, all pass, and the latest that passes.
-use Rattle.std.specs.Prelude.{◌≡◌, refl, Bool, true, false, ◌&&◌, ◌||◌, ℕ, zero, suc, ◌≤◌, ◌<◌}
+use Rattle.std.specs.Prelude.{◌≡◌, refl, Bool, true, false, ◌&&◌, ◌||◌, ℕ, zero, suc, ◌≤◌, ◌<◌, Option, None, Some}
 use Rattle.std.proofs.Common.{sym, ◌∙◌, ap, not-suc-le-zero, arith}
 use Rattle.std.proofs.lemmas.Bool.{false≢true}
-use Rattle.std.proofs.Math.Option.{Option, none, some}
 use Rattle.laws.specs.Choice.{pick, by_bool, by_eq}
 use Rattle.laws.specs.Options.{some_same, none≢some}
 use Rattle.laws.specs.Truth.{never_both, and_left, and_right}
@@ -19,8 +18,8 @@ all_below (suc n) t = t n && all_below n t
 
 -- The greatest number below the bound that passes the test.
 unfoldable pub latest : ℕ → (ℕ → Bool) → Option ℕ
-latest zero t = none
-latest (suc n) t = pick (t n) (some n) (latest n t)
+latest zero t = None
+latest (suc n) t = pick (t n) (Some n) (latest n t)
 
 -- The one that passes.
 pub any_out : (n : ℕ) (t : ℕ → Bool) → any_below n t ≡ true → (k : ℕ) × (k < n) × (t k ≡ true)
@@ -65,15 +64,15 @@ all_fails (suc n) t e = by_bool (t n)
     (λ q. (n, omega arith, q))
 
 -- The latest that passes is one above which none does.
-pub latest_is : (n : ℕ) (t : ℕ → Bool) (k : ℕ) → k < n → t k ≡ true → ((j : ℕ) → k < j → j < n → t j ≡ false) → latest n t ≡ some k
+pub latest_is : (n : ℕ) (t : ℕ → Bool) (k : ℕ) → k < n → t k ≡ true → ((j : ℕ) → k < j → j < n → t j ≡ false) → latest n t ≡ Some k
 unfolding latest
 latest_is zero t k h e above = absurd (not-suc-le-zero h)
 latest_is (suc n) t k h e above = by_eq k n
-    (λ c. rw (rw c at e) (ap some (sym c)))
+    (λ c. rw (rw c at e) (ap Some (sym c)))
     (λ c. rw (above n (omega arith) (omega arith)) (latest_is n t k (omega arith) e (λ j a b. above j a (omega arith))))
 
 -- What the latest that passes is: below the bound, it passes, and none above it does.
-pub latest_out : (n : ℕ) (t : ℕ → Bool) (k : ℕ) → latest n t ≡ some k → (k < n) × (t k ≡ true) × ((j : ℕ) → k < j → j < n → t j ≡ false)
+pub latest_out : (n : ℕ) (t : ℕ → Bool) (k : ℕ) → latest n t ≡ Some k → (k < n) × (t k ≡ true) × ((j : ℕ) → k < j → j < n → t j ≡ false)
 unfolding latest
 latest_out zero t k e = absurd (none≢some e)
 latest_out (suc n) t k e = by_bool (t n)
@@ -86,7 +85,7 @@ unfolding latest
 latest_skip n t q = rw q
 
 -- Where one passes, there is a latest one.
-pub latest_of : (n : ℕ) (t : ℕ → Bool) (k : ℕ) → k < n → t k ≡ true → (m : ℕ) × (latest n t ≡ some m) × (k ≤ m)
+pub latest_of : (n : ℕ) (t : ℕ → Bool) (k : ℕ) → k < n → t k ≡ true → (m : ℕ) × (latest n t ≡ Some m) × (k ≤ m)
 unfolding latest
 latest_of zero t k h e = absurd (not-suc-le-zero h)
 latest_of (suc n) t k h e = by_bool (t n)
@@ -94,7 +93,7 @@ latest_of (suc n) t k h e = by_bool (t n)
     (λ q. let w = latest_of n t k (by_eq k n (λ c. never_both (t n) (rw c at e) q) (λ c. omega arith)) e in (w.0, latest_skip n t q ∙ w.1, w.2))
 
 -- Where none passes, there is no latest one.
-pub latest_none : (n : ℕ) (t : ℕ → Bool) → ((k : ℕ) → k < n → t k ≡ false) → latest n t ≡ none
+pub latest_none : (n : ℕ) (t : ℕ → Bool) → ((k : ℕ) → k < n → t k ≡ false) → latest n t ≡ None
 unfolding latest
 latest_none zero t h = refl
 latest_none (suc n) t h = rw (h n (omega arith)) (latest_none n t (λ k lt. h k (omega arith)))

@@ -1,7 +1,6 @@
 -- Laws of the elements that pass a test, of the last element, and of tests over lists: at ends, over rows of lists, over mapped lists.
-use Rattle.std.specs.Prelude.{◌≡◌, refl, Bool, true, false, not, ◌&&◌, ◌||◌, List, [], ◌∷◌, ◌++◌, map, ℕ, zero, suc, ◌≤◌, length}
+use Rattle.std.specs.Prelude.{◌≡◌, refl, Bool, true, false, not, ◌&&◌, ◌||◌, List, [], ◌∷◌, ◌++◌, map, ℕ, zero, suc, ◌≤◌, length, Some}
 use Rattle.std.proofs.Common.{sym, ◌∙◌, ap, arith}
-use Rattle.std.proofs.Math.Option.{some}
 use Rattle.laws.specs.Choice.{pick, by_bool}
 use Rattle.laws.specs.Lists.{select, last_of, table, gather}
 use Rattle.laws.specs.Search.{any_below}
@@ -50,7 +49,7 @@ map_append g [] b = refl
 map_append {B = B} g (x ∷ a) b = ap (λ (l : List B). g x ∷ l) (map_append g a b)
 
 -- The last element of a list with one more.
-pub last_of_snoc : {A : Type 0} (l : List A) (x : A) → last_of (l ++ (x ∷ [])) ≡ some x
+pub last_of_snoc : {A : Type 0} (l : List A) (x : A) → last_of (l ++ (x ∷ [])) ≡ Some x
 unfolding last_of
 last_of_snoc [] x = refl
 last_of_snoc (y ∷ l) x = rw (last_of_snoc l x)

@@ -1,6 +1,6 @@
 -- A call through the recorder for C: what it leaves, field by field, and that its report fits the fields of its number.
 -- Assumes nothing.
-use Rattle.std.specs.Prelude.{◌≡◌, ◌∷◌, ◌-◌, ◌≤◌}
+use Rattle.std.specs.Prelude.{◌≡◌, ◌∷◌, ◌-◌, ◌≤◌, Err}
 use Rattle.laws.specs.Basics.{refl, sym, ap, List, [], Option, ℕ, arith, ltb, length, get_or, set, by_bool}
 use Rattle.model.specs.declared.{Named.Named, Run.Run, Refusal.Refusal, Refusal.TheVariants.ListTooShort, Refusal.TheVariants.BufferTooShort}
 use Rattle.model.specs.Refusals.{number, checkpoint_refusal, send_refusal, deliver_refusal, lose_refusal, recover_refusal}
@@ -14,13 +14,6 @@ use Rattle.in_place.specs.Starting.{start_refusal_in}
 use Rattle.library_recorder.specs.Recorded.{recorded_start_in, recorded_start_words}
 use Rattle.lemidrosy.specs.Recording.{Placed, at_place, unplaced, start_at, start_words_at, checkpoint_at, send_at, deliver_at, lose_at, line_at, recover_at, earliest_at}
 use Rattle.lemidrosy.proofs.Starting.{start_fits}
-use Rattle.model.specs.declared.StartAnswer.TheVariants as start_answer
-use Rattle.model.specs.declared.CheckpointAnswer.TheVariants as checkpoint-answer
-use Rattle.model.specs.declared.SendAnswer.TheVariants as send-answer
-use Rattle.model.specs.declared.DeliverAnswer.TheVariants as deliver-answer
-use Rattle.model.specs.declared.LoseAnswer.TheVariants as lose-answer
-use Rattle.model.specs.declared.LineAnswer.TheVariants as line_answer
-use Rattle.model.specs.declared.RecoverAnswer.TheVariants as recover-answer
 
 -- What a call leaves, each by itself.
 pub record LeavesAt {A : Type 0} (r : Placed A) (outcome : Outcome A) (bytes list : List ℕ) : Type 0 where
@@ -64,35 +57,35 @@ module _ {A : Type 0} where
     by_place : (l : List ℕ) → ByPlace (at_place none made buffer l) none made buffer l
     by_place l = record { without = λ e. leaves_at _ none buffer l (is_none l e); placed = λ e. leaves_at _ _ _ _ (is_some l e) }
 
-pub start_by : (w : List ℕ) (n : ℕ) (block_counts buffer l : List ℕ) → ByPlace (start_at w n block_counts buffer l) (unplaced (start_answer.Refused ListTooShort) (run_of w) [] []) (recorded_start_in (length w) n block_counts buffer) buffer l
+pub start_by : (w : List ℕ) (n : ℕ) (block_counts buffer l : List ℕ) → ByPlace (start_at w n block_counts buffer l) (unplaced (Err ListTooShort) (run_of w) [] []) (recorded_start_in (length w) n block_counts buffer) buffer l
 unfolding start_at
 start_by w n block_counts buffer l = by_place _ _ buffer l
 
-pub checkpoint_by : (s : Run) (i : ℕ) (deleted buffer l : List ℕ) → ByPlace (checkpoint_at s i deleted buffer l) (unplaced (checkpoint-answer.Refused ListTooShort) s deleted []) (recorded_checkpoint s i deleted buffer) buffer l
+pub checkpoint_by : (s : Run) (i : ℕ) (deleted buffer l : List ℕ) → ByPlace (checkpoint_at s i deleted buffer l) (unplaced (Err ListTooShort) s deleted []) (recorded_checkpoint s i deleted buffer) buffer l
 unfolding checkpoint_at
 checkpoint_by s i deleted buffer l = by_place _ _ buffer l
 
-pub send_by : (s : Run) (i j : ℕ) (buffer l : List ℕ) → ByPlace (send_at s i j buffer l) (unplaced (send-answer.Refused ListTooShort) s [] []) (recorded_send s i j buffer) buffer l
+pub send_by : (s : Run) (i j : ℕ) (buffer l : List ℕ) → ByPlace (send_at s i j buffer l) (unplaced (Err ListTooShort) s [] []) (recorded_send s i j buffer) buffer l
 unfolding send_at
 send_by s i j buffer l = by_place _ _ buffer l
 
-pub deliver_by : (s : Run) (m : ℕ) (deleted buffer l : List ℕ) → ByPlace (deliver_at s m deleted buffer l) (unplaced (deliver-answer.Refused ListTooShort) s deleted []) (recorded_deliver s m deleted buffer) buffer l
+pub deliver_by : (s : Run) (m : ℕ) (deleted buffer l : List ℕ) → ByPlace (deliver_at s m deleted buffer l) (unplaced (Err ListTooShort) s deleted []) (recorded_deliver s m deleted buffer) buffer l
 unfolding deliver_at
 deliver_by s m deleted buffer l = by_place _ _ buffer l
 
-pub lose_by : (s : Run) (m : ℕ) (buffer l : List ℕ) → ByPlace (lose_at s m buffer l) (unplaced (lose-answer.Refused ListTooShort) s [] []) (recorded_lose s m buffer) buffer l
+pub lose_by : (s : Run) (m : ℕ) (buffer l : List ℕ) → ByPlace (lose_at s m buffer l) (unplaced (Err ListTooShort) s [] []) (recorded_lose s m buffer) buffer l
 unfolding lose_at
 lose_by s m buffer l = by_place _ _ buffer l
 
-pub line_by : (s : Run) (F : ℕ) (line buffer l : List ℕ) → ByPlace (line_at s F line buffer l) (unplaced (line_answer.Refused ListTooShort) s [] line) (recorded_line s F line buffer) buffer l
+pub line_by : (s : Run) (F : ℕ) (line buffer l : List ℕ) → ByPlace (line_at s F line buffer l) (unplaced (Err ListTooShort) s [] line) (recorded_line s F line buffer) buffer l
 unfolding line_at
 line_by s F line buffer l = by_place _ _ buffer l
 
-pub recover_by : (s : Run) (F : ℕ) (deleted line buffer l : List ℕ) → ByPlace (recover_at s F deleted line buffer l) (unplaced (recover-answer.Refused ListTooShort) s deleted line) (recorded_recover s F deleted line buffer) buffer l
+pub recover_by : (s : Run) (F : ℕ) (deleted line buffer l : List ℕ) → ByPlace (recover_at s F deleted line buffer l) (unplaced (Err ListTooShort) s deleted line) (recorded_recover s F deleted line buffer) buffer l
 unfolding recover_at
 recover_by s F deleted line buffer l = by_place _ _ buffer l
 
-pub earliest_by : (s : Run) (x : List Named) (line buffer l : List ℕ) → ByPlace (earliest_at s x line buffer l) (unplaced (line_answer.Refused ListTooShort) s [] line) (recorded_earliest s x line buffer) buffer l
+pub earliest_by : (s : Run) (x : List Named) (line buffer l : List ℕ) → ByPlace (earliest_at s x line buffer l) (unplaced (Err ListTooShort) s [] line) (recorded_earliest s x line buffer) buffer l
 unfolding earliest_at
 earliest_by s x line buffer l = by_place _ _ buffer l
 
@@ -108,31 +101,31 @@ module _ (w : List ℕ) (n : ℕ) (block_counts buffer : List ℕ) where
   words_some (p ∷ l) e = refl
 
 -- The code of an answer to a call that is lent no place.
-pub start_three : 3 ≡ start_code (start_answer.Refused ListTooShort)
+pub start_three : 3 ≡ start_code (Err ListTooShort)
 unfolding start_report coded value_code_of number
 start_three = refl
 
-pub checkpoint_three : 3 ≡ checkpoint_code (checkpoint-answer.Refused ListTooShort)
+pub checkpoint_three : 3 ≡ checkpoint_code (Err ListTooShort)
 unfolding checkpoint_report coded value_code_of number
 checkpoint_three = refl
 
-pub send_three : 3 ≡ send_code (send-answer.Refused ListTooShort)
+pub send_three : 3 ≡ send_code (Err ListTooShort)
 unfolding send_report coded value_code_of number
 send_three = refl
 
-pub deliver_three : 3 ≡ deliver_code (deliver-answer.Refused ListTooShort) 0
+pub deliver_three : 3 ≡ deliver_code (Err ListTooShort) 0
 unfolding deliver_report coded value_code_of number
 deliver_three = refl
 
-pub lose_three : 3 ≡ lose_code (lose-answer.Refused ListTooShort)
+pub lose_three : 3 ≡ lose_code (Err ListTooShort)
 unfolding lose_report coded value_code_of number
 lose_three = refl
 
-pub line_three : 3 ≡ line_code (line_answer.Refused ListTooShort)
+pub line_three : 3 ≡ line_code (Err ListTooShort)
 unfolding line_report coded value_code_of number
 line_three = refl
 
-pub recover_three : 3 ≡ recover_code (recover-answer.Refused ListTooShort)
+pub recover_three : 3 ≡ recover_code (Err ListTooShort)
 unfolding recover_report coded value_code_of number
 recover_three = refl
 

@@ -1,7 +1,7 @@
 -- What every reader answers to a state that is not sound.
 -- Assumes nothing.
 use Rattle.std.specs.Prelude.{◌≡◌, ◌∷◌}
-use Rattle.laws.specs.Basics.{refl, false, List, [], Option, some, ℕ}
+use Rattle.laws.specs.Basics.{refl, false, List, [], Option, Some, ℕ}
 use Rattle.model.specs.declared.{Run.Run, Refusal.TheVariants.UnsoundState}
 use Rattle.model.specs.{Sound.sound, Refusals.number, Refusals.Rule, Refusals.unsound, laws.Refusals.refusal_in}
 use Rattle.listing.specs.answers.Codes.{coded, value_code_of}
@@ -14,7 +14,7 @@ Refuses r lent = (2 ≡ coded r.report 0) × (lent ≡ r.list)
 module _ (s : Run) (off : sound s ≡ false) where
   refuses : (rules : List Rule) (value : Option ℕ) (numbers lent : List ℕ) → Refuses (reading (unsound s ∷ rules) value numbers lent) lent
   unfolding reading coded value_code_of number
-  refuses rules value numbers lent = rw (refusal_in (unsound s ∷ rules) (some UnsoundState) (0, tt, rw off, refl)) (refl, refl)
+  refuses rules value numbers lent = rw (refusal_in (unsound s ∷ rules) (Some UnsoundState) (0, tt, rw off, refl)) (refl, refl)
 
   pub numbers_unsound : (lent : List ℕ) → Refuses (numbers_reading s lent) lent
   unfolding numbers_reading

@@ -1,12 +1,11 @@
 -- The pair that a verdict names fits the fields of its number, whatever the trace.
 -- Assumes nothing.
-use Rattle.std.specs.Prelude.{◌≡◌, ◌∷◌, ◌≤◌, ◌<◌}
+use Rattle.std.specs.Prelude.{◌≡◌, ◌∷◌, ◌≤◌, ◌<◌, Ok, Err, Some, None}
 use Rattle.laws.specs.Basics.{◌∙◌, List, [], ℕ, arith}
 use Rattle.model.specs.{Words.ones, Refusals.start_refusal, laws.Refusals.by_refusal}
 use Rattle.model.proofs.simulation.Accepted.{start_out}
-use Rattle.theory_patterns.specs.declared.{Verdict.Verdict, Verdict.TheVariants.Refused, Verdict.TheVariants.Trackable, Verdict.TheVariants.Breaks}
 use Rattle.theory_patterns.specs.Patterns.{Pattern, refused, whole, reading}
-use Rattle.theory_patterns.specs.Verdicts.{count_of, verdict, RightVerdict}
+use Rattle.theory_patterns.specs.Verdicts.{Verdict, count_of, verdict, RightVerdict}
 use Rattle.theory_patterns.proofs.Right.{verdict_right}
 use Rattle.lemidrosy.specs.Programs.{PairFits}
 
@@ -20,9 +19,9 @@ whole_count (n ∷ l) t e = by_refusal (start_refusal n ones)
 
 fits : (trace : List ℕ) (v : Verdict) → RightVerdict trace v → PairFits v
 unfolding RightVerdict PairFits
-fits trace (Refused r) h = tt
-fits trace Trackable h = tt
-fits trace (Breaks a α b β) h =
+fits trace (Err r) h = tt
+fits trace (Ok None) h = tt
+fits trace (Ok (Some w)) h =
     let few = whole_count trace h.0 h.1 in
     (omega (arith, few, h.2.breaks.near), omega (arith, few, h.2.breaks.far))
 

@@ -2,7 +2,7 @@
 -- Assumes nothing.
 use Rattle.laws.specs.Basics.{ℕ}
 use Rattle.listing.specs.answers.Codes.{coded}
-use Rattle.theory_roles.specs.declared.ListAnswer.{ListAnswer}
+use Rattle.theory_roles.specs.Console.{ListAnswer}
 use Rattle.theory_roles.specs.Console.{list_report}
 
 abbrev pub list_code : ListAnswer → ℕ

@@ -2,7 +2,7 @@
 // viewer) and the set of an owner's processes, bit p of which stands for process p; then the call's own arguments. What the caller may not do is refused with 25, before
 // every other number, and so is a number that is no role's. A refused call leaves every word and every entry of its lists as it was; only a start that is refused with a
 // number other than 25 makes the words zero.
-ghost use Rattle.std.specs.Prelude.{◌≡◌};
+ghost use Rattle.std.specs.Prelude.{◌≡◌, Err};
 ghost use Rattle.laws.specs.Basics.{length};
 ghost use Rattle.listing.specs.answers.Codes.{Fits, start_code, checkpoint_code, send_code, deliver_code, lose_code, line_code, recover_code};
 ghost use Rattle.words.specs.{Clean.Clean, Layout.run_of, Layout.state_size};
@@ -10,11 +10,6 @@ ghost use Rattle.words_line.specs.Through.{named_in};
 ghost use Rattle.theory_roles.specs.Console.{list_report};
 ghost use Rattle.library_console.specs.Asked.{start_as, start_words_as, checkpoint_as, send_as, deliver_as, lose_as, recover_as, line_as, earliest_as, list_as, counts_as};
 ghost use Rattle.lemidrosy.specs.{Changes.Changes, Console.list_code};
-ghost use Rattle.model.specs.declared.CheckpointAnswer.TheVariants as storing;
-ghost use Rattle.model.specs.declared.SendAnswer.TheVariants as sending;
-ghost use Rattle.model.specs.declared.DeliverAnswer.TheVariants as delivering;
-ghost use Rattle.model.specs.declared.LoseAnswer.TheVariants as losing;
-ghost use Rattle.model.specs.declared.RecoverAnswer.TheVariants as recovering;
 
 use theory_roles::ListAnswer;
 
@@ -24,8 +19,8 @@ fn of_list(answer: ListAnswer) -> u64
     ensures { result ≡ list_code answer }
 {
     match answer {
-        ListAnswer::Refused(why) => library_readers::refused(why),
-        ListAnswer::Listed(many) => library_readers::counted(many),
+        Err(why) => library_readers::refused(why),
+        Ok(many) => library_readers::counted(many),
     }
 }
 
@@ -44,7 +39,7 @@ pub extern "C" fn lemidrosy_console_start(
     ensures clean { length words.old ≡ state_size → Clean words.old → Clean words.new }
 {
     let answer = library_console::calls::start(role, owned, words, n, block_counts);
-    listing::answers::of_start(answer)
+    listing::answers::of(answer, 0)
 }
 
 // A process takes a checkpoint.
@@ -57,10 +52,10 @@ pub extern "C" fn lemidrosy_console_checkpoint(
     deleted: &mut [u16],
 ) -> u64
     ensures { let o = checkpoint_as role owned (run_of words.old) process deleted.old in
-        (result ≡ checkpoint_code o.answer) × (deleted.new ≡ o.deleted) × Changes storing.Refused o words.old words.new }
+        (result ≡ checkpoint_code o.answer) × (deleted.new ≡ o.deleted) × Changes Err o words.old words.new }
 {
     let answer = library_console::calls::checkpoint(role, owned, words, process, deleted);
-    listing::answers::of_checkpoint(answer)
+    listing::answers::of(answer, 0)
 }
 
 // A process sends a message to another, which may be anyone's.
@@ -73,10 +68,10 @@ pub extern "C" fn lemidrosy_console_send(
     receiver: usize,
 ) -> u64
     ensures { let o = send_as role owned (run_of words.old) sender receiver in
-        (result ≡ send_code o.answer) × Changes sending.Refused o words.old words.new }
+        (result ≡ send_code o.answer) × Changes Err o words.old words.new }
 {
     let answer = library_console::calls::send(role, owned, words, sender, receiver);
-    listing::answers::of_send(answer)
+    listing::answers::of(answer, 0)
 }
 
 // A message reaches its receiver.
@@ -90,11 +85,11 @@ pub extern "C" fn lemidrosy_console_deliver(
 ) -> u64
     ensures { let o = deliver_as role owned (run_of words.old) message deleted.old in
         (result ≡ deliver_code o.answer o.rose) × (deleted.new ≡ o.deleted)
-        × Changes delivering.Refused o words.old words.new }
+        × Changes Err o words.old words.new }
 {
     let delivered = library_console::calls::deliver(role, owned, words, message, deleted);
     let answer = delivered.answer;
-    listing::answers::of_deliver(answer, delivered.rose)
+    listing::answers::of(answer, delivered.rose)
 }
 
 // A message is lost.
@@ -106,10 +101,10 @@ pub extern "C" fn lemidrosy_console_lose(
     message: u32,
 ) -> u64
     ensures { let o = lose_as role owned (run_of words.old) message in
-        (result ≡ lose_code o.answer) × Changes losing.Refused o words.old words.new }
+        (result ≡ lose_code o.answer) × Changes Err o words.old words.new }
 {
     let answer = library_console::calls::lose(role, owned, words, message);
-    listing::answers::of_lose(answer)
+    listing::answers::of(answer, 0)
 }
 
 // The caller's members of the line for a failed set go to their places in the lent list; no other place of it changes.
@@ -125,7 +120,7 @@ pub extern "C" fn lemidrosy_console_line(
         (result ≡ line_code o.answer) × (line.new ≡ o.line) }
 {
     let answer = library_console::shown::line(role, owned, words, failed, line);
-    listing::answers::of_line(answer)
+    listing::answers::of(answer, 0)
 }
 
 // Every process goes back to the line for a failed set, or the run is swept: for an operator alone.
@@ -140,10 +135,10 @@ pub extern "C" fn lemidrosy_console_recover(
 ) -> u64
     ensures { let o = recover_as role owned (run_of words.old) failed deleted.old line.old in
         (result ≡ recover_code o.answer) × (deleted.new ≡ o.deleted) × (line.new ≡ o.line)
-        × Changes recovering.Refused o words.old words.new }
+        × Changes Err o words.old words.new }
 {
     let answer = library_console::calls::recover(role, owned, words, failed, deleted, line);
-    listing::answers::of_recover(answer)
+    listing::answers::of(answer, 0)
 }
 
 // The earliest consistent line through the named checkpoints: for an operator alone.
@@ -159,7 +154,7 @@ pub extern "C" fn lemidrosy_console_earliest(
         (result ≡ line_code o.answer) × (line.new ≡ o.line) }
 {
     let answer = library_console::calls::earliest(role, owned, words, named, line);
-    listing::answers::of_line(answer)
+    listing::answers::of(answer, 0)
 }
 
 // The checkpoints that the caller's processes keep go to the front of the lent list, as deletions do. The value says how many they are.
@@ -189,5 +184,5 @@ pub extern "C" fn lemidrosy_console_counts(
         (result ≡ line_code o.answer) × (line.new ≡ o.line) }
 {
     let answer = library_console::shown::counts(role, owned, words, line);
-    listing::answers::of_line(answer)
+    listing::answers::of(answer, 0)
 }

@@ -1,6 +1,6 @@
 // What works on no state: the judge of another run-time's trace (document 02, Note 7), the merge of two halves of one run (Note 12) and a simulation (Note 10).
-ghost use Rattle.std.specs.Prelude.{◌≡◌, ◌≤◌};
-ghost use Rattle.laws.specs.Basics.{none, length};
+ghost use Rattle.std.specs.Prelude.{◌≡◌, ◌≤◌, ◌<◌, Ok, Some};
+ghost use Rattle.laws.specs.Basics.{None, length};
 ghost use Rattle.listing.specs.answers.Codes.{coded, Fits};
 ghost use Rattle.theory_merges.specs.{Halves.OrdersAgree, Merge.merge_outcome, Merge.merge_report, Merge.MergePromise};
 ghost use Rattle.theory_patterns.specs.Verdicts.{verdict};
@@ -8,8 +8,8 @@ ghost use Rattle.theory_recording.specs.spacing.Spacing.{trial_refusal, AgreesWi
 ghost use Rattle.lemidrosy.specs.Programs.{judge_code, PairFits, merge_code, figures_written, simulation};
 
 use model::MergeAnswer;
-use theory_patterns::Verdict;
-use theory_recording::spacing::{TrialAnswer, TrialResult};
+use theory_patterns::{BreakingPair, Verdict};
+use theory_recording::spacing::TrialResult;
 
 // The weights of the fields of a pair that breaks.
 const PAIR: u64 = 256;
@@ -22,18 +22,25 @@ const FAR: u64 = 1099511627776;
 
 const FAR_INDEX: u64 = 281474976710656;
 
+fn breaks_code(w: BreakingPair) -> u64
+    requires { (w.near.process < 256) × (w.far.process < 256) }
+    ensures { result ≡ judge_code (Ok (Some w)) }
+{
+    let near = w.near;
+    let far = w.far;
+    let near_end = NEAR * (near.process as u64) + NEAR_INDEX * (near.index.0 as u64);
+    let far_end = FAR * (far.process as u64) + FAR_INDEX * (far.index.0 as u64);
+    PAIR + near_end + far_end
+}
+
 fn verdict_code(v: Verdict) -> u64
     requires { PairFits v }
     ensures { result ≡ judge_code v }
 {
     match v {
-        Verdict::Refused(why) => listing::summaries::number_of(why) as u64,
-        Verdict::Trackable => 0,
-        Verdict::Breaks(near, near_index, far, far_index) => {
-            let near_end = NEAR * (near as u64) + NEAR_INDEX * (near_index.0 as u64);
-            let far_end = FAR * (far as u64) + FAR_INDEX * (far_index.0 as u64);
-            PAIR + near_end + far_end
-        }
+        Err(why) => listing::summaries::number_of(why) as u64,
+        Ok(None) => 0,
+        Ok(Some(w)) => breaks_code(w),
     }
 }
 
@@ -51,8 +58,8 @@ fn merge_code(a: MergeAnswer) -> u64
     ensures { result ≡ merge_code a }
 {
     match a {
-        MergeAnswer::Refused(why) => library_readers::refused(why),
-        MergeAnswer::Merged(bytes) => library_readers::counted(bytes),
+        Err(why) => library_readers::refused(why),
+        Ok(bytes) => library_readers::counted(bytes),
     }
 }
 
@@ -85,15 +92,14 @@ fn write_figures(figures: &mut [u64], res: TrialResult) -> u64
     ensures value { result ≡ coded (figures_written res figures.old).report 0 }
     ensures figures_after { figures.new ≡ (figures_written res figures.old).list }
 {
-    let answer = res.answer;
-    match answer {
-        TrialAnswer::Refused(why) => listing::summaries::number_of(why) as u64,
-        TrialAnswer::Tried => {
-            figures[0] = res.deliveries as u64;
-            figures[1] = res.forced as u64;
-            figures[2] = res.most as u64;
-            figures[3] = res.quotient as u64;
-            figures[4] = res.remainder as u64;
+    match res {
+        Err(why) => listing::summaries::number_of(why) as u64,
+        Ok(found) => {
+            figures[0] = found.deliveries as u64;
+            figures[1] = found.forced as u64;
+            figures[2] = found.most as u64;
+            figures[3] = found.quotient as u64;
+            figures[4] = found.remainder as u64;
             0
         }
     }
@@ -112,7 +118,7 @@ pub extern "C" fn lemidrosy_simulate(
 ) -> u64
     ensures value { result ≡ coded (simulation n spacing steps seed figures.old).report 0 }
     ensures figures_after { figures.new ≡ (simulation n spacing steps seed figures.old).list }
-    ensures agrees_with_replay { trial_refusal n spacing steps ≡ none → AgreesWithReplay n spacing steps seed }
+    ensures agrees_with_replay { trial_refusal n spacing steps ≡ None → AgreesWithReplay n spacing steps seed }
 {
     if figures.len() < FIGURES {
         return LIST_TOO_SHORT;

@@ -2,18 +2,13 @@
 // next byte goes to. The buffer is a trace: its first byte is n, after it stand the records of the accepted calls. Refused with 21, after every other number, is a call whose
 // record has no room after the place, and with 3, before any other number, one that is lent no place. A refused call leaves every word, entry and byte and the place as they
 // were; a start with a place that is refused makes the words zero. What a replay of the buffer gives is the theorem of `library_recorder`, specs/Recorded.
-ghost use Rattle.std.specs.Prelude.{◌≡◌, ◌≤◌};
+ghost use Rattle.std.specs.Prelude.{◌≡◌, ◌≤◌, Err};
 ghost use Rattle.laws.specs.Basics.{length};
 ghost use Rattle.listing.specs.answers.Codes.{start_code, checkpoint_code, send_code, deliver_code, lose_code, line_code, recover_code};
 ghost use Rattle.words.specs.{Clean.Clean, Layout.run_of, Layout.state_size};
 ghost use Rattle.words_line.specs.Through.{named_in};
 ghost use Rattle.lemidrosy.specs.Changes.{Changes};
 ghost use Rattle.lemidrosy.specs.Recording.{start_at, start_words_at, checkpoint_at, send_at, deliver_at, lose_at, line_at, recover_at, earliest_at};
-ghost use Rattle.model.specs.declared.CheckpointAnswer.TheVariants as storing;
-ghost use Rattle.model.specs.declared.SendAnswer.TheVariants as sending;
-ghost use Rattle.model.specs.declared.DeliverAnswer.TheVariants as delivering;
-ghost use Rattle.model.specs.declared.LoseAnswer.TheVariants as losing;
-ghost use Rattle.model.specs.declared.RecoverAnswer.TheVariants as recovering;
 
 // The number of the answer to a call that is lent no place.
 const NO_PLACE: u64 = 3;
@@ -39,7 +34,7 @@ pub extern "C" fn lemidrosy_record_start(
     let recorded = library_recorder::start(words, n, block_counts, buffer, at);
     let answer = recorded.answer;
     place[0] = recorded.place as u64;
-    listing::answers::of_start(answer)
+    listing::answers::of(answer, 0)
 }
 
 // A process takes a checkpoint.
@@ -53,7 +48,7 @@ pub extern "C" fn lemidrosy_record_checkpoint(
 ) -> u64
     ensures { let o = checkpoint_at (run_of words.old) process deleted.old buffer.old place.old in
         (result ≡ checkpoint_code o.outcome.answer) × (deleted.new ≡ o.outcome.deleted) × (buffer.new ≡ o.buffer) × (place.new ≡ o.places)
-        × Changes storing.Refused o.outcome words.old words.new }
+        × Changes Err o.outcome words.old words.new }
 {
     if place.len() == 0 {
         return NO_PLACE;
@@ -62,7 +57,7 @@ pub extern "C" fn lemidrosy_record_checkpoint(
     let recorded = library_recorder::checkpoint(words, process, deleted, buffer, at);
     let answer = recorded.answer;
     place[0] = recorded.place as u64;
-    listing::answers::of_checkpoint(answer)
+    listing::answers::of(answer, 0)
 }
 
 // A process sends a message to another.
@@ -76,7 +71,7 @@ pub extern "C" fn lemidrosy_record_send(
 ) -> u64
     ensures { let o = send_at (run_of words.old) sender receiver buffer.old place.old in
         (result ≡ send_code o.outcome.answer) × (buffer.new ≡ o.buffer) × (place.new ≡ o.places)
-        × Changes sending.Refused o.outcome words.old words.new }
+        × Changes Err o.outcome words.old words.new }
 {
     if place.len() == 0 {
         return NO_PLACE;
@@ -85,7 +80,7 @@ pub extern "C" fn lemidrosy_record_send(
     let recorded = library_recorder::send(words, sender, receiver, buffer, at);
     let answer = recorded.answer;
     place[0] = recorded.place as u64;
-    listing::answers::of_send(answer)
+    listing::answers::of(answer, 0)
 }
 
 // A message reaches its receiver.
@@ -100,7 +95,7 @@ pub extern "C" fn lemidrosy_record_deliver(
     ensures { let o = deliver_at (run_of words.old) message deleted.old buffer.old place.old in
         (result ≡ deliver_code o.outcome.answer o.outcome.rose) × (deleted.new ≡ o.outcome.deleted)
         × (buffer.new ≡ o.buffer) × (place.new ≡ o.places)
-        × Changes delivering.Refused o.outcome words.old words.new }
+        × Changes Err o.outcome words.old words.new }
 {
     if place.len() == 0 {
         return NO_PLACE;
@@ -109,7 +104,7 @@ pub extern "C" fn lemidrosy_record_deliver(
     let recorded = library_recorder::deliver(words, message, deleted, buffer, at);
     let answer = recorded.answer;
     place[0] = recorded.place as u64;
-    listing::answers::of_deliver(answer, recorded.rose)
+    listing::answers::of(answer, recorded.rose)
 }
 
 // A message is lost.
@@ -122,7 +117,7 @@ pub extern "C" fn lemidrosy_record_lose(
 ) -> u64
     ensures { let o = lose_at (run_of words.old) message buffer.old place.old in
         (result ≡ lose_code o.outcome.answer) × (buffer.new ≡ o.buffer) × (place.new ≡ o.places)
-        × Changes losing.Refused o.outcome words.old words.new }
+        × Changes Err o.outcome words.old words.new }
 {
     if place.len() == 0 {
         return NO_PLACE;
@@ -131,7 +126,7 @@ pub extern "C" fn lemidrosy_record_lose(
     let recorded = library_recorder::lose(words, message, buffer, at);
     let answer = recorded.answer;
     place[0] = recorded.place as u64;
-    listing::answers::of_lose(answer)
+    listing::answers::of(answer, 0)
 }
 
 // The line for a failed set. It is no event: the buffer and the place are as they were.
@@ -153,7 +148,7 @@ pub extern "C" fn lemidrosy_record_line(
     let recorded = library_recorder::line(words, failed, line, buffer, at);
     let answer = recorded.answer;
     place[0] = recorded.place as u64;
-    listing::answers::of_line(answer)
+    listing::answers::of(answer, 0)
 }
 
 // Every process goes back to the line for a failed set; with an empty set a sweep.
@@ -169,7 +164,7 @@ pub extern "C" fn lemidrosy_record_recover(
     ensures { let o = recover_at (run_of words.old) failed deleted.old line.old buffer.old place.old in
         (result ≡ recover_code o.outcome.answer) × (deleted.new ≡ o.outcome.deleted) × (line.new ≡ o.outcome.line)
         × (buffer.new ≡ o.buffer) × (place.new ≡ o.places)
-        × Changes recovering.Refused o.outcome words.old words.new }
+        × Changes Err o.outcome words.old words.new }
 {
     if place.len() == 0 {
         return NO_PLACE;
@@ -178,7 +173,7 @@ pub extern "C" fn lemidrosy_record_recover(
     let recorded = library_recorder::recover(words, failed, deleted, line, buffer, at);
     let answer = recorded.answer;
     place[0] = recorded.place as u64;
-    listing::answers::of_recover(answer)
+    listing::answers::of(answer, 0)
 }
 
 // The earliest consistent line through the named checkpoints. It is no event: the buffer and the place are as they were.
@@ -200,5 +195,5 @@ pub extern "C" fn lemidrosy_record_earliest(
     let recorded = library_recorder::earliest(words, named, line, buffer, at);
     let answer = recorded.answer;
     place[0] = recorded.place as u64;
-    listing::answers::of_line(answer)
+    listing::answers::of(answer, 0)
 }

@@ -1,7 +1,7 @@
 -- For C: a block of records applied to the words.
 -- Assumes nothing.
 use Rattle.std.specs.Prelude.{◌∷◌}
-use Rattle.laws.specs.Basics.{Bool, List, [], none, ℕ, ltb, length, pick}
+use Rattle.laws.specs.Basics.{Bool, List, [], None, ℕ, ltb, length, pick}
 use Rattle.model.specs.declared.{Refusal.TheVariants.ListTooShort, Run.Run}
 use Rattle.whole_runs.specs.Outcomes.{Report, written, refusing, accepting}
 use Rattle.library_replay.specs.Taken.{BlockOutcome, block_outcome}
@@ -21,4 +21,4 @@ unfoldable pub replaying : Bool → ℕ → Run → List ℕ → List ℕ → Li
 replaying all done s records text progress = pick (ltb (length progress) 3)
     (record { report = refusing ListTooShort; run = s; text = text; progress = progress })
     (let o = block_outcome all done s records (length text) in
-    record { report = accepting none 0; run = o.run; text = written text o.lines; progress = written progress (progress_of o) })
+    record { report = accepting None 0; run = o.run; text = written text o.lines; progress = written progress (progress_of o) })

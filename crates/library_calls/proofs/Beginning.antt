@@ -1,7 +1,7 @@
 -- What a start leaves of 6,464 words, with 16 counts lent, is readable, and stands for the state that document 01's start returns.
 -- Assumes nothing.
 use Rattle.std.specs.Prelude.{◌≡◌, ◌≤◌}
-use Rattle.laws.specs.Basics.{refl, List, [], none, ℕ, zero, suc, arith, leb, length, replicate, length-replicate, get_or-replicate, eq-eqb, le-leb, lt-leb, leb-true, not-false}
+use Rattle.laws.specs.Basics.{refl, List, [], None, ℕ, zero, suc, arith, leb, length, replicate, length-replicate, get_or-replicate, eq-eqb, le-leb, lt-leb, leb-true, not-false}
 use Rattle.laws.specs.{Rows.by_lt, Truth.and_left}
 use Rattle.model.specs.{Refusals.first_of, Refusals.start_refusal, Words.most_processes, Words.no_checkpoint, Words.blank}
 use Rattle.model.specs.{Steps.checkpoint_zero, Steps.started, Steps.start_state, laws.Refusals.no_rule, laws.Refusals.by_refusal}
@@ -59,7 +59,7 @@ module _ (n : ℕ) (one : 1 ≤ n) (most : n ≤ 16) where
   unfolding start_state
   start_small block_counts = small_disk _ (small_processes n (started block_counts) (blank n) blank_small (λ p lt. first block_counts p)) _
 
-accepted_some : (many n : ℕ) (block_counts : List ℕ) → start_refusal_in many n block_counts ≡ none → 1 ≤ n
+accepted_some : (many n : ℕ) (block_counts : List ℕ) → start_refusal_in many n block_counts ≡ None → 1 ≤ n
 unfolding start_refusal_in
 accepted_some many n block_counts fine = leb-true 1 n (and_left (leb 1 n) (leb n 16) (not-false _ (no_rule _ fine 0)))
 

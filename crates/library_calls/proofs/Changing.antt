@@ -1,7 +1,7 @@
 -- What a call leaves is a state of 1 to 16 processes whose causes have 8 bits, if it was made on one; what it says of words that were filled from a state.
 -- Assumes nothing.
 use Rattle.std.specs.Prelude.{◌≡◌, ◌&&◌, ◌≤◌}
-use Rattle.laws.specs.Basics.{refl, sym, ◌∙◌, ap, Bool, true, false, not, false≢true, List, Option, none, some, ℕ, arith, leb, le-leb, leb-true, by_bool}
+use Rattle.laws.specs.Basics.{refl, sym, ◌∙◌, ap, Bool, true, false, not, false≢true, List, Option, None, Some, ℕ, arith, leb, le-leb, leb-true, by_bool}
 use Rattle.laws.specs.Truth.{and_out}
 use Rattle.model.specs.{declared.Refusal.Refusal, declared.Run.Run, Words.most_processes, Words.most_under_way, Refusals.send_refusal, Refusals.lose_refusal}
 use Rattle.model.specs.{Words.process, Words.with_process, Steps.marked, Steps.send_state, Steps.others, Steps.lose_state, Sound.sound, laws.Sound.sound_state}
@@ -13,8 +13,8 @@ use Rattle.library_calls.proofs.run_words.Causes.{Small, small_messages, small_p
 
 -- Of two outcomes the state.
 pub either_run : {A : Type 0} (P : Run → Type 0) (o : Option Refusal) (a : Refusal → Outcome A) (b : Outcome A) → ((r : Refusal) → P (a r).run) → P b.run → P (judged o a b).run
-either_run P none a b x y = y
-either_run P (some r) a b x y = x r
+either_run P None a b x y = y
+either_run P (Some r) a b x y = x r
 
 pub sound_small : (s : Run) → Sized s → sound s ≡ true → Small s
 sound_small s z h = let st = sound_state s h in record {

@@ -1,7 +1,7 @@
 -- What a send and a loss leave of the state as it is: all but the sent marks and the messages.
 -- Assumes nothing.
 use Rattle.std.specs.Prelude.{◌≡◌, ◌∷◌, ◌++◌, ◌+◌, ◌<◌}
-use Rattle.laws.specs.Basics.{refl, sym, ◌∙◌, ap, true, [], Option, none, some, ℕ, arith, length, get_or}
+use Rattle.laws.specs.Basics.{refl, sym, ◌∙◌, ap, true, [], Option, None, Some, ℕ, arith, length, get_or}
 use Rattle.model.specs.declared.{Checkpoint.Checkpoint, Message.Message, Refusal.Refusal, Run.Run}
 use Rattle.model.specs.{Words.no_checkpoint, Words.past_end, Words.no_message, Words.process, Words.with_process, Words.under_way, Words.with_messages, Sound.sound}
 use Rattle.model.specs.{Steps.marked, Steps.sent_message, Steps.send_state, Steps.lose_state, Refusals.send_refusal, Refusals.lose_refusal}
@@ -40,10 +40,10 @@ module _ (s : Run) (z : Sized s) (whole : sound s ≡ true) (i j : ℕ) where
       let back : with_process s i (marked (process s i)) ≡ with_mark s i true = rows_back s whole plain i lt true in
       ap after back ∙ sym (ap (λ (r : Run). after_messages s (after r)) back)
 
-  accepted : {A : Type 0} (o : Option Refusal) (a : Refusal → Outcome A) (b : Outcome A) → (o ≡ none → b.run ≡ after_messages s b.run) → ((r : Refusal) → (a r).run ≡ after_messages s (a r).run)
+  accepted : {A : Type 0} (o : Option Refusal) (a : Refusal → Outcome A) (b : Outcome A) → (o ≡ None → b.run ≡ after_messages s b.run) → ((r : Refusal) → (a r).run ≡ after_messages s (a r).run)
       → (judged o a b).run ≡ after_messages s (judged o a b).run
-  accepted none a b x y = x refl
-  accepted (some r) a b x y = y r
+  accepted None a b x y = x refl
+  accepted (Some r) a b x y = y r
 
   pub send_leaves : (send_outcome s i j).run ≡ after_messages s (send_outcome s i j).run
   unfolding send_outcome after_messages

@@ -23,7 +23,7 @@ pub fn checkpoint(s: Run, i: usize, deleted: &mut [u16]) -> CheckpointOutcome
 {
     let few = fill::are_counts_fit(s.count, s.underway);
     if !few {
-        let answer = CheckpointAnswer::Refused(Refusal::UnsoundState);
+        let answer = Err(Refusal::UnsoundState);
         return CheckpointOutcome { run: s, answer };
     }
     let mut run = s;
@@ -31,8 +31,8 @@ pub fn checkpoint(s: Run, i: usize, deleted: &mut [u16]) -> CheckpointOutcome
     fill::fill(&mut w, run);
     let answer = in_place::checkpoint::checkpoint(&mut w, i, deleted);
     match answer {
-        CheckpointAnswer::Refused(_) => {}
-        CheckpointAnswer::Stored(_, _) => {
+        Err(_) => {}
+        Ok(_) => {
             run = read::read(&w);
         }
     }

@@ -26,7 +26,7 @@ pub fn deliver(s: Run, m: u32, deleted: &mut [u16]) -> DeliverOutcome
 {
     let few = fill::are_counts_fit(s.count, s.underway);
     if !few {
-        let answer = DeliverAnswer::Refused(Refusal::UnsoundState);
+        let answer = Err(Refusal::UnsoundState);
         return DeliverOutcome {
             run: s,
             answer,
@@ -40,7 +40,7 @@ pub fn deliver(s: Run, m: u32, deleted: &mut [u16]) -> DeliverOutcome
     let answer = delivered.answer;
     let rose = delivered.rose;
     match answer {
-        DeliverAnswer::Refused(_) => {}
+        Err(_) => {}
         _ => {
             run = read::read(&w);
         }

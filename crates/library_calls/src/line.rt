@@ -24,7 +24,7 @@ pub fn line(s: Run, failed: u16, line: &mut [u16]) -> LineOutcome
 {
     let few = fill::are_counts_fit(s.count, s.underway);
     if !few {
-        let answer = LineAnswer::Refused(Refusal::UnsoundState);
+        let answer = Err(Refusal::UnsoundState);
         return LineOutcome { run: s, answer };
     }
     let run = s;

@@ -22,7 +22,7 @@ pub fn lose(s: Run, m: u32) -> LoseOutcome
 {
     let few = fill::are_counts_fit(s.count, s.underway);
     if !few {
-        let answer = LoseAnswer::Refused(Refusal::UnsoundState);
+        let answer = Err(Refusal::UnsoundState);
         return LoseOutcome { run: s, answer };
     }
     let mut run = s;
@@ -30,8 +30,8 @@ pub fn lose(s: Run, m: u32) -> LoseOutcome
     fill::fill(&mut w, run);
     let answer = in_place::lose::lose(&mut w, m);
     match answer {
-        LoseAnswer::Refused(_) => {}
-        LoseAnswer::Lost => {
+        Err(_) => {}
+        Ok(()) => {
             run = read::read_messages(&w, run);
         }
     }

@@ -28,7 +28,7 @@ pub fn recover(s: Run, failed: u16, deleted: &mut [u16], line: &mut [u16]) -> Re
 {
     let few = fill::are_counts_fit(s.count, s.underway);
     if !few {
-        let answer = RecoverAnswer::Refused(Refusal::UnsoundState);
+        let answer = Err(Refusal::UnsoundState);
         return RecoverOutcome { run: s, answer };
     }
     let mut run = s;
@@ -36,8 +36,8 @@ pub fn recover(s: Run, failed: u16, deleted: &mut [u16], line: &mut [u16]) -> Re
     fill::fill(&mut w, run);
     let answer = in_place_recover::recover(&mut w, failed as u32, deleted, line);
     match answer {
-        RecoverAnswer::Refused(_) => {}
-        RecoverAnswer::Recovered(_, _) => {
+        Err(_) => {}
+        Ok(_) => {
             run = read::read(&w);
         }
     }

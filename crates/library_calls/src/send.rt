@@ -22,7 +22,7 @@ pub fn send(s: Run, i: usize, j: usize) -> SendOutcome
 {
     let few = fill::are_counts_fit(s.count, s.underway);
     if !few {
-        let answer = SendAnswer::Refused(Refusal::UnsoundState);
+        let answer = Err(Refusal::UnsoundState);
         return SendOutcome { run: s, answer };
     }
     let mut run = s;
@@ -30,8 +30,8 @@ pub fn send(s: Run, i: usize, j: usize) -> SendOutcome
     fill::fill(&mut w, run);
     let answer = in_place::send::send(&mut w, i, j);
     match answer {
-        SendAnswer::Refused(_) => {}
-        SendAnswer::Sent(_) => {
+        Err(_) => {}
+        Ok(_) => {
             run = read::read_messages(&w, run);
         }
     }

@@ -23,7 +23,7 @@ fn earliest_of(s: Run, copied: Copied, line: &mut [u16]) -> EarliestOutcome
 {
     let few = fill::are_counts_fit(s.count, s.underway);
     if !few {
-        let answer = LineAnswer::Refused(Refusal::UnsoundState);
+        let answer = Err(Refusal::UnsoundState);
         return EarliestOutcome { run: s, answer };
     }
     let mut w = [0u16; WORDS];

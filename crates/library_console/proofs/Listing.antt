@@ -1,7 +1,7 @@
 -- The checkpoints that are listed to a caller: of one process, and of the processes passed so far.
 -- Assumes nothing.
-use Rattle.std.specs.Prelude.{◌≡◌, ◌∷◌, ◌++◌, ◌+◌, ◌*◌, ◌≤◌, ◌<◌}
-use Rattle.laws.specs.Basics.{refl, sym, ◌∙◌, ap, Bool, true, false, not, List, [], Option, none, some, ℕ, suc, arith, ltb, length, length-append, sets, pick, by_bool}
+use Rattle.std.specs.Prelude.{◌≡◌, ◌∷◌, ◌++◌, ◌+◌, ◌*◌, ◌≤◌, ◌<◌, Err, Ok}
+use Rattle.laws.specs.Basics.{refl, sym, ◌∙◌, ap, Bool, true, false, not, List, [], Option, None, Some, ℕ, suc, arith, ltb, length, length-append, sets, pick, by_bool}
 use native.Mathlib.Nat.{suc-mul, mul-le-mul_right, mul_assoc}
 use native.Mathlib.Numerals.{add-one}
 use Rattle.laws.specs.{Lists.table, Lists.gather, Tables.length_table, Tables.gather_same, Written.sets_after}
@@ -12,10 +12,9 @@ use Rattle.whole_runs.specs.Outcomes.{Outcome, judged, pairs}
 use Rattle.whole_runs.proofs.whole.{Pairs.length_pairs, Gone.pairs_append}
 use Rattle.words.specs.Layout.{word, count_of, kept_count_at_of, checkpoint_in, run_of}
 use Rattle.words.proofs.{View.count_is_lem, ViewSound.sound_words, ViewSound.sound_kept_is}
-use Rattle.theory_roles.specs.declared.{Role.Role, Caller.Caller, Operation.TheVariants.List as Catalogue, ListAnswer.ListAnswer}
-use Rattle.theory_roles.specs.declared.ListAnswer.TheVariants.{Refused, Listed}
+use Rattle.theory_roles.specs.Console.{ListAnswer}
+use Rattle.theory_roles.specs.declared.{Role.Role, Caller.Caller, Operation.TheVariants.List as Catalogue}
 use Rattle.theory_roles.specs.Console.{may, denied, entitled, entitled_by, listed_to, list_refusal, console_list}
-use Rattle.library_console.specs.declared.{denied.Claim.Claim, denied.Claim.TheVariants.Unknown, denied.Claim.TheVariants.As}
 use Rattle.library_console.specs.{Asked.claim_of, Asked.asked, Asked.list_as, Listed.listed_of, Listed.listed_below}
 
 length_listed : (p : ℕ) (l : List Checkpoint) → length (listed p l) ≡ length l
@@ -135,12 +134,12 @@ module _ (r : Role) (owned : ℕ) (w lent : List ℕ) where
   ListIs a l = (a ≡ (console_list c (run_of w) lent).answer) × (l ≡ (console_list c (run_of w) lent).deleted)
 
   module _ {b : Bool} (e : b ≡ may r Catalogue) where
-    pub list_denied : not b ≡ true → ListIs (Refused Denied) lent
+    pub list_denied : not b ≡ true → ListIs (Err Denied) lent
     unfolding console_list denied
     list_denied t = rw (sym (ap not e) ∙ t) (refl, refl)
 
     module _ (t : not b ≡ false) where
-      pub list_unsound : sound (run_of w) ≡ false → ListIs (Refused UnsoundState) lent
+      pub list_unsound : sound (run_of w) ≡ false → ListIs (Err UnsoundState) lent
       unfolding console_list denied list_refusal first_of
       list_unsound h = rw (sym (ap not e) ∙ t, h) (refl, refl)
 
@@ -148,15 +147,15 @@ module _ (r : Role) (owned : ℕ) (w lent : List ℕ) where
         counted : ltb (length lent) (2 * (run_of w).count * (run_of w).count) ≡ ltb (length lent) (2 * count_of w * count_of w)
         counted = ap (λ (n : ℕ). ltb (length lent) (2 * n * n)) (count_is_lem w (sound_words w h).fit)
 
-        pub list_short : ltb (length lent) (2 * count_of w * count_of w) ≡ true → ListIs (Refused ListTooShort) lent
+        pub list_short : ltb (length lent) (2 * count_of w * count_of w) ≡ true → ListIs (Err ListTooShort) lent
         unfolding console_list denied list_refusal first_of
         list_short short = rw (sym (ap not e) ∙ t, h, counted ∙ short) (refl, refl)
 
         pub list_made : ltb (length lent) (2 * count_of w * count_of w) ≡ false → (count : ℕ) (out : List ℕ) → count ≡ length (listed_below r owned (count_of w) w (count_of w))
-            → out ≡ sets lent 0 (pairs (listed_below r owned (count_of w) w (count_of w))) → ListIs (Listed count) out
+            → out ≡ sets lent 0 (pairs (listed_below r owned (count_of w) w (count_of w))) → ListIs (Ok count) out
         unfolding console_list denied list_refusal first_of
         list_made long count out many wrote =
-            rw (sym (ap not e) ∙ t, h, counted ∙ long) (ap Listed (many ∙ ap length (list_is r owned w h)), wrote ∙ ap (λ (l : List Deletion). sets lent 0 (pairs l)) (list_is r owned w h))
+            rw (sym (ap not e) ∙ t, h, counted ∙ long) (ap Ok (many ∙ ap length (list_is r owned w h)), wrote ∙ ap (λ (l : List Deletion). sets lent 0 (pairs l)) (list_is r owned w h))
 
 -- And by the number of a role. No list changes the run.
 list_leaves : (c : Caller) (s : Run) (lent : List ℕ) → s ≡ (console_list c s lent).run
@@ -164,17 +163,17 @@ unfolding console_list
 list_leaves c s lent = by_bool (denied c Catalogue) (λ e. rw e) (λ e. rw e (left (list_refusal s lent)))
   where
     left : (o : Option Refusal) → s ≡ (judged {A = Outcome ListAnswer} o
-        (λ r. record { run = s; answer = Refused r; rose = 0; deleted = lent; line = [] })
-        (record { run = s; answer = Listed (length (listed_to c s)); rose = 0; deleted = sets lent 0 (pairs (listed_to c s)); line = [] })).run
-    left none = refl
-    left (some r) = refl
+        (λ r. record { run = s; answer = Err r; rose = 0; deleted = lent; line = [] })
+        (record { run = s; answer = Ok (length (listed_to c s)); rose = 0; deleted = sets lent 0 (pairs (listed_to c s)); line = [] })).run
+    left None = refl
+    left (Some r) = refl
 
-module _ (role owned : ℕ) (s : Run) (lent : List ℕ) {q : Claim} (e : q ≡ claim_of role) where
-  pub list_unknown : q ≡ Unknown → (s ≡ (list_as role owned s lent).run) × ((Refused Denied ≡ (list_as role owned s lent).answer) × (lent ≡ (list_as role owned s lent).deleted))
+module _ (role owned : ℕ) (s : Run) (lent : List ℕ) {q : Option Role} (e : q ≡ claim_of role) where
+  pub list_unknown : q ≡ None → (s ≡ (list_as role owned s lent).run) × ((Err Denied ≡ (list_as role owned s lent).answer) × (lent ≡ (list_as role owned s lent).deleted))
   unfolding list_as asked
   list_unknown u = rw (sym e ∙ u) (refl, (refl, refl))
 
-  pub list_known : (r : Role) → q ≡ As r → {a : ListAnswer} {out : List ℕ} → a ≡ (console_list (record { role = r; owned = owned }) s lent).answer
+  pub list_known : (r : Role) → q ≡ Some r → {a : ListAnswer} {out : List ℕ} → a ≡ (console_list (record { role = r; owned = owned }) s lent).answer
       → out ≡ (console_list (record { role = r; owned = owned }) s lent).deleted
       → (s ≡ (list_as role owned s lent).run) × ((a ≡ (list_as role owned s lent).answer) × (out ≡ (list_as role owned s lent).deleted))
   unfolding list_as asked

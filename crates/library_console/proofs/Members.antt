@@ -1,11 +1,12 @@
 -- The caller's members of a line: the call on a list of 16 entries answers as that on the lent one, and what is then written of it.
 -- Assumes nothing.
-use Rattle.std.specs.Prelude.{◌≡◌, ◌≤◌, ◌<◌}
-use Rattle.laws.specs.Basics.{refl, sym, ◌∙◌, ap, Bool, true, List, [], Option, none, some, ℕ, arith, ltb, length, get_or, replicate, sets, lt-ltb, le-ltb, ltb-true, ltb-false, pick, by_bool}
+use Rattle.std.specs.Prelude.{◌≡◌, ◌≤◌, ◌<◌, Err, Ok}
+use Rattle.laws.specs.Basics.{refl, sym, ◌∙◌, ap, Bool, true, List, [], Option, None, Some, ℕ, arith, ltb, length, get_or, replicate, sets, lt-ltb, le-ltb, ltb-true, ltb-false, pick, by_bool}
 use Rattle.laws.specs.{Below.below_written, Choice.pick_same, Lists.table, Loops.set_below, Loops.below_at, Loops.below_above, Loops.below_length}
 use Rattle.laws.specs.Tables.{table_is}
-use Rattle.model.specs.declared.{Run.Run, Refusal.Refusal, LineAnswer.LineAnswer}
-use Rattle.model.specs.declared.LineAnswer.TheVariants.{Refused, Written}
+use Prim.{tt}
+use Rattle.model.specs.Shapes.{LineAnswer}
+use Rattle.model.specs.declared.{Run.Run, Refusal.Refusal}
 use Rattle.model.specs.{Sound.sound, Steps.line_of, Steps.member, Refusals.first_of, Refusals.line_refusal, laws.Sound.sound_state}
 use Rattle.whole_runs.specs.Outcomes.{Outcome, judged, line_outcome}
 use Rattle.whole_runs.proofs.Unsound.{line_unsound}
@@ -14,13 +15,13 @@ use Rattle.theory_roles.specs.Console.{entitled, shown}
 use Rattle.theory_roles.proofs.Shown.{shown_same}
 
 -- By the refusal, if there is one.
-answered_none : (o : Option Refusal) → Written ≡ judged o (λ r. Refused r) Written → o ≡ none
-answered_none none e = refl
-answered_none (some r) e = cc
+answered_none : (o : Option Refusal) → ◌≡◌ {A = LineAnswer} (Ok tt) (judged o (λ r. Err r) (Ok tt)) → o ≡ None
+answered_none None e = refl
+answered_none (Some r) e = cc
 
-answered_some : (o : Option Refusal) (r : Refusal) → Refused r ≡ judged o (λ w. Refused w) Written → o ≡ some r
-answered_some none r e = cc
-answered_some (some w) r e = cc
+answered_some : (o : Option Refusal) (r : Refusal) → ◌≡◌ {A = LineAnswer} (Err r) (judged o (λ w. Err w) (Ok tt)) → o ≡ Some r
+answered_some None r e = cc
+answered_some (Some w) r e = cc
 
 -- A list with the first n places written one by one, of those that pass: what is written of them all, at those places.
 module _ (n : ℕ) (t : ℕ → Bool) (m : ℕ → ℕ) (whole lent : List ℕ) (long : n ≤ length whole) (long' : n ≤ length lent) where
@@ -45,10 +46,10 @@ module _ (n : ℕ) (t : ℕ → Bool) (m : ℕ → ℕ) (whole lent : List ℕ) 
 
 -- The outcome of a line call, refused and accepted.
 abbrev refusing : Run → List ℕ → Refusal → Outcome LineAnswer
-refusing s l r = record { run = s; answer = Refused r; rose = 0; deleted = []; line = l }
+refusing s l r = record { run = s; answer = Err r; rose = 0; deleted = []; line = l }
 
 abbrev writing : Run → ℕ → List ℕ → Outcome LineAnswer
-writing s F l = record { run = s; answer = Written; rose = 0; deleted = []; line = sets l 0 (line_of s F) }
+writing s F l = record { run = s; answer = Ok tt; rose = 0; deleted = []; line = sets l 0 (line_of s F) }
 
 -- A lent list that is too short is as it was.
 pub short_line_lem : (c : Caller) (s : Run) (F : ℕ) (lent : List ℕ) → length lent < s.count → (line_outcome s F lent).line ≡ shown c s.count lent (line_outcome s F lent).line
@@ -69,27 +70,27 @@ module _ (c : Caller) (s : Run) (F : ℕ) (lent : List ℕ) (long : s.count ≤ 
       (λ h. rw h)
 
   -- The answer, by the refusal.
-  as_judged : (l : List ℕ) → (line_outcome s F l).answer ≡ judged (line_refusal s F l) (λ w. Refused w) Written
+  as_judged : (l : List ℕ) → (line_outcome s F l).answer ≡ judged (line_refusal s F l) (λ w. Err w) (Ok tt)
   unfolding line_outcome
   as_judged l = judged_answer (line_refusal s F l)
     where
-      judged_answer : (o : Option Refusal) → (judged {A = Outcome LineAnswer} o (refusing s l) (writing s F l)).answer ≡ judged o (λ w. Refused w) Written
-      judged_answer none = refl
-      judged_answer (some r) = refl
+      judged_answer : (o : Option Refusal) → (judged {A = Outcome LineAnswer} o (refusing s l) (writing s F l)).answer ≡ judged o (λ w. Err w) (Ok tt)
+      judged_answer None = refl
+      judged_answer (Some r) = refl
 
   -- Refused: the answer is the same, and the lent list as it was.
-  pub line_refused : (r : Refusal) → Refused r ≡ (line_outcome s F own_list).answer
-      → (Refused r ≡ (line_outcome s F lent).answer) × (lent ≡ shown c s.count lent (line_outcome s F lent).line)
+  pub line_refused : (r : Refusal) → Err r ≡ (line_outcome s F own_list).answer
+      → (Err r ≡ (line_outcome s F lent).answer) × (lent ≡ shown c s.count lent (line_outcome s F lent).line)
   unfolding line_outcome
   line_refused r e = rw (sym same_refusal ∙ answered_some (line_refusal s F own_list) r (e ∙ as_judged own_list)) (refl, sym (shown_same c s.count lent))
 
-  pub written_sound : Written ≡ (line_outcome s F own_list).answer → sound s ≡ true
+  pub written_sound : (Ok tt) ≡ (line_outcome s F own_list).answer → sound s ≡ true
   written_sound e = by_bool (sound s) (λ h. h) (λ h. let refused = e ∙ sym (line_unsound s h F own_list).1.0 in cc)
 
   -- Written: the same answer, and the caller's members.
-  pub line_written : (whole out : List ℕ) → Written ≡ (line_outcome s F own_list).answer → whole ≡ (line_outcome s F own_list).line
+  pub line_written : (whole out : List ℕ) → Ok tt ≡ (line_outcome s F own_list).answer → whole ≡ (line_outcome s F own_list).line
       → out ≡ set_below s.count (λ p. pick (entitled c s.count p) (get_or whole p 0) (get_or lent p 0)) lent
-      → (Written ≡ (line_outcome s F lent).answer) × (out ≡ shown c s.count lent (line_outcome s F lent).line)
+      → (Ok tt ≡ (line_outcome s F lent).answer) × (out ≡ shown c s.count lent (line_outcome s F lent).line)
   unfolding line_outcome shown line_of
   line_written whole out e w o =
       let here = answered_none (line_refusal s F own_list) (e ∙ as_judged own_list) in

@@ -1,7 +1,7 @@
 -- The message that the run of any words has under way under a number is the one that the places of the words are searched for.
 -- Assumes nothing.
 use Rattle.std.specs.Prelude.{◌≡◌, ◌&&◌, ◌∷◌, ◌++◌, ◌+◌, ◌-◌, ◌≤◌, ◌<◌}
-use Rattle.laws.specs.Basics.{refl, sym, ◌∙◌, ap, Bool, true, false, List, [], append-nil, Option, none, some, ℕ, zero, suc, arith, eqb, ltb, length, take, replicate, length-append, eq-eqb, ne_eqb, lt-ltb, le-ltb, ltb-true, ltb-false, pick, by_bool, by_eq}
+use Rattle.laws.specs.Basics.{refl, sym, ◌∙◌, ap, Bool, true, false, List, [], append-nil, Option, None, Some, ℕ, zero, suc, arith, eqb, ltb, length, take, replicate, length-append, eq-eqb, ne_eqb, lt-ltb, le-ltb, ltb-true, ltb-false, pick, by_bool, by_eq}
 use native.Mathlib.Numerals.{add-one}
 use lib.Seq.{take_all, take-nil, take-append-le, take-append-add}
 use Rattle.laws.specs.{Lists.select, Lists.last_of, Lists.table, Lists.placed, Select.select_append, Select.select_length, Select.last_of_snoc}
@@ -23,7 +23,7 @@ module _ {A : Type 0} (t : A → Bool) (x : A) where
   none_passes e zero (suc k) = refl
   none_passes e (suc r) (suc k) = rw e (none_passes e r k)
 
-  last_passes : t x ≡ true → (r k : ℕ) → last_of (select t (take k (replicate r x))) ≡ pick (ltb 0 k && ltb 0 r) (some x) none
+  last_passes : t x ≡ true → (r k : ℕ) → last_of (select t (take k (replicate r x))) ≡ pick (ltb 0 k && ltb 0 r) (Some x) None
   unfolding select last_of
   last_passes e r zero = refl
   last_passes e zero (suc k) = rw (le-ltb 0 0 (omega arith)) (by_bool (ltb 0 (suc k)) (λ b. rw b refl) (λ b. rw b refl))
@@ -131,18 +131,18 @@ module _ (w : List ℕ) (m : ℕ) where
       some_left = lt-ltb 0 (many - length all) (omega arith)
 
       zero_found : m ≡ 0 → has_number no_message ≡ true
-          → last_of (select has_number all ++ select has_number (take (many - length all) zeros)) ≡ pick (ltb (length all) most_under_way) (some no_message) (found_below w m (end_of w))
+          → last_of (select has_number all ++ select has_number (take (many - length all) zeros)) ≡ pick (ltb (length all) most_under_way) (Some no_message) (found_below w m (end_of w))
       unfolding last_of
       zero_found z same =
           let nobody = none_numbered m z (table (end_of w) (message_in w)) in
-          let nothing : none ≡ found_below w m (end_of w) = ap last_of (sym nobody) ∙ whole in
+          let nothing : None ≡ found_below w m (end_of w) = ap last_of (sym nobody) ∙ whole in
           ap (λ (l : List Message). last_of (l ++ select has_number (take (many - length all) zeros))) nobody
           ∙ last_passes has_number no_message same (most_under_way - length all) (many - length all)
           ∙ by_bool (ltb (length all) most_under_way)
           (λ e. rw (e, some_left, lt-ltb 0 (most_under_way - length all) (omega (arith, ltb-true (length all) most_under_way e))))
           (λ e. rw (e, some_left, le-ltb 0 (most_under_way - length all) (omega (arith, ltb-false (length all) most_under_way e))) nothing)
 
-      more_said : found (run_of w) m ≡ pick (eqb m 0 && ltb (length all) most_under_way) (some no_message) (found_below w m (end_of w))
+      more_said : found (run_of w) m ≡ pick (eqb m 0 && ltb (length all) most_under_way) (Some no_message) (found_below w m (end_of w))
       more_said =
           let past : many ≡ length all + (many - length all) = omega arith in
           run_has
@@ -171,8 +171,8 @@ module _ (w : List ℕ) (m : ℕ) (r : Searched) (all : SearchedTo w m (end_of w
 -- It is under way to one of the owner's processes.
 pub reaches_own : (owned n : ℕ) (o : Option Message) (to : Receiver) (own : Bool) → to ≡ receiver_is o → own ≡ owns owned n to.process → (to.found && own) ≡ entitled_message_by JobOwner owned n o
 unfolding receiver_is entitled_message_by
-reaches_own owned n none to own e d = rw e
-reaches_own owned n (some x) to own e d = rw (d, e)
+reaches_own owned n None to own e d = rw e
+reaches_own owned n (Some x) to own e d = rw (d, e)
 
 -- The receiver of a message is a word.
 pub receiver_word : (w : List ℕ) (k : ℕ) → (message_in w k).receiver ≡ word w (receiver_at_of k)
@@ -180,6 +180,6 @@ unfolding message_in
 receiver_word w k = refl
 
 -- Words that do not fit stand for a state of zeros, which has nothing under way.
-pub found_nothing : (w : List ℕ) (m : ℕ) → fits w ≡ false → found (run_of w) m ≡ none
+pub found_nothing : (w : List ℕ) (m : ℕ) → fits w ≡ false → found (run_of w) m ≡ None
 unfolding found under_way blank select last_of
 found_nothing w m e = rw (run_unfit w e)

@@ -1,16 +1,11 @@
 // The library's calls on lent words, each with its caller.
-ghost use Rattle.std.specs.Prelude.{◌≡◌};
+ghost use Rattle.std.specs.Prelude.{◌≡◌, Err};
 ghost use Rattle.laws.specs.Basics.{length};
 ghost use Rattle.model.specs.declared.Refusal.{Refusal};
 ghost use Rattle.words.specs.{Clean.Clean, Layout.run_of, Layout.state_size};
 ghost use Rattle.words_line.specs.Through.{named_in};
 ghost use Rattle.in_place.specs.Left.{Leaves};
 ghost use Rattle.library_console.specs.Asked.{start_as, start_words_as, checkpoint_as, send_as, deliver_as, lose_as, recover_as, earliest_as};
-ghost use Rattle.model.specs.declared.CheckpointAnswer.TheVariants as storing;
-ghost use Rattle.model.specs.declared.SendAnswer.TheVariants as sending;
-ghost use Rattle.model.specs.declared.DeliverAnswer.TheVariants as delivering;
-ghost use Rattle.model.specs.declared.LoseAnswer.TheVariants as losing;
-ghost use Rattle.model.specs.declared.RecoverAnswer.TheVariants as recovering;
 
 use crate::denied;
 use in_place::deliver::Delivered;
@@ -29,7 +24,7 @@ pub fn start(role: u32, owned: u32, w: &mut [u16], n: usize, block_counts: &[u32
 {
     let denied = denied::is_denied(role, Operation::Start);
     if denied {
-        return StartAnswer::Refused(Refusal::Denied);
+        return Err(Refusal::Denied);
     }
     in_place::start::start(w, n, block_counts)
 }
@@ -45,12 +40,12 @@ pub fn checkpoint(
     ensures w_after { run_of w.new ≡ (checkpoint_as role owned (run_of w.old) i deleted.old).run }
     ensures value { result ≡ (checkpoint_as role owned (run_of w.old) i deleted.old).answer }
     ensures deleted_after { deleted.new ≡ (checkpoint_as role owned (run_of w.old) i deleted.old).deleted }
-    ensures w_unchanged { (why : Refusal) → result ≡ storing.Refused why → w.new ≡ w.old }
+    ensures w_unchanged { (why : Refusal) → result ≡ Err why → w.new ≡ w.old }
     ensures leaves { Leaves w.old w.new }
 {
     let denied = denied::is_process_denied(role, owned, Operation::Checkpoint, w, i);
     if denied {
-        return CheckpointAnswer::Refused(Refusal::Denied);
+        return Err(Refusal::Denied);
     }
     in_place::checkpoint::checkpoint(w, i, deleted)
 }
@@ -59,12 +54,12 @@ pub fn checkpoint(
 pub fn send(role: u32, owned: u32, w: &mut [u16], i: usize, j: usize) -> SendAnswer
     ensures w_after { run_of w.new ≡ (send_as role owned (run_of w.old) i j).run }
     ensures value { result ≡ (send_as role owned (run_of w.old) i j).answer }
-    ensures w_unchanged { (why : Refusal) → result ≡ sending.Refused why → w.new ≡ w.old }
+    ensures w_unchanged { (why : Refusal) → result ≡ Err why → w.new ≡ w.old }
     ensures leaves { Leaves w.old w.new }
 {
     let denied = denied::is_process_denied(role, owned, Operation::Send, w, i);
     if denied {
-        return SendAnswer::Refused(Refusal::Denied);
+        return Err(Refusal::Denied);
     }
     in_place::send::send(w, i, j)
 }
@@ -75,12 +70,12 @@ pub fn deliver(role: u32, owned: u32, w: &mut [u16], m: u32, deleted: &mut [u16]
     ensures answer_value { result.answer ≡ (deliver_as role owned (run_of w.old) m deleted.old).answer }
     ensures rose_value { result.rose ≡ (deliver_as role owned (run_of w.old) m deleted.old).rose }
     ensures deleted_after { deleted.new ≡ (deliver_as role owned (run_of w.old) m deleted.old).deleted }
-    ensures w_unchanged { (why : Refusal) → result.answer ≡ delivering.Refused why → w.new ≡ w.old }
+    ensures w_unchanged { (why : Refusal) → result.answer ≡ Err why → w.new ≡ w.old }
     ensures leaves { Leaves w.old w.new }
 {
     let denied = denied::is_message_denied(role, owned, Operation::Deliver, w, m);
     if denied {
-        let answer = DeliverAnswer::Refused(Refusal::Denied);
+        let answer = Err(Refusal::Denied);
         return Delivered { answer, rose: 0 };
     }
     in_place::deliver::deliver(w, m, deleted)
@@ -90,12 +85,12 @@ pub fn deliver(role: u32, owned: u32, w: &mut [u16], m: u32, deleted: &mut [u16]
 pub fn lose(role: u32, owned: u32, w: &mut [u16], m: u32) -> LoseAnswer
     ensures w_after { run_of w.new ≡ (lose_as role owned (run_of w.old) m).run }
     ensures value { result ≡ (lose_as role owned (run_of w.old) m).answer }
-    ensures w_unchanged { (why : Refusal) → result ≡ losing.Refused why → w.new ≡ w.old }
+    ensures w_unchanged { (why : Refusal) → result ≡ Err why → w.new ≡ w.old }
     ensures leaves { Leaves w.old w.new }
 {
     let denied = denied::is_message_denied(role, owned, Operation::Lose, w, m);
     if denied {
-        return LoseAnswer::Refused(Refusal::Denied);
+        return Err(Refusal::Denied);
     }
     in_place::lose::lose(w, m)
 }
@@ -113,12 +108,12 @@ pub fn recover(
     ensures value { result ≡ (recover_as role owned (run_of w.old) failed deleted.old line.old).answer }
     ensures deleted_after { deleted.new ≡ (recover_as role owned (run_of w.old) failed deleted.old line.old).deleted }
     ensures line_after { line.new ≡ (recover_as role owned (run_of w.old) failed deleted.old line.old).line }
-    ensures w_unchanged { (why : Refusal) → result ≡ recovering.Refused why → w.new ≡ w.old }
+    ensures w_unchanged { (why : Refusal) → result ≡ Err why → w.new ≡ w.old }
     ensures leaves { Leaves w.old w.new }
 {
     let denied = denied::is_denied(role, Operation::Recover);
     if denied {
-        return RecoverAnswer::Refused(Refusal::Denied);
+        return Err(Refusal::Denied);
     }
     in_place_recover::recover(w, failed, deleted, line)
 }
@@ -131,7 +126,7 @@ pub fn earliest(role: u32, owned: u32, w: &[u16], named: &[u32], line: &mut [u16
 {
     let denied = denied::is_denied(role, Operation::Earliest);
     if denied {
-        return LineAnswer::Refused(Refusal::Denied);
+        return Err(Refusal::Denied);
     }
     in_place::through::earliest(w, named, line)
 }

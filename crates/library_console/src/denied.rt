@@ -12,13 +12,6 @@ use model::MESSAGES;
 use theory_roles::{Operation, Role};
 use words::{WORDS, places};
 
-// The role that a caller claims by its number.
-#[derive(Clone, Copy)]
-pub enum Claim {
-    Unknown,
-    As(Role),
-}
-
 // The roles' numbers: their places in the table.
 const OPERATOR: u32 = 0;
 
@@ -26,20 +19,20 @@ const JOB_OWNER: u32 = 1;
 
 const VIEWER: u32 = 2;
 
-// The number is judged whole.
-pub fn claim_of(role: u32) -> Claim
+// The role that a caller claims by its number, if a role has it. The number is judged whole.
+pub fn claim_of(role: u32) -> Option<Role>
     ensures { result ≡ claim_of role }
 {
     if role == OPERATOR {
-        return Claim::As(Role::Operator);
+        return Some(Role::Operator);
     }
     if role == JOB_OWNER {
-        return Claim::As(Role::JobOwner);
+        return Some(Role::JobOwner);
     }
     if role == VIEWER {
-        return Claim::As(Role::Viewer);
+        return Some(Role::Viewer);
     }
-    Claim::Unknown
+    None
 }
 
 // Bit p of a set: what is left of it once its lowest p bits are gone is odd.
@@ -111,8 +104,8 @@ pub fn is_denied(role: u32, operation: Operation) -> bool
 {
     let claim = claim_of(role);
     match claim {
-        Claim::Unknown => true,
-        Claim::As(known) => !theory_roles::may(known, operation),
+        None => true,
+        Some(known) => !theory_roles::may(known, operation),
     }
 }
 
@@ -123,8 +116,8 @@ pub fn is_process_denied(role: u32, owned: u32, operation: Operation, w: &[u16],
     let n = count_of(w);
     let claim = claim_of(role);
     match claim {
-        Claim::Unknown => true,
-        Claim::As(known) => {
+        None => true,
+        Some(known) => {
             let allowed = theory_roles::may(known, operation);
             let entitled = is_entitled(known, owned, n, p);
             !(allowed & entitled)
@@ -154,8 +147,8 @@ pub fn is_message_denied(role: u32, owned: u32, operation: Operation, w: &[u16],
 {
     let claim = claim_of(role);
     match claim {
-        Claim::Unknown => true,
-        Claim::As(known) => {
+        None => true,
+        Some(known) => {
             let allowed = theory_roles::may(known, operation);
             let entitled = is_message_entitled(known, owned, w, m);
             !(allowed & entitled)

@@ -9,7 +9,6 @@ ghost use Rattle.theory_roles.specs.Console.{console_list};
 ghost use Rattle.library_console.specs.{Asked.list_as, Listed.listed_of, Listed.listed_below};
 
 use crate::denied;
-use crate::denied::Claim;
 use model::Refusal;
 use theory_roles::{ListAnswer, Operation, Role};
 use words::places;
@@ -80,19 +79,19 @@ fn list_as(role: Role, owned: u32, w: &[u16], deleted: &mut [u16]) -> ListAnswer
 {
     let allowed = theory_roles::may(role, Operation::List);
     if !allowed {
-        return ListAnswer::Refused(Refusal::Denied);
+        return Err(Refusal::Denied);
     }
     let sound = words_sound::is_sound(w);
     if !sound {
-        return ListAnswer::Refused(Refusal::UnsoundState);
+        return Err(Refusal::UnsoundState);
     }
     let n = denied::number_of(w[places::COUNT]);
     let short = admissions::are_deletions_short(deleted.len(), n);
     if short {
-        return ListAnswer::Refused(Refusal::ListTooShort);
+        return Err(Refusal::ListTooShort);
     }
     let count = write_list(w, role, owned, n, deleted);
-    ListAnswer::Listed(count)
+    Ok(count)
 }
 
 // The checkpoints that the caller's processes keep go to the front of the lent list, as deletions do.
@@ -103,7 +102,7 @@ pub fn list(role: u32, owned: u32, w: &[u16], deleted: &mut [u16]) -> ListAnswer
 {
     let claim = denied::claim_of(role);
     match claim {
-        Claim::Unknown => ListAnswer::Refused(Refusal::Denied),
-        Claim::As(known) => list_as(known, owned, w, deleted),
+        None => Err(Refusal::Denied),
+        Some(known) => list_as(known, owned, w, deleted),
     }
 }

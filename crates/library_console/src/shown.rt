@@ -9,7 +9,6 @@ ghost use Rattle.theory_roles.specs.Console.{entitled_by, shown, console_line};
 ghost use Rattle.library_console.specs.Asked.{line_as, counts_as};
 
 use crate::denied;
-use crate::denied::Claim;
 use model::{LineAnswer, PROCESSES, Refusal};
 use theory_roles::{Operation, Role};
 use words::places;
@@ -40,10 +39,10 @@ fn seen_line(role: Role, owned: u32, w: &[u16], failed: u32, line: &mut [u16]) -
     let mut whole = [0u16; PROCESSES];
     let answer = in_place::line::line(w, failed, &mut whole);
     match answer {
-        LineAnswer::Refused(why) => LineAnswer::Refused(why),
-        LineAnswer::Written => {
+        Err(why) => Err(why),
+        Ok(()) => {
             write_seen(line, whole, role, owned, n);
-            LineAnswer::Written
+            Ok(())
         }
     }
 }
@@ -55,7 +54,7 @@ fn line_as(role: Role, owned: u32, w: &[u16], failed: u32, line: &mut [u16]) -> 
 {
     let allowed = theory_roles::may(role, Operation::Line);
     if !allowed {
-        return LineAnswer::Refused(Refusal::Denied);
+        return Err(Refusal::Denied);
     }
     seen_line(role, owned, w, failed, line)
 }
@@ -68,8 +67,8 @@ pub fn line(role: u32, owned: u32, w: &[u16], failed: u32, line: &mut [u16]) -> 
 {
     let claim = denied::claim_of(role);
     match claim {
-        Claim::Unknown => LineAnswer::Refused(Refusal::Denied),
-        Claim::As(known) => line_as(known, owned, w, failed, line),
+        None => Err(Refusal::Denied),
+        Some(known) => line_as(known, owned, w, failed, line),
     }
 }
 
@@ -81,17 +80,17 @@ pub fn counts(role: u32, owned: u32, w: &[u16], line: &mut [u16]) -> LineAnswer
 {
     let denied = denied::is_denied(role, Operation::Counts);
     if denied {
-        return LineAnswer::Refused(Refusal::Denied);
+        return Err(Refusal::Denied);
     }
     let sound = words_sound::is_sound(w);
     if !sound {
-        return LineAnswer::Refused(Refusal::UnsoundState);
+        return Err(Refusal::UnsoundState);
     }
     let n = denied::count_of(w);
     let short = admissions::is_line_short(line.len(), n);
     if short {
-        return LineAnswer::Refused(Refusal::ListTooShort);
+        return Err(Refusal::ListTooShort);
     }
     library_readers::copy_words(w, places::KEPT, n, line);
-    LineAnswer::Written
+    Ok(())
 }

@@ -1,17 +1,17 @@
 -- The records of a half that are left, and which of them is next.
 -- Assumes nothing.
-use Rattle.std.specs.Prelude.{◌≡◌, ◌∷◌, ◌+◌, ◌*◌, ◌/◌, ◌%◌, ◌≤◌, ◌<◌}
-use Rattle.laws.specs.Basics.{refl, ◌∙◌, ap, true, false, List, [], none, some, ℕ, suc, arith, eqb, leb, length, take, drop, length-drop, length-take-le, eq-eqb, ne_eqb, eqb-true, le-leb, leb-true, leb-false, by_bool, by_eq}
+use Rattle.std.specs.Prelude.{Result, Ok, Err, ◌≡◌, ◌∷◌, ◌+◌, ◌*◌, ◌/◌, ◌%◌, ◌⊎◌, ◌≤◌, ◌<◌}
+use Rattle.laws.specs.Basics.{refl, ◌∙◌, ap, Bool, true, false, List, [], None, Some, ℕ, suc, arith, eqb, leb, length, take, drop, length-drop, length-take-le, eq-eqb, ne_eqb, eqb-true, le-leb, leb-true, leb-false, by_bool, by_eq}
 use lib.Seq.{drop-drop}
+use Rattle.laws.specs.Loops.{either}
 use Rattle.laws.specs.Truth.{and_left, and_right}
-use Rattle.model.specs.{declared.Fields.Fields, declared.Refusal.TheVariants.NeitherReady, Trace.fields, Trace.if_zero_of}
+use Rattle.model.specs.{declared.Fields.Fields, declared.Refusal.Refusal, declared.Refusal.TheVariants.NeitherReady, Trace.fields, Trace.if_zero_of}
 use Rattle.theory_merges.specs.Halves.{HalfEvent, checkpoint_at, send_to, message_number}
 use Rattle.theory_merges.specs.Merge.{stopped, next_is, neither, next_of_second, next_record, is_ready, half_event_of, on_next, take_from, fields_in}
 use Rattle.trace.specs.Answers.{record_at, fields_read}
 use Rattle.trace.proofs.reader.Fours.{at_least_four, under_four}
-use Rattle.library_halves.specs.declared.record.Judged.{Judged}
-use Rattle.library_halves.specs.Taking.{Judges, message_of, step_of, left, ready_at, Steps}
-use Rattle.library_halves.specs.declared.record.Judged.TheVariants as judged
+use Rattle.library_halves.specs.declared.{taking.Step.Step, taking.Step.TheVariants.First, taking.Step.TheVariants.Second}
+use Rattle.library_halves.specs.Taking.{Judges, message_of, left, ready_at, Steps}
 
 -- The fields of four bytes.
 pub read_is : (part : List ℕ) → length part ≡ 4 → fields_read part ≡ fields part
@@ -29,13 +29,11 @@ module _ (l : List HalfEvent) (half : List ℕ) (at : ℕ) (part : List ℕ) (p 
     unfolding ready_at is_ready
     always_ready g h = rw (← p, eq-eqb (length part) 4 four, ← f, ne_eqb x.kind 2 g, ne_eqb x.kind 3 h)
 
-    pub sent_two : x.kind ≡ 2 → leb 1 (message_number l (x.argument / 2097152) (x.argument % 2097152)) ≡ ready_at l half at
+    pub sent_ready : (x.kind ≡ 2) ⊎ (x.kind ≡ 3) → leb 1 (message_number l (x.argument / 2097152) (x.argument % 2097152)) ≡ ready_at l half at
     unfolding ready_at is_ready
-    sent_two g = rw (← p, eq-eqb (length part) 4 four, ← f, eq-eqb x.kind 2 g)
-
-    pub sent_three : (x.kind ≡ 2 → ⊥) → x.kind ≡ 3 → leb 1 (message_number l (x.argument / 2097152) (x.argument % 2097152)) ≡ ready_at l half at
-    unfolding ready_at is_ready
-    sent_three g h = rw (← p, eq-eqb (length part) 4 four, ← f, ne_eqb x.kind 2 g, eq-eqb x.kind 3 h)
+    sent_ready o = either o
+        (λ g. rw (← p, eq-eqb (length part) 4 four, ← f, eq-eqb x.kind 2 g))
+        (λ g. rw (← p, eq-eqb (length part) 4 four, ← f, ne_eqb x.kind 2 (omega arith), eq-eqb x.kind 3 g))
 
 -- The cases of `half_event_of`.
 module _ (x : Fields) where
@@ -43,19 +41,17 @@ module _ (x : Fields) where
   unfolding half_event_of
   half_zero e = rw (eq-eqb x.kind 0 e)
 
-  pub half_one : x.kind ≡ 1 → half_event_of x ≡ some (send_to x.process x.argument)
+  pub half_one : x.kind ≡ 1 → half_event_of x ≡ Some (send_to x.process x.argument)
   unfolding half_event_of
   half_one e = rw (ne_eqb x.kind 0 (omega arith), eq-eqb x.kind 1 e)
 
-  pub half_two : x.kind ≡ 2 → half_event_of x ≡ if_zero_of x.process (message_of 2 x.argument)
+  pub half_message : (x.kind ≡ 2) ⊎ (x.kind ≡ 3) → half_event_of x ≡ if_zero_of x.process (message_of x.kind x.argument)
   unfolding half_event_of message_of
-  half_two e = rw (ne_eqb x.kind 0 (omega arith), ne_eqb x.kind 1 (omega arith), eq-eqb x.kind 2 e)
+  half_message o = either o
+      (λ e. rw (ne_eqb x.kind 0 (omega arith), ne_eqb x.kind 1 (omega arith), eq-eqb x.kind 2 e))
+      (λ e. rw (ne_eqb x.kind 0 (omega arith), ne_eqb x.kind 1 (omega arith), ne_eqb x.kind 2 (omega arith), eq-eqb x.kind 3 e))
 
-  pub half_three : x.kind ≡ 3 → half_event_of x ≡ if_zero_of x.process (message_of 3 x.argument)
-  unfolding half_event_of message_of
-  half_three e = rw (ne_eqb x.kind 0 (omega arith), ne_eqb x.kind 1 (omega arith), ne_eqb x.kind 2 (omega arith), eq-eqb x.kind 3 e)
-
-  pub half_none : (x.kind ≡ 0 → ⊥) → (x.kind ≡ 1 → ⊥) → (x.kind ≡ 2 → ⊥) → (x.kind ≡ 3 → ⊥) → half_event_of x ≡ none
+  pub half_none : (x.kind ≡ 0 → ⊥) → (x.kind ≡ 1 → ⊥) → (x.kind ≡ 2 → ⊥) → (x.kind ≡ 3 → ⊥) → half_event_of x ≡ None
   unfolding half_event_of
   half_none a b c d = rw (ne_eqb x.kind 0 a, ne_eqb x.kind 1 b, ne_eqb x.kind 2 c, ne_eqb x.kind 3 d)
 
@@ -127,13 +123,19 @@ module _ (half : List ℕ) (a : ℕ) where
         (λ h. rw (left_some h, ready_no h e))
         (λ h. rw (left_none h))
 
+-- The step that the judgement of a record of one half is.
+abbrev pub step_of : Bool → Result ℕ Refusal → Result Step Refusal
+step_of side (Err q) = Err q
+step_of true (Ok w) = Ok (First w)
+step_of false (Ok w) = Ok (Second w)
+
 -- One step of the merge.
 module _ (n set : ℕ) (l : List HalfEvent) (first second : List ℕ) (a b : ℕ) where
-  pub first_taken : (part : List ℕ) → part ≡ record_at first (1 + 4 * a) → ready_at l first a ≡ true → (j : Judged) → Judges n set true l (half_event_of (fields part)) j
+  pub first_taken : (part : List ℕ) → part ≡ record_at first (1 + 4 * a) → ready_at l first a ≡ true → (j : Result ℕ Refusal) → Judges n set true l (half_event_of (fields part)) j
       → Steps n set l first second a b (step_of true j)
-  unfolding Judges step_of Steps take_from on_next
-  first_taken part p r (judged.Refused q) h = λ k. rw (next_first first a l (left second b) r, ← p) (h (λ x. take_from k n set (x ∷ l) (left first (a + 1)) (left second b)))
-  first_taken part p r (judged.Taken w) (x, e, f, h) = (
+  unfolding Judges Steps take_from on_next
+  first_taken part p r (Err q) h = λ k. rw (next_first first a l (left second b) r, ← p) (h (λ x. take_from k n set (x ∷ l) (left first (a + 1)) (left second b)))
+  first_taken part p r (Ok w) (x, e, f, h) = (
     x,
     e,
     f,
@@ -142,12 +144,12 @@ module _ (n set : ℕ) (l : List HalfEvent) (first second : List ℕ) (a b : ℕ
   )
 
   module _ (no : ready_at l first a ≡ false) where
-    pub second_taken : (part : List ℕ) → part ≡ record_at second (1 + 4 * b) → ready_at l second b ≡ true → (j : Judged) → Judges n set false l (half_event_of (fields part)) j
+    pub second_taken : (part : List ℕ) → part ≡ record_at second (1 + 4 * b) → ready_at l second b ≡ true → (j : Result ℕ Refusal) → Judges n set false l (half_event_of (fields part)) j
         → Steps n set l first second a b (step_of false j)
-    unfolding Judges step_of Steps take_from on_next
-    second_taken part p r (judged.Refused q) h =
+    unfolding Judges Steps take_from on_next
+    second_taken part p r (Err q) h =
         λ k. rw (next_second first a l (left second b) no, second_next second b l (left first a) r, ← p) (h (λ x. take_from k n set (x ∷ l) (left first a) (left second (b + 1))))
-    second_taken part p r (judged.Taken w) (x, e, f, h) = (
+    second_taken part p r (Ok w) (x, e, f, h) = (
       x,
       e,
       f,

@@ -1,13 +1,21 @@
 -- What a record of a half is found to be.
 -- Assumes nothing.
-use Rattle.std.specs.Prelude.{◌≡◌, ◌⊎◌, ◌+◌, ◌*◌, ◌/◌, ◌%◌, ◌≤◌, ◌<◌}
-use Rattle.laws.specs.Basics.{refl, Bool, true, false, List, Option, some, ℕ, zero, suc, arith, eqb, eq-eqb, ne_eqb, lt-ltb, le-leb, lt-leb, by_bool}
+use Rattle.std.specs.Prelude.{◌≡◌, ◌⊎◌, ◌+◌, ◌*◌, ◌/◌, ◌%◌, ◌^◌, ◌≤◌, ◌<◌}
+use Rattle.laws.specs.Basics.{refl, Bool, true, false, List, Option, Some, ℕ, zero, suc, arith, eqb, eq-eqb, ne_eqb, lt-ltb, le-leb, lt-leb, by_bool}
+use mathlib.Core.Bool.{beq}
+use Rattle.std.proofs.lemmas.Bool.Decides.{nat_tests}
 use Rattle.laws.specs.Loops.{either}
 use Rattle.model.specs.declared.Refusal.TheVariants.{NoSuchProcess, SenderIsReceiver, HalvesMismatch, MalformedRecord}
 use Rattle.model.specs.{Refusals.first_of, Trace.if_zero_of, Trace.fields_of, Trace.fits, Trace.word_of_def}
 use Rattle.theory_merges.specs.Halves.{HalfEvent, checkpoint_at, send_to, message_number, receiver_of, plain_event, happens_at}
 use Rattle.theory_merges.specs.Merge.{Taken, stopped, out_of_run, to_itself, in_half_of, record_refusal, on_record}
 use Rattle.library_halves.specs.{Log.word_in_of, Taking.message_of}
+
+-- Whether a process belongs to the half that is meant.
+pub half_is : (set : ℕ) (side : Bool) (p : ℕ) → in_half_of set side p ≡ beq (eqb (set / 2 ^ p % 2) 1) side
+unfolding in_half_of
+half_is set true p = by_bool (eqb (set / 2 ^ p % 2) 1) (λ e. rw e) (λ e. rw e)
+half_is set false p = by_bool (eqb (set / 2 ^ p % 2) 1) (λ e. rw e) (λ e. rw e)
 
 module _ (n set : ℕ) (side : Bool) (l : List HalfEvent) where
   -- A field that must be zero is not.
@@ -16,26 +24,26 @@ module _ (n set : ℕ) (side : Bool) (l : List HalfEvent) where
   not_zero zero x h next = absurd (h refl)
   not_zero (suc k) x h next = refl
 
-  is_zero : (k : ℕ) (x : HalfEvent) → k ≡ 0 → if_zero_of k x ≡ some x
+  is_zero : (k : ℕ) (x : HalfEvent) → k ≡ 0 → if_zero_of k x ≡ Some x
   unfolding if_zero_of
   is_zero zero x h = refl
   is_zero (suc k) x h = absurd (omega arith)
 
-  absent : (x : HalfEvent) → out_of_run n x ≡ true → (next : HalfEvent → Taken) → on_record n set l side next (some x) ≡ stopped NoSuchProcess
+  absent : (x : HalfEvent) → out_of_run n x ≡ true → (next : HalfEvent → Taken) → on_record n set l side next (Some x) ≡ stopped NoSuchProcess
   unfolding on_record record_refusal first_of
   absent x h next = rw h
 
-  itself : (x : HalfEvent) → out_of_run n x ≡ false → to_itself x ≡ true → (next : HalfEvent → Taken) → on_record n set l side next (some x) ≡ stopped SenderIsReceiver
+  itself : (x : HalfEvent) → out_of_run n x ≡ false → to_itself x ≡ true → (next : HalfEvent → Taken) → on_record n set l side next (Some x) ≡ stopped SenderIsReceiver
   unfolding on_record record_refusal first_of
   itself x h i next = rw (h, i)
 
   foreign : (x : HalfEvent) → out_of_run n x ≡ false → to_itself x ≡ false → in_half_of set side (happens_at (receiver_of l) x) ≡ false
-      → (next : HalfEvent → Taken) → on_record n set l side next (some x) ≡ stopped HalvesMismatch
+      → (next : HalfEvent → Taken) → on_record n set l side next (Some x) ≡ stopped HalvesMismatch
   unfolding on_record record_refusal first_of
   foreign x h i f next = rw (h, i, f)
 
   taken : (x : HalfEvent) → out_of_run n x ≡ false → to_itself x ≡ false → in_half_of set side (happens_at (receiver_of l) x) ≡ true
-      → (next : HalfEvent → Taken) → on_record n set l side next (some x) ≡ next x
+      → (next : HalfEvent → Taken) → on_record n set l side next (Some x) ≡ next x
   unfolding on_record record_refusal first_of
   taken x h i f next = rw (h, i, f)
 
@@ -62,23 +70,19 @@ module _ (n set : ℕ) (side : Bool) (l : List HalfEvent) where
         (checkpoint_at p, omega arith, rw (lt-ltb p 16 (omega arith)), rw (is_zero a (checkpoint_at p) z) (taken (checkpoint_at p) (lt-leb n p h) refl f))
 
   module _ (i j : ℕ) where
-    pub send_absent : n ≤ i → (next : HalfEvent → Taken) → on_record n set l side next (some (send_to i j)) ≡ stopped NoSuchProcess
+    pub send_absent : (n ≤ i) ⊎ (n ≤ j) → (next : HalfEvent → Taken) → on_record n set l side next (Some (send_to i j)) ≡ stopped NoSuchProcess
     unfolding out_of_run
-    send_absent h = absent (send_to i j) (rw (le-leb n i h))
+    send_absent h = absent (send_to i j) (grind (arith, nat_tests, h))
 
-    pub receiver_absent : i < n → n ≤ j → (next : HalfEvent → Taken) → on_record n set l side next (some (send_to i j)) ≡ stopped NoSuchProcess
-    unfolding out_of_run
-    receiver_absent g h = absent (send_to i j) (rw (lt-leb n i g, le-leb n j h))
-
-    pub send_itself : i < n → j < n → i ≡ j → (next : HalfEvent → Taken) → on_record n set l side next (some (send_to i j)) ≡ stopped SenderIsReceiver
+    pub send_itself : i < n → j < n → i ≡ j → (next : HalfEvent → Taken) → on_record n set l side next (Some (send_to i j)) ≡ stopped SenderIsReceiver
     unfolding out_of_run to_itself
     send_itself g h e = itself (send_to i j) (rw (lt-leb n i g, lt-leb n j h)) (eq-eqb i j e)
 
-    pub send_foreign : i < n → j < n → (i ≡ j → ⊥) → in_half_of set side i ≡ false → (next : HalfEvent → Taken) → on_record n set l side next (some (send_to i j)) ≡ stopped HalvesMismatch
+    pub send_foreign : i < n → j < n → (i ≡ j → ⊥) → in_half_of set side i ≡ false → (next : HalfEvent → Taken) → on_record n set l side next (Some (send_to i j)) ≡ stopped HalvesMismatch
     unfolding out_of_run to_itself happens_at
     send_foreign g h e f = foreign (send_to i j) (rw (lt-leb n i g, lt-leb n j h)) (ne_eqb i j e) f
 
-    pub send_taken : n ≤ 16 → i < n → j < n → (i ≡ j → ⊥) → in_half_of set side i ≡ true → Goes (some (send_to i j)) (536870912 + i * 33554432 + j)
+    pub send_taken : n ≤ 16 → i < n → j < n → (i ≡ j → ⊥) → in_half_of set side i ≡ true → Goes (Some (send_to i j)) (536870912 + i * 33554432 + j)
     unfolding out_of_run to_itself happens_at word_in_of plain_event fields_of word_of_def fits
     send_taken b g h e f =
         (send_to i j, omega arith, rw (lt-ltb i 16 (omega arith), lt-ltb j 33554432 (omega arith)), taken (send_to i j) (rw (lt-leb n i g, lt-leb n j h)) (ne_eqb i j e) f)

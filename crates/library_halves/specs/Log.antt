@@ -1,11 +1,11 @@
 -- The log of a merge: a word of the merged trace for each record taken, oldest first. What is read off it, and what is written of it.
 -- Assumes nothing.
 use Rattle.std.specs.Prelude.{◌≡◌, ◌∷◌, ◌++◌, ◌+◌, ◌/◌, ◌%◌, ◌≤◌}
-use Rattle.laws.specs.Basics.{true, List, [], ℕ, zero, suc, eqb, length, get_or, pick}
+use Rattle.laws.specs.Basics.{true, List, [], None, Some, ℕ, zero, suc, eqb, length, get_or, pick}
 use Rattle.laws.specs.Loops.{iter}
 use Rattle.model.specs.Trace.{fields_of, fits, word_of_def, bytes_of_def}
 use Rattle.theory_merges.specs.Halves.{HalfEvent, plain_event}
-use Rattle.library_halves.specs.declared.log.Tally.{Tally}
+use Rattle.library_halves.specs.declared.{log.Tally.Tally}
 
 -- The word of record x, taken after those of l, in the merged trace.
 unfoldable pub word_in_of : List HalfEvent → HalfEvent → ℕ
@@ -21,13 +21,13 @@ unfoldable pub tallied : Tally → ℕ → ℕ → ℕ → Tally
 tallied t w s c = pick (eqb (w / 536870912) 1)
     (pick (eqb (w / 33554432 % 16) s)
     (pick (eqb (t.own + 1) c)
-    (record { own = t.own + 1; all = t.all + 1; number = t.all + 1; receiver = w % 33554432 })
-    (record { own = t.own + 1; all = t.all + 1; number = t.number; receiver = t.receiver }))
-    (record { own = t.own; all = t.all + 1; number = t.number; receiver = t.receiver }))
+    (record { own = t.own + 1; all = t.all + 1; sent = Some (record { number = t.all + 1; receiver = w % 33554432 }) })
+    (record { own = t.own + 1; all = t.all + 1; sent = t.sent }))
+    (record { own = t.own; all = t.all + 1; sent = t.sent }))
     t
 
 abbrev pub no_tally : Tally
-no_tally = record { own = 0; all = 0; number = 0; receiver = 0 }
+no_tally = record { own = 0; all = 0; sent = None }
 
 -- The tally of the first k words.
 unfoldable pub tally_of : List ℕ → ℕ → ℕ → ℕ → Tally

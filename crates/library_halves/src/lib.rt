@@ -18,7 +18,6 @@ mod both;
 ghost use Rattle.std.specs.Prelude.{◌≡◌};
 ghost use Rattle.theory_merges.specs.{Halves.OrdersAgree, Merge.merge_outcome, Merge.MergePromise};
 
-use admissions::Admission;
 use model::MergeAnswer;
 
 // "17": "more than 4,096 records" of a half (most_of_half in the specs of theory_merges); the log has room for both.
@@ -26,31 +25,21 @@ pub const MOST_OF_HALF: usize = 4096;
 
 const LOG: usize = 2 * MOST_OF_HALF;
 
-// The merged trace stands at the front of `result`, and the rest of it is as it was; with a refusal all of it is. Bit p of `set` says that process p
-// belongs to the first half; a set that 16 bits do not hold has a bit at n or above in every run. Both halves' orders are kept, a replay of the result is
+// The merged trace stands at the front of `res`, and the rest of it is as it was; with a refusal all of it is. Bit p of `set` says that process p
+// belongs to the first half; a set that 16 bits do not hold has a bit at n or above in every run. Both halves' orders are kept, a replay of it is
 // the run of the merged calls, and any other order whose records are all accepted ends the same. No limit of a run is judged: the rule can put 65 messages
-// under way, and a replay of the result then says 9.
+// under way, and a replay of what it writes then says 9.
+#[tactic(auto, using(theory_merges::proofs::Replaying::merge_promise, theory_merges::proofs::Orders::orders_agree))]
 pub fn merge<'a>(first: &'a [u8], second: &'a [u8], set: u32, res: &mut [u8]) -> MergeAnswer
     ensures value { result ≡ (merge_outcome first.now second.now set res.old).answer }
     ensures res_after { res.new ≡ (merge_outcome first.now second.now set res.old).buffer }
     ensures merge_promise { MergePromise first.now second.now set res.old × OrdersAgree }
 {
-    let judged = both::judge_halves(first, second, set, res.len());
-    match judged {
-        Admission::Refused(r) => MergeAnswer::Refused(r),
-        Admission::Accepted => {
-            let mut log = [0; LOG];
-            let n = both::count_of(first);
-            let taken = taking::take_all(first, second, n, set, &mut log);
-            match taken {
-                Admission::Refused(r) => MergeAnswer::Refused(r),
-                Admission::Accepted => {
-                    let count = (first.len() - 1) / 4 + (second.len() - 1) / 4;
-                    res[0] = first[0];
-                    log::write_all(&log, count, res);
-                    MergeAnswer::Merged(1 + 4 * count)
-                }
-            }
-        }
-    }
+    both::judge_halves(first, second, set, res.len())?;
+    let mut log = [0; LOG];
+    taking::take_all(first, second, both::count_of(first), set, &mut log)?;
+    let count = both::how_many(first) + both::how_many(second);
+    res[0] = first[0];
+    log::write_all(&log[..count], res);
+    Ok(1 + 4 * count)
 }

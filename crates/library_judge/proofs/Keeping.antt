@@ -1,23 +1,25 @@
--- The invariant of the reading after each kind of record, and the refusals of a record by the tables.
+-- The invariant of the reading after each kind of record, and the refusals of a record by what is read.
 -- Assumes nothing.
-use Rattle.std.specs.Prelude.{◌≡◌, ◌+◌, ◌-◌, ◌≤◌, ◌<◌}
-use Rattle.laws.specs.Basics.{refl, sym, ◌∙◌, ap, fun_ext, Bool, true, false, false≢true, List, some, ℕ, zero, suc, arith, ltb, leb, length, get_or, set, length-set, get_or-set_same, get_or-set_other, eq-eqb, ne_eqb, lt-ltb, le-ltb, ltb-true, ltb-false, leb-false, pick, by_bool, by_eq}
+use Rattle.std.specs.Prelude.{◌≡◌, ◌&&◌, ◌+◌, ◌-◌, ◌≤◌, ◌<◌}
+use Rattle.laws.specs.Basics.{refl, sym, ◌∙◌, ap, fun_ext, Bool, true, false, not, false≢true, List, None, Some, ℕ, zero, suc, arith, eqb, ltb, leb, length, get_or, set, length-set, get_or-set_same, get_or-set_other, eq-eqb, ne_eqb, lt-ltb, le-ltb, ltb-true, ltb-false, leb-false, pick, by_bool, by_eq}
 use native.Mathlib.Numerals.{add-one}
-use Rattle.laws.specs.{Counting.count_same, Counting.count_none, Tests.count_below, Update.upd, Update.upd_same, Update.upd_other}
-use Rattle.model.specs.declared.Event.TheVariants.{Checkpoint, Send, Deliver, Lose}
+use Rattle.laws.specs.{Counting.count_same, Counting.count_none, Options.some_same, Options.none≢some, Tables.length_table, Tests.count_below, Update.upd, Update.upd_same, Update.upd_other}
+use Rattle.model.specs.declared.{Interval.Interval, Event.TheVariants.Checkpoint, Event.TheVariants.Send, Event.TheVariants.Deliver, Event.TheVariants.Lose}
 use Rattle.histories.specs.History.{stored, sent, received, Lists, checkpoints}
-use Rattle.model.specs.{Refusals.first_of, Words.entry, Steps.advanced, Steps.taken_vector}
+use Rattle.model.specs.{Refusals.first_of, Words.entry, Steps.advanced, Steps.taken_entry, Steps.taken_vector}
 use Rattle.whole_runs.specs.Survival.{added}
 use Rattle.theory_patterns.specs.Patterns.{Pattern, empty, record_refusal, taken}
-use Rattle.theory_patterns.proofs.{Adding.event_old, Adding.event_new, Followed.Sent, Facts.begin, Facts.begin_right}
+use Rattle.theory_patterns.proofs.{Adding.event_old, Adding.event_new, Facts.begin, Facts.begin_right}
 use Rattle.theory_patterns.proofs.Trail.{Trail, storing, storing_right, sending, sending_right, carried_old, carried_new, receiving, receiving_right}
-use Rattle.library_judge.specs.decision.Rows.{entry_at, row_of, put_row_of, put_same, put_other, put_length}
-use Rattle.library_judge.specs.{decision.Represents.interval_of, decision.Represents.Represents, Kept.Tables, Kept.tables, Kept.Waits, Kept.Kept}
-use Rattle.library_judge.specs.declared.{reading.Progress.Progress, reading.Found.Found}
+use Rattle.theory_patterns.proofs.Followed as followed
+use Rattle.library_judge.specs.decision.Rows.{owner_at, vector_at, entry_at, from_at, carried_at, receipt_mark, receiver_mark, to_at, mark_at}
+use Rattle.library_judge.specs.{decision.Represents.interval_of, decision.Represents.Represents, Kept.Waits, Kept.Kept}
+use Rattle.library_judge.specs.declared.{pattern.State.State, pattern.Sent.Sent, reading.Reading.Reading, reading.Found.Found}
+use Rattle.library_judge.specs.declared.pattern.Fate.TheVariants.{Lost, UnderWay, Received}
 use Rattle.admissions.proofs.Cases.{admission_rules}
-use Rattle.library_judge.specs.Readings.{EnoughRoom, live_entry, checkpoint_refusal, with_row, SendRoom, send_refusal, sent_carried, with_message_of, is_under_way, found_in_of, without_one_of, DeliverRoom, receipt_vectors, FirstRows}
+use Rattle.library_judge.specs.Readings.{EnoughRoom, live_row, live_vector, checkpoint_refusal, with_state, with_checkpoint, SendRoom, send_refusal, with_message, is_under_way, found_in_of, settled, with_receipt, DeliverRoom, FirstRows}
 use Rattle.library_judge.proofs.{Begin.own_begin, Begin.begin_represented, Steps.stored_own, Steps.other_own, Steps.sent_own, Steps.received_own}
-use Rattle.library_judge.proofs.Trails.{stores, sends, receives, got_live, row_number, live_entry_lem}
+use Rattle.library_judge.proofs.Trails.{state_same, state_other, sent_same, sent_other, stores, sends, receives, got_live, got_owner, live_entry_lem, represented_same}
 
 -- One that passes no longer does: the count falls by one.
 count_off : (k : ℕ) (u : ℕ → Bool) (j : ℕ) → j < k → u j ≡ true → count_below k u ≡ count_below k (upd u j false) + 1
@@ -36,186 +38,201 @@ count_on : (k : ℕ) (u : ℕ → Bool) → count_below (suc k) (upd u k true) �
 unfolding count_below
 count_on k u = rw (upd_same u k true) (omega (arith, count_same k (upd u k true) u (λ i l. upd_other u k true i (λ d. omega arith))))
 
--- What is_under_way says of a place.
-under_low : (passing : List ℕ) (last m : ℕ) → is_under_way passing last m ≡ true → (y : ℕ) × (m ≡ suc y) × (y < last)
+-- What is_under_way says of a place, and what it goes by.
+under_low : (ms : List Sent) (last m : ℕ) → is_under_way ms last m ≡ true → (y : ℕ) × (m ≡ suc y) × (y < last)
 unfolding is_under_way
-under_low passing last zero e = absurd (false≢true e)
-under_low passing last (suc y) e = by_bool (ltb y last)
+under_low ms last zero e = absurd (false≢true e)
+under_low ms last (suc y) e = by_bool (ltb y last)
     (λ a. (y, refl, ltb-true y last a))
     (λ a. absurd (false≢true (rw a at e)))
 
--- One place of the marks is changed: what is under way then.
-mark_off : (passing : List ℕ) (last y m : ℕ) → y < last → last ≤ length passing → upd (is_under_way passing last) (suc y) false m ≡ is_under_way (set passing y 0) last m
+under_way_by : (ms : List Sent) (last y k : ℕ) → mark_at ms y ≡ k → is_under_way ms last (suc y) ≡ (ltb y last && not (eqb k 0))
 unfolding is_under_way
-mark_off passing last y zero low size = upd_other (is_under_way passing last) (suc y) false zero (λ e. omega arith)
-mark_off passing last y (suc x) low size = by_eq x y
-    (λ c. rw c (upd_same (is_under_way passing last) (suc y) false ∙ sym (rw (get_or-set_same passing y 0 0 (omega arith), lt-ltb y last low))))
-    (λ ne. rw (get_or-set_other passing y x 0 0 ne) (upd_other (is_under_way passing last) (suc y) false (suc x) (λ e. ne (omega arith))))
+under_way_by ms last y k e = ap (λ (q : ℕ). ltb y last && not (eqb q 0)) e
 
-mark_on : (passing : List ℕ) (last j m : ℕ) → last < length passing → upd (is_under_way passing last) (suc last) true m ≡ is_under_way (set passing last (j + 1)) (last + 1) m
-unfolding is_under_way
-mark_on passing last j zero size = upd_other (is_under_way passing last) (suc last) true zero (λ e. omega arith)
-mark_on passing last j (suc x) size = by_eq x last
-    (λ c. rw c (upd_same (is_under_way passing last) (suc last) true
-    ∙ sym (rw (get_or-set_same passing last (j + 1) 0 size, lt-ltb last (last + 1) (omega arith), ne_eqb (j + 1) 0 (λ e. omega arith)))))
-    (λ ne. rw (get_or-set_other passing last x (j + 1) 0 ne) (upd_other (is_under_way passing last) (suc last) true (suc x) (λ e. ne (omega arith))
-    ∙ by_bool (ltb x last)
-    (λ a. let l = ltb-true x last a in rw (a, lt-ltb x (last + 1) (omega arith)))
-    (λ a. let l = ltb-false x last a in rw (a, le-ltb x (last + 1) (omega (arith, ne))))))
+-- One message is put: what is under way then.
+module _ (ms : List Sent) (last y : ℕ) (x : Sent) (in_messages : y < length ms) where
+  mark_same : mark_at (set ms y x) y ≡ receiver_mark x.fate
+  mark_same = ap (λ (z : Sent). receiver_mark z.fate) (sent_same ms y x in_messages)
 
-module _ (n read : ℕ) (t : Pattern) (tr : Trail) (s : Progress) (T : Tables) (h : Kept n read t tr s T) (more : read < 4096) where
+  mark_other : (z : ℕ) → (z ≡ y → ⊥) → mark_at (set ms y x) z ≡ mark_at ms z
+  mark_other z ne = ap (λ (q : Sent). receiver_mark q.fate) (sent_other ms y x z ne)
+
+  mark_off : (m : ℕ) → receiver_mark x.fate ≡ 0 → upd (is_under_way ms last) (suc y) false m ≡ is_under_way (set ms y x) last m
+  mark_off zero h = upd_other (is_under_way ms last) (suc y) false zero (λ e. omega arith) ∙ none_zero
+    where
+      none_zero : is_under_way ms last zero ≡ is_under_way (set ms y x) last zero
+      none_zero = unfold is_under_way in refl
+  mark_off (suc z) h = by_eq z y
+      (λ c. rw c (upd_same (is_under_way ms last) (suc y) false ∙ sym (under_way_by (set ms y x) last y 0 (mark_same ∙ h) ∙ no_more (ltb y last))))
+      (λ ne. upd_other (is_under_way ms last) (suc y) false (suc z) (λ e. ne (omega arith)) ∙ under_way_by ms last z (mark_at ms z) refl ∙ sym (under_way_by (set ms y x) last z (mark_at ms z) (mark_other z ne)))
+    where
+      no_more : (b : Bool) → (b && not (eqb 0 0)) ≡ false
+      no_more true = refl
+      no_more false = refl
+
+  mark_on : (j m : ℕ) → y ≡ last → receiver_mark x.fate ≡ suc j → upd (is_under_way ms last) (suc y) true m ≡ is_under_way (set ms y x) (last + 1) m
+  mark_on j zero here h = upd_other (is_under_way ms last) (suc y) true zero (λ e. omega arith) ∙ none_zero
+    where
+      none_zero : is_under_way ms last zero ≡ is_under_way (set ms y x) (last + 1) zero
+      none_zero = unfold is_under_way in refl
+  mark_on j (suc z) here h = by_eq z y
+      (λ c. rw c (upd_same (is_under_way ms last) (suc y) true ∙ sym (under_way_by (set ms y x) (last + 1) y (suc j) (mark_same ∙ h)
+      ∙ rw (lt-ltb y (last + 1) (omega arith), ne_eqb (suc j) 0 (λ e. omega arith)))))
+      (λ ne. upd_other (is_under_way ms last) (suc y) true (suc z) (λ e. ne (omega arith)) ∙ under_way_by ms last z (mark_at ms z) refl
+      ∙ ap (λ (b : Bool). b && not (eqb (mark_at ms z) 0)) (same_side ne) ∙ sym (under_way_by (set ms y x) (last + 1) z (mark_at ms z) (mark_other z ne)))
+    where
+      same_side : (z ≡ y → ⊥) → ltb z last ≡ ltb z (last + 1)
+      same_side ne = by_bool (ltb z last)
+          (λ a. let l = ltb-true z last a in rw (a, lt-ltb z (last + 1) (omega arith)))
+          (λ a. let l = ltb-false z last a in rw (a, le-ltb z (last + 1) (omega (arith, ne, here))))
+
+module _ (n read : ℕ) (t : Pattern) (tr : Trail) (R : Reading) (h : Kept n read t tr R) (more : read < 4096) where
+  abbrev S : List State
+  S = R.states
+
+  abbrev M : List Sent
+  M = R.messages
+
+  -- A live row is in use.
+  live_low : (p : ℕ) → p < n → live_row R p < 4112
+  live_low p lp = omega (arith, h.row_there p lp, h.represented.most_rows_lem)
+
   -- There is room for one more record.
-  pub enough_room : EnoughRoom n s T.vectors T.process
-  enough_room = record {
-    few = h.represented.few;
-    room = h.represented.room;
-    places = h.represented.places;
-    rows = omega (arith, h.few_rows, h.represented.few);
-    current = λ p lp. omega (arith, h.row_there p lp, h.represented.most_rows_lem);
-  }
+  pub enough_room : EnoughRoom n R
+  enough_room = record { few = h.represented.few; rows = omega (arith, h.few_rows, h.represented.few); current = live_low }
 
-  pub send_room : SendRoom n s T.vectors T.carried T.passing T.from T.to
-  send_room = record {
-    few = h.represented.few;
-    room = h.represented.room;
-    carriers = h.carriers;
-    marks = h.marks;
-    sends = h.represented.sends;
-    receipts = h.represented.receipts;
-    underway = h.most;
-    last = omega (arith, h.few_messages);
-    current = λ p lp. omega (arith, h.row_there p lp, h.represented.most_rows_lem);
-  }
+  pub send_room : SendRoom n R
+  send_room = record { few = h.represented.few; underway = h.most; last = omega (arith, h.few_messages); current = live_low }
 
   -- What is found of a message, from the pattern.
-  pub found_is : (m : ℕ) → (found_in_of T.passing s.last m).found ≡ t.underway m
-  found_is m = by_number m ∙ sym (h.marked m)
-    where
-      by_number : (m : ℕ) → (found_in_of T.passing s.last m).found ≡ is_under_way T.passing s.last m
-      by_number zero = unfold found_in_of is_under_way in refl
-      by_number (suc y) = by_bool (is_under_way T.passing s.last (suc y))
-          (λ e. unfold found_in_of in rw e)
-          (λ e. unfold found_in_of in rw e)
+  pub found_none : (m : ℕ) → t.underway m ≡ false → found_in_of R m ≡ None
+  unfolding found_in_of
+  found_none zero u = refl
+  found_none (suc y) u = let e : is_under_way M R.last (suc y) ≡ false = sym (h.marked (suc y)) ∙ u in rw e
 
-  pub found_at : (y : ℕ) → t.underway (suc y) ≡ true → found_in_of T.passing s.last (suc y) ≡ record { found = true; place = y; receiver = t.receiver (suc y) }
+  pub found_at : (y : ℕ) → t.underway (suc y) ≡ true → found_in_of R (suc y) ≡ Some (record { place = y; receiver = t.receiver (suc y) })
   unfolding found_in_of
   found_at y e =
-      let w = h.waits y e in
-      let on : is_under_way T.passing s.last (suc y) ≡ true = sym (h.marked (suc y)) ∙ e in
-      let q : get_or T.passing y 0 - 1 ≡ t.receiver (suc y) = omega (arith, w.mark) in
-      rw (on, q)
+      let on : is_under_way M R.last (suc y) ≡ true = sym (h.marked (suc y)) ∙ e in
+      let q : mark_at M y - 1 ≡ t.receiver (suc y) = omega (arith, (h.waits y e).mark) in
+      rw on (ap (λ (r : ℕ). Some (record { place = y; receiver = r })) q)
 
   -- A message under way has a place.
-  pub place_of_lem : (m : ℕ) → t.underway m ≡ true → (y : ℕ) × (m ≡ suc y) × (y < s.last)
-  place_of_lem m e = under_low T.passing s.last m (sym (h.marked m) ∙ e)
+  pub place_of_lem : (m : ℕ) → t.underway m ≡ true → (y : ℕ) × (m ≡ suc y) × (y < R.last)
+  place_of_lem m e = under_low M R.last m (sym (h.marked m) ∙ e)
 
-  pub deliver_room : (m : ℕ) → DeliverRoom s m T.vectors T.carried T.passing T.to
+  none_zero : found_in_of R zero ≡ None
+  unfolding found_in_of
+  none_zero = refl
+
+  pub deliver_room : (m : ℕ) → DeliverRoom R m
   deliver_room m = record {
-    room = h.represented.room;
-    carriers = h.carriers;
-    marks = h.marks;
-    receipts = h.represented.receipts;
     last = h.represented.most_messages;
-    place = λ e. let y = place_of_lem m (sym (found_is m) ∙ e) in omega (arith, (at m y e).0, y.2, h.represented.most_messages);
-    receiver = λ e. let y = place_of_lem m (sym (found_is m) ∙ e) in omega (arith, (at m y e).1, (at m y e).2, h.represented.few);
-    current = λ e. let y = place_of_lem m (sym (found_is m) ∙ e) in
-        omega (arith, ap (λ (q : ℕ). get_or s.current q 0) (at m y e).1, h.row_there (t.receiver (suc y.0)) (at m y e).2, h.represented.most_rows_lem);
+    receiver = λ f e. let w = receiver_in m f e in omega (arith, w, h.represented.few);
+    current = λ f e. live_low f.receiver (receiver_in m f e);
   }
     where
-      at : (m : ℕ) (y : (y : ℕ) × (m ≡ suc y) × (y < s.last)) → (found_in_of T.passing s.last m).found ≡ true
-          → ((found_in_of T.passing s.last m).place ≡ y.0) × ((found_in_of T.passing s.last m).receiver ≡ t.receiver (suc y.0)) × (t.receiver (suc y.0) < n)
-      at m (y, c, l) e =
-          let u : t.underway (suc y) ≡ true = sym (ap t.underway c) ∙ sym (found_is m) ∙ e in
-          let f : found_in_of T.passing s.last m ≡ record { found = true; place = y; receiver = t.receiver (suc y) } = ap (found_in_of T.passing s.last) c ∙ found_at y u in
-          (ap (λ (x : Found). x.place) f, ap (λ (x : Found). x.receiver) f, (h.waits y u).receiver)
+      receiver_in : (m : ℕ) (f : Found) → found_in_of R m ≡ Some f → f.receiver < n
+      receiver_in zero f e = absurd (none≢some (sym none_zero ∙ e))
+      receiver_in (suc y) f e = by_bool (t.underway (suc y))
+          (λ u. let same = some_same (sym (found_at y u) ∙ e) in
+          omega (arith, ap (λ (x : Found). x.receiver) same, (h.waits y u).receiver))
+          (λ u. absurd (none≢some (sym (found_none (suc y) u) ∙ e)))
 
-  -- The refusals of a record, by the tables.
-  pub checkpoint_refusal_lem : (i : ℕ) → record_refusal n t (some (Checkpoint i)) ≡ checkpoint_refusal n s i T.vectors
+  -- The refusals of a record, by what is read.
+  pub checkpoint_refusal_lem : (i : ℕ) → record_refusal n t (Some (Checkpoint i)) ≡ checkpoint_refusal n R i
   unfolding record_refusal checkpoint_refusal first_of
   checkpoint_refusal_lem i = by_bool (leb n i)
       (λ e. rw e)
       (λ e. rw (e, own_is (leb-false n i e)))
     where
-      own_is : i < n → checkpoints (t.lists i) ≡ live_entry s i T.vectors
+      own_is : i < n → checkpoints (t.lists i) ≡ (entry (live_vector R i) i).0
       own_is li =
-          let row = get_or s.current i 0 in
-          ap (λ (l : Lists). checkpoints (l i)) h.lists ∙ sym (h.row_live i li) ∙ ap (λ (p : ℕ). entry_at T.vectors row p) (h.row_own i li)
-          ∙ sym (row_number T.vectors row i (omega (arith, h.represented.few)))
+          ap (λ (l : Lists). checkpoints (l i)) h.lists ∙ sym (h.row_live i li) ∙ ap (λ (p : ℕ). entry_at S (live_row R i) p) (h.row_own i li)
 
-  pub send_refusal_lem : (i j : ℕ) → record_refusal n t (some (Send i j)) ≡ send_refusal n s i j
+  pub send_refusal_lem : (i j : ℕ) → record_refusal n t (Some (Send i j)) ≡ send_refusal n R i j
   unfolding record_refusal send_refusal
-  send_refusal_lem i j = let last : t.sends ≡ s.last = h.sends ∙ sym h.last in rw (sym h.counted, last) (sym (admission_rules i j n s.underway s.last))
+  send_refusal_lem i j = let last : t.sends ≡ R.last = h.sends ∙ sym h.last in rw (sym h.counted, last) (sym (admission_rules i j n R.underway R.last))
 
   -- A checkpoint.
   module _ (i : ℕ) (li : i < n) where
     abbrev row : ℕ
-    row = get_or s.current i 0
+    row = live_row R i
 
-    abbrev vs' : List ℕ
-    vs' = put_row_of T.vectors s.rows (advanced i (row_of T.vectors row))
+    abbrev next_state : State
+    next_state = record { process = i; vector = advanced i (vector_at S row) }
 
-    abbrev process' : List ℕ
-    process' = set T.process s.rows i
+    abbrev S' : List State
+    S' = set S R.rows next_state
 
-    room : s.rows < 4112
+    room : R.rows < 4112
     room = omega (arith, h.few_rows, h.represented.few)
 
-    represented' : Represents n (storing tr h.right i).lists (storing tr h.right i).vector (suc s.rows) s.last vs' process' T.from T.to
-    represented' = stores n tr h.right s.rows s.last T.vectors T.process T.from T.to h.represented i row li (h.row_there i li) (h.row_own i li) (h.row_live i li) room
+    room_there : R.rows < length S
+    room_there = omega (arith, h.room, room)
 
-    own_same : (r : ℕ) → r < s.rows → get_or process' r 0 ≡ get_or T.process r 0
-    own_same r lr = get_or-set_other T.process s.rows r i 0 (λ e. omega arith)
+    represented' : Represents n (storing tr h.right i).lists (storing tr h.right i).vector (suc R.rows) R.last S' M
+    represented' = stores n tr h.right R.rows R.last S M h.represented i row li (h.row_there i li) (h.row_own i li) (h.row_live i li) (h.wide row (h.row_there i li)) room room_there
 
-    own_new : get_or process' s.rows 0 ≡ i
-    own_new = get_or-set_same T.process s.rows i 0 (omega (arith, h.represented.places, room))
+    own_same : (r : ℕ) → r < R.rows → owner_at S' r ≡ owner_at S r
+    own_same r lr = ap (λ (x : State). x.process) (state_other S R.rows next_state r (λ e. omega arith))
 
-    current_new : get_or (set s.current i s.rows) i 0 ≡ s.rows
-    current_new = get_or-set_same s.current i s.rows 0 (omega (arith, h.places, h.represented.few))
+    own_new : owner_at S' R.rows ≡ i
+    own_new = ap (λ (x : State). x.process) (state_same S R.rows next_state room_there)
 
-    current_old : (p : ℕ) → (p ≡ i → ⊥) → get_or (set s.current i s.rows) p 0 ≡ get_or s.current p 0
-    current_old p ne = get_or-set_other s.current i p s.rows 0 ne
+    current_new : get_or (set R.current i R.rows) i 0 ≡ R.rows
+    current_new = get_or-set_same R.current i R.rows 0 (omega (arith, h.places, h.represented.few))
+
+    current_old : (p : ℕ) → (p ≡ i → ⊥) → get_or (set R.current i R.rows) p 0 ≡ live_row R p
+    current_old p ne = get_or-set_other R.current i p R.rows 0 ne
 
     -- The new row is the live state: it is a state above all others of i, by the rows before.
-    live_new : interval_of vs' process' s.rows ≡ checkpoints (added tr.lists i stored i)
+    live_new : interval_of S' R.rows ≡ checkpoints (added tr.lists i stored i)
     live_new =
         let top = represented'.there i (suc (checkpoints (tr.lists i))) li (omega arith) (reach (stored_own tr.lists i)) in
-        by_eq top.0 s.rows
-        (λ e. ap (λ (r : ℕ). interval_of vs' process' r) (sym e) ∙ top.3 ∙ sym (stored_own tr.lists i))
-        (λ ne. absurd (omega (arith, top.3, represented'.ascends top.0 s.rows (omega (arith, top.1)) (omega arith) (top.2 ∙ sym own_new), high (represented'.state s.rows (omega arith)))))
+        by_eq top.0 R.rows
+        (λ e. ap (λ (r : ℕ). interval_of S' r) (sym e) ∙ top.3 ∙ sym (stored_own tr.lists i))
+        (λ ne. absurd (omega (arith, top.3, represented'.ascends top.0 R.rows (omega (arith, top.1)) (omega arith) (top.2 ∙ sym own_new), high (represented'.state R.rows (omega arith)))))
       where
         reach : checkpoints (added tr.lists i stored i) ≡ suc (checkpoints (tr.lists i)) → suc (checkpoints (tr.lists i)) ≤ checkpoints ((storing tr h.right i).lists i)
         reach e = unfold storing in omega (arith, e)
 
-        high : interval_of vs' process' s.rows ≤ checkpoints ((storing tr h.right i).lists (get_or process' s.rows 0)) → interval_of vs' process' s.rows ≤ suc (checkpoints (tr.lists i))
+        high : interval_of S' R.rows ≤ checkpoints ((storing tr h.right i).lists (owner_at S' R.rows)) → interval_of S' R.rows ≤ suc (checkpoints (tr.lists i))
         high w = unfold storing in omega (arith, w, ap (λ (q : ℕ). checkpoints (added tr.lists i stored q)) own_new, stored_own tr.lists i)
 
-    live_old : (p : ℕ) → p < n → (p ≡ i → ⊥) → interval_of vs' process' (get_or s.current p 0) ≡ checkpoints (added tr.lists i stored p)
-    live_old p lp ne =
-        let r = get_or s.current p 0 in
-        let lr = h.row_there p lp in
-        let o = own_same r lr ∙ h.row_own p lp in
-        ap (λ (q : ℕ). entry_at vs' r q) o ∙ put_other T.vectors s.rows (advanced i (row_of T.vectors row)) r p (omega (arith, h.represented.few)) (λ e. omega arith)
-        ∙ ap (λ (q : ℕ). entry_at T.vectors r q) (sym (h.row_own p lp)) ∙ h.row_live p lp ∙ sym (other_own tr.lists i stored p ne)
+    live_old : (p : ℕ) → p < n → (p ≡ i → ⊥) → interval_of S' (live_row R p) ≡ checkpoints (added tr.lists i stored p)
+    live_old p lp ne = ap (λ (x : State). (entry x.vector x.process).0) (state_other S R.rows next_state (live_row R p) (λ e. omega (arith, h.row_there p lp)))
+        ∙ h.row_live p lp ∙ sym (other_own tr.lists i stored p ne)
 
-    rows_one : {l : Lists} {g : ℕ → ℕ → ℕ → ℕ} → Represents n l g (suc s.rows) s.last vs' process' T.from T.to → Represents n l g (s.rows + 1) s.last vs' process' T.from T.to
+    wide' : (r : ℕ) → r < R.rows + 1 → length (vector_at S' r) ≡ 16
+    wide' r lr = by_eq r R.rows
+        (λ e. rw e (ap (λ (x : State). length x.vector) (state_same S R.rows next_state room_there) ∙ long_advanced (h.wide row (h.row_there i li))))
+        (λ ne. ap (λ (x : State). length x.vector) (state_other S R.rows next_state r ne) ∙ h.wide r (omega arith))
+      where
+        long_advanced : length (vector_at S row) ≡ 16 → length (advanced i (vector_at S row)) ≡ 16
+        long_advanced e = unfold advanced in length-set (vector_at S row) i _ ∙ e
+
+    rows_one : {l : Lists} {g : ℕ → ℕ → ℕ → ℕ} → Represents n l g (suc R.rows) R.last S' M → Represents n l g (R.rows + 1) R.last S' M
     rows_one w = rw add-one w
 
-    pub kept_checkpoint : Kept n (suc read) (taken t (some (Checkpoint i))) (storing tr h.right i) (with_row s i) (tables vs' process' T.carried T.passing T.from T.to)
-    unfolding taken storing with_row
+    pub kept_checkpoint : Kept n (suc read) (taken t (Some (Checkpoint i))) (storing tr h.right i) (with_checkpoint R i)
+    unfolding taken storing with_state
     kept_checkpoint = record {
       right = storing_right tr h.right i;
       lists = ap (λ (l : Lists). added l i stored) h.lists;
       sends = h.sends;
       last = h.last;
       represented = rows_one represented';
+      wide = wide';
       row_there = λ p lp. by_eq p i (λ e. rw (e, current_new) (omega arith)) (λ ne. rw (current_old p ne) (omega (arith, h.row_there p lp)));
-      row_own = λ p lp. by_eq p i (λ e. rw (e, current_new) own_new) (λ ne. rw (current_old p ne) (own_same (get_or s.current p 0) (h.row_there p lp) ∙ h.row_own p lp));
+      row_own = λ p lp. by_eq p i (λ e. rw (e, current_new) own_new) (λ ne. rw (current_old p ne) (own_same (live_row R p) (h.row_there p lp) ∙ h.row_own p lp));
       row_live = λ p lp. by_eq p i (λ e. rw (e, current_new) live_new) (λ ne. rw (current_old p ne) (live_old p lp ne));
-      places = length-set s.current i s.rows ∙ h.places;
       few_rows = omega (arith, h.few_rows);
       few_messages = omega (arith, h.few_messages);
-      carriers = h.carriers;
-      marks = h.marks;
+      room = length-set S R.rows next_state ∙ h.room;
+      sent_room = h.sent_room;
+      places = length-set R.current i R.rows ∙ h.places;
       counted = h.counted;
       most = h.most;
       marked = h.marked;
@@ -229,111 +246,119 @@ module _ (n read : ℕ) (t : Pattern) (tr : Trail) (s : Progress) (T : Tables) (
     }
 
   -- A send.
-  module _ (i j : ℕ) (li : i < n) (lj : j < n) (few : s.underway < 64) where
+  module _ (i j : ℕ) (li : i < n) (lj : j < n) (few : R.underway < 64) where
     abbrev from_row : ℕ
-    from_row = get_or s.current i 0
+    from_row = live_row R i
 
-    low : s.last < 4096
+    abbrev next_sent : Sent
+    next_sent = record { from = from_row; carried = live_vector R i; fate = UnderWay j }
+
+    abbrev M' : List Sent
+    M' = set M R.last next_sent
+
+    low : R.last < 4096
     low = omega (arith, h.few_messages)
 
-    number : t.sends + 1 ≡ suc s.last
+    last_there : R.last < length M
+    last_there = omega (arith, h.sent_room, low)
+
+    number : t.sends + 1 ≡ suc R.last
     number = rw (add-one, h.sends, sym h.last)
 
-    sent_represented : Represents n (sending tr h.right i).lists (sending tr h.right i).vector s.rows (suc s.last) T.vectors T.process (set T.from s.last from_row) (set T.to s.last 0)
-    sent_represented = sends n tr h.right s.rows s.last T.vectors T.process T.from T.to h.represented i from_row li (h.row_there i li) (h.row_own i li) (h.row_live i li) h.last low
+    sent_represented : Represents n (sending tr h.right i).lists (sending tr h.right i).vector R.rows (suc R.last) S M'
+    sent_represented = sends n tr h.right R.rows R.last S M h.represented i from_row li (h.row_there i li) (h.row_own i li) (h.row_live i li) j (live_vector R i) h.last low last_there
 
-    last_one : {l : Lists} {g : ℕ → ℕ → ℕ → ℕ} {from to : List ℕ} → Represents n l g s.rows (suc s.last) T.vectors T.process from to → Represents n l g s.rows (s.last + 1) T.vectors T.process from to
+    last_one : {l : Lists} {g : ℕ → ℕ → ℕ → ℕ} → Represents n l g R.rows (suc R.last) S M' → Represents n l g R.rows (R.last + 1) S M'
     last_one w = rw add-one w
 
     -- The lists of the trail after the send are those of the pattern.
     sent_lists : added t.lists i (sent (t.sends + 1)) ≡ added tr.lists i (sent (suc tr.last))
     sent_lists = rw (add-one, h.lists, h.sends)
 
-    abbrev T' : Tables
-    T' = tables T.vectors T.process (sent_carried T.vectors from_row s.last T.carried) (set T.passing s.last (j + 1)) (set T.from s.last from_row) (set T.to s.last 0)
-
-    new_carried : (f : ℕ) → f < 16 → entry_at T'.carried s.last f ≡ (sending tr h.right i).carried (suc s.last) f
-    unfolding sent_carried
+    new_carried : (f : ℕ) → f < 16 → (entry (carried_at M' R.last) f).0 ≡ (sending tr h.right i).carried (suc R.last) f
     new_carried f lf =
-        put_same T.carried s.last (row_of T.vectors from_row) f lf (omega (arith, h.carriers, low))
-        ∙ row_number T.vectors from_row f lf
-        ∙ live_entry_lem n tr h.right s.rows s.last T.vectors T.process T.from T.to h.represented i from_row li (h.row_there i li) (h.row_own i li) (h.row_live i li) f lf
+        ap (λ (x : Sent). (entry x.carried f).0) (sent_same M R.last next_sent last_there)
+        ∙ live_entry_lem n tr h.right R.rows R.last S M h.represented i from_row li (h.row_there i li) (h.row_own i li) (h.row_live i li) f lf
         ∙ sym (carried_new tr h.right i f) ∙ ap (λ (k : ℕ). (sending tr h.right i).carried (suc k) f) (sym h.last)
 
-    old_carried : (y f : ℕ) → f < 16 → y < s.last → entry_at T'.carried y f ≡ entry_at T.carried y f
-    unfolding sent_carried
-    old_carried y f lf ly = put_other T.carried s.last (row_of T.vectors from_row) y f lf (λ e. omega arith)
-
-    was_there : (m : ℕ) → Sent tr.lists m → Sent (sending tr h.right i).lists m
+    was_there : (m : ℕ) → followed.Sent tr.lists m → followed.Sent (sending tr h.right i).lists m
     unfolding sending
     was_there m w = (w.0, w.1, event_old tr.lists i (sent (suc tr.last)) w.0 w.1 (sent m) w.2)
 
-    is_there_lem : Sent (sending tr h.right i).lists (suc s.last)
+    is_there_lem : followed.Sent (sending tr h.right i).lists (suc R.last)
     unfolding sending
     is_there_lem = rw h.last (i, length (tr.lists i), event_new tr.lists i (sent (suc tr.last)))
 
-    new_waits : (y : ℕ) → upd t.underway (suc s.last) true (suc y) ≡ true → Waits n (taken t (some (Send i j))) (sending tr h.right i) T' y
+    new_waits : (y : ℕ) → upd t.underway (suc R.last) true (suc y) ≡ true → Waits n (taken t (Some (Send i j))) (sending tr h.right i) M' y
     unfolding taken
-    new_waits y e = by_eq y s.last
+    new_waits y e = by_eq y R.last
         (λ c. rw c (record {
-          mark = get_or-set_same T.passing s.last (j + 1) 0 (omega (arith, h.marks, low)) ∙ rw (number, upd_same t.receiver (suc s.last) j) (add-one j);
-          receiver = rw (number, upd_same t.receiver (suc s.last) j) lj;
-          not_got = get_or-set_same T.to s.last 0 0 (omega (arith, h.represented.receipts, low));
+          mark = ap (λ (x : Sent). receiver_mark x.fate) (sent_same M R.last next_sent last_there) ∙ ap suc (sym (rw (number, upd_same t.receiver (suc R.last) j)));
+          receiver = rw (number, upd_same t.receiver (suc R.last) j) lj;
+          not_got = ap (λ (x : Sent). receipt_mark x.fate) (sent_same M R.last next_sent last_there);
           carried = new_carried;
           was_sent = is_there_lem;
         }))
         (λ ne.
-        let apart : suc y ≡ suc s.last → ⊥ = λ d. ne (omega arith) in
-        let u : t.underway (suc y) ≡ true = sym (upd_other t.underway (suc s.last) true (suc y) apart) ∙ e in
+        let apart : suc y ≡ suc R.last → ⊥ = λ d. ne (omega arith) in
+        let u : t.underway (suc y) ≡ true = sym (upd_other t.underway (suc R.last) true (suc y) apart) ∙ e in
         let w = h.waits y u in
-        let same : upd t.receiver (t.sends + 1) j (suc y) ≡ t.receiver (suc y) = rw number (upd_other t.receiver (suc s.last) j (suc y) apart) in
+        let same : upd t.receiver (t.sends + 1) j (suc y) ≡ t.receiver (suc y) = rw number (upd_other t.receiver (suc R.last) j (suc y) apart) in
         record {
-          mark = get_or-set_other T.passing s.last y (j + 1) 0 ne ∙ w.mark ∙ ap suc (sym same);
+          mark = ap (λ (x : Sent). receiver_mark x.fate) (sent_other M R.last next_sent y ne) ∙ w.mark ∙ ap suc (sym same);
           receiver = rw same w.receiver;
-          not_got = get_or-set_other T.to s.last y 0 0 ne ∙ w.not_got;
-          carried = λ f lf. old_carried y f lf (low_place y u) ∙ w.carried f lf ∙ sym (carried_old tr h.right i (suc y) f (omega (arith, low_place y u, h.last)));
+          not_got = ap (λ (x : Sent). receipt_mark x.fate) (sent_other M R.last next_sent y ne) ∙ w.not_got;
+          carried = λ f lf. ap (λ (x : Sent). (entry x.carried f).0) (sent_other M R.last next_sent y ne) ∙ w.carried f lf
+              ∙ sym (carried_old tr h.right i (suc y) f (omega (arith, low_place y u, h.last)));
           was_sent = was_there (suc y) w.was_sent;
         })
       where
-        low_place : (y : ℕ) → t.underway (suc y) ≡ true → y < s.last
+        low_place : (y : ℕ) → t.underway (suc y) ≡ true → y < R.last
         low_place y u = let w = place_of_lem (suc y) u in omega (arith, w.1, w.2)
 
-    pub kept_send : Kept n (suc read) (taken t (some (Send i j))) (sending tr h.right i) (with_message_of s) T'
+    pub kept_send : Kept n (suc read) (taken t (Some (Send i j))) (sending tr h.right i) (with_message R i j)
     kept_send = record {
       right = sending_right tr h.right i;
       lists = unfold taken sending in sent_lists;
       sends = unfold taken sending in number ∙ ap suc h.last;
-      last = unfold sending with_message_of in omega (arith, h.last);
-      represented = unfold with_message_of in last_one sent_represented;
-      row_there = λ p lp. unfold with_message_of in h.row_there p lp;
-      row_own = λ p lp. unfold with_message_of in h.row_own p lp;
-      row_live = λ p lp. unfold with_message_of sending in h.row_live p lp ∙ sym (sent_own tr.lists i (suc tr.last) p);
-      places = unfold with_message_of in h.places;
-      few_rows = unfold with_message_of in omega (arith, h.few_rows);
-      few_messages = unfold with_message_of in omega (arith, h.few_messages);
-      carriers = unfold sent_carried in omega (arith, put_length T.carried s.last (row_of T.vectors from_row), h.carriers);
-      marks = omega (arith, length-set T.passing s.last (j + 1), h.marks);
-      counted = unfold with_message_of taken in rw number (ap (λ (k : ℕ). k + 1) h.counted ∙ ap (λ (k : ℕ). count_below (suc k) t.underway + 1) (h.sends ∙ sym h.last) ∙ sym (count_on (suc s.last) t.underway));
-      most = unfold with_message_of in omega (arith, few);
-      marked = λ m. unfold with_message_of taken in rw number (all_marks m);
-      waits = λ y e. new_waits y (unfold taken in (rw number at e));
+      last = unfold sending with_message in omega (arith, h.last);
+      represented = unfold with_message in last_one sent_represented;
+      wide = unfold with_message in h.wide;
+      row_there = λ p lp. unfold with_message in h.row_there p lp;
+      row_own = λ p lp. unfold with_message in h.row_own p lp;
+      row_live = λ p lp. unfold with_message sending in h.row_live p lp ∙ sym (sent_own tr.lists i (suc tr.last) p);
+      few_rows = unfold with_message in omega (arith, h.few_rows);
+      few_messages = unfold with_message in omega (arith, h.few_messages);
+      room = unfold with_message in h.room;
+      sent_room = unfold with_message in length-set M R.last next_sent ∙ h.sent_room;
+      places = unfold with_message in h.places;
+      counted = unfold with_message taken in rw number (ap (λ (k : ℕ). k + 1) h.counted ∙ ap (λ (k : ℕ). count_below (suc k) t.underway + 1) (h.sends ∙ sym h.last) ∙ sym (count_on (suc R.last) t.underway));
+      most = unfold with_message in omega (arith, few);
+      marked = λ m. unfold with_message taken in rw number (all_marks m);
+      waits = λ y e. unfold with_message in new_waits y (unfold taken in (rw number at e));
     }
       where
-        all_marks : (m : ℕ) → upd t.underway (suc s.last) true m ≡ is_under_way (set T.passing s.last (j + 1)) (s.last + 1) m
-        all_marks m = ap (λ (u : ℕ → Bool). upd u (suc s.last) true m) (fun_ext h.marked) ∙ mark_on T.passing s.last j m (omega (arith, h.marks, low))
+        all_marks : (m : ℕ) → upd t.underway (suc R.last) true m ≡ is_under_way M' (R.last + 1) m
+        all_marks m = ap (λ (u : ℕ → Bool). upd u (suc R.last) true m) (fun_ext h.marked) ∙ mark_on M R.last R.last next_sent last_there j m refl refl
 
   -- A message is no longer under way.
   module _ (y : ℕ) (u : t.underway (suc y) ≡ true) where
-    low_y : y < s.last
+    low_y : y < R.last
     low_y = let w = place_of_lem (suc y) u in omega (arith, w.1, w.2)
 
-    off_counted : s.underway - 1 ≡ count_below (suc t.sends) (upd t.underway (suc y) false)
+    in_messages : y < length M
+    in_messages = omega (arith, low_y, h.sent_room, h.represented.most_messages)
+
+    pub wait : Waits n t tr M y
+    wait = h.waits y u
+
+    off_counted : R.underway - 1 ≡ count_below (suc t.sends) (upd t.underway (suc y) false)
     off_counted = omega (arith, h.counted, count_off (suc t.sends) t.underway (suc y) (omega (arith, low_y, h.sends, h.last)) u)
 
-    off_marked : (m : ℕ) → upd t.underway (suc y) false m ≡ is_under_way (set T.passing y 0) s.last m
-    off_marked m = ap (λ (u : ℕ → Bool). upd u (suc y) false m) (fun_ext h.marked) ∙ mark_off T.passing s.last y m low_y (omega (arith, h.marks, h.represented.most_messages))
+    off_marked : (x : Sent) → receiver_mark x.fate ≡ 0 → (m : ℕ) → upd t.underway (suc y) false m ≡ is_under_way (set M y x) R.last m
+    off_marked x z m = ap (λ (v : ℕ → Bool). upd v (suc y) false m) (fun_ext h.marked) ∙ mark_off M R.last y x in_messages m z
 
-    -- Another message that is still under way has another place.
+    -- Another message that is still under way has another place, and waits as it did.
     other_place : (x : ℕ) → upd t.underway (suc y) false (suc x) ≡ true → x ≡ y → ⊥
     other_place x e c = false≢true (sym (upd_same t.underway (suc y) false) ∙ ap (λ (k : ℕ). upd t.underway (suc y) false (suc k)) (sym c) ∙ e)
 
@@ -341,30 +366,44 @@ module _ (n read : ℕ) (t : Pattern) (tr : Trail) (s : Progress) (T : Tables) (
     still x e = sym (upd_other t.underway (suc y) false (suc x) (λ c. other_place x e (omega arith))) ∙ e
 
     -- A loss.
-    pub kept_lose : Kept n (suc read) (taken t (some (Lose (suc y)))) tr (without_one_of s) (tables T.vectors T.process T.carried (set T.passing y 0) T.from T.to)
-    unfolding taken without_one_of
+    abbrev lost_sent : Sent
+    lost_sent = record { from = from_at M y; carried = carried_at M y; fate = Lost }
+
+    lost_from : (m : ℕ) → from_at (set M y lost_sent) m ≡ from_at M m
+    lost_from m = by_eq m y
+        (λ e. rw e (ap (λ (x : Sent). x.from) (sent_same M y lost_sent in_messages)))
+        (λ ne. ap (λ (x : Sent). x.from) (sent_other M y lost_sent m ne))
+
+    lost_to : (m : ℕ) → to_at (set M y lost_sent) m ≡ to_at M m
+    lost_to m = by_eq m y
+        (λ e. rw e (ap (λ (x : Sent). receipt_mark x.fate) (sent_same M y lost_sent in_messages) ∙ sym wait.not_got))
+        (λ ne. ap (λ (x : Sent). receipt_mark x.fate) (sent_other M y lost_sent m ne))
+
+    pub kept_lose : Kept n (suc read) (taken t (Some (Lose (suc y)))) tr (settled R y Lost)
+    unfolding taken settled
     kept_lose = record {
       right = h.right;
       lists = h.lists;
       sends = h.sends;
       last = h.last;
-      represented = h.represented;
+      represented = represented_same n tr.lists tr.vector R.rows R.last S M h.represented (set M y lost_sent) lost_from lost_to;
+      wide = h.wide;
       row_there = h.row_there;
       row_own = h.row_own;
       row_live = h.row_live;
-      places = h.places;
       few_rows = omega (arith, h.few_rows);
       few_messages = omega (arith, h.few_messages);
-      carriers = h.carriers;
-      marks = omega (arith, length-set T.passing y 0, h.marks);
+      room = h.room;
+      sent_room = length-set M y lost_sent ∙ h.sent_room;
+      places = h.places;
       counted = off_counted;
       most = omega (arith, h.most);
-      marked = off_marked;
-      waits = λ x e. let w = h.waits x (still x e) in record {
-        mark = get_or-set_other T.passing y x 0 0 (other_place x e) ∙ w.mark;
+      marked = off_marked lost_sent refl;
+      waits = λ x e. let w = h.waits x (still x e) in let ne = other_place x e in record {
+        mark = ap (λ (z : Sent). receiver_mark z.fate) (sent_other M y lost_sent x ne) ∙ w.mark;
         receiver = w.receiver;
-        not_got = w.not_got;
-        carried = w.carried;
+        not_got = ap (λ (z : Sent). receipt_mark z.fate) (sent_other M y lost_sent x ne) ∙ w.not_got;
+        carried = λ f lf. ap (λ (z : Sent). (entry z.carried f).0) (sent_other M y lost_sent x ne) ∙ w.carried f lf;
         was_sent = w.was_sent;
       };
     }
@@ -374,106 +413,119 @@ module _ (n read : ℕ) (t : Pattern) (tr : Trail) (s : Progress) (T : Tables) (
     i = t.receiver (suc y)
 
     abbrev got_row : ℕ
-    got_row = get_or s.current i 0
+    got_row = live_row R i
 
-    abbrev vs'' : List ℕ
-    vs'' = receipt_vectors T.vectors got_row (row_of T.carried y)
+    abbrev got_state : State
+    got_state = record { process = owner_at S got_row; vector = taken_vector (vector_at S got_row) (carried_at M y) }
 
-    pub wait : Waits n t tr T y
-    wait = h.waits y u
+    abbrev got_sent : Sent
+    got_sent = record { from = from_at M y; carried = carried_at M y; fate = Received got_row }
 
-    carries : (f : ℕ) → f < 16 → (entry (row_of T.carried y) f).0 ≡ tr.carried (suc y) f
-    carries f lf = row_number T.carried y f lf ∙ wait.carried f lf
+    abbrev S'' : List State
+    S'' = set S got_row got_state
+
+    abbrev M'' : List Sent
+    M'' = set M y got_sent
+
+    in_states : got_row < length S
+    in_states = omega (arith, h.row_there i wait.receiver, h.represented.most_rows_lem, h.room)
 
     abbrev pub after : Trail
     after = receiving tr h.right i (suc y) wait.was_sent.0 wait.was_sent.1 wait.was_sent.2
 
-    got_represented : Represents n after.lists after.vector s.rows s.last vs'' T.process T.from (set T.to y (got_row + 1))
-    got_represented = receives n tr h.right s.rows s.last T.vectors T.process T.from T.to h.represented i got_row wait.receiver (h.row_there i wait.receiver) (h.row_own i wait.receiver)
-        (h.row_live i wait.receiver) y wait.was_sent.0 wait.was_sent.1 wait.was_sent.2 low_y wait.not_got (row_of T.carried y) carries
+    got_represented : Represents n after.lists after.vector R.rows R.last S'' M''
+    got_represented = receives n tr h.right R.rows R.last S M h.represented i got_row wait.receiver (h.row_there i wait.receiver) (h.row_own i wait.receiver)
+        (h.row_live i wait.receiver) y wait.was_sent.0 wait.was_sent.1 wait.was_sent.2 low_y wait.not_got (carried_at M y) wait.carried in_states in_messages
 
-    live_now : entry_at vs'' got_row i ≡ checkpoints (tr.lists i)
-    live_now = got_live n tr h.right s.rows s.last T.vectors T.process T.from T.to h.represented i got_row wait.receiver (h.row_there i wait.receiver) (h.row_own i wait.receiver)
-        (h.row_live i wait.receiver) y wait.was_sent.0 wait.was_sent.1 wait.was_sent.2 low_y wait.not_got (row_of T.carried y) carries
+    live_now : entry_at S'' got_row i ≡ checkpoints (tr.lists i)
+    live_now = got_live n tr h.right R.rows R.last S M h.represented i got_row wait.receiver (h.row_there i wait.receiver) (h.row_own i wait.receiver)
+        (h.row_live i wait.receiver) y wait.was_sent.0 wait.was_sent.1 wait.was_sent.2 low_y wait.not_got (carried_at M y) wait.carried in_states in_messages
+
+    owner_then : (r : ℕ) → owner_at S'' r ≡ owner_at S r
+    owner_then = got_owner n tr h.right R.rows R.last S M h.represented i got_row wait.receiver (h.row_there i wait.receiver) (h.row_own i wait.receiver)
+        (h.row_live i wait.receiver) y wait.was_sent.0 wait.was_sent.1 wait.was_sent.2 low_y wait.not_got (carried_at M y) wait.carried in_states in_messages
 
     -- The live rows of the other processes are as they were.
-    live_then : (p : ℕ) → p < n → interval_of vs'' T.process (get_or s.current p 0) ≡ checkpoints (tr.lists p)
-    unfolding receipt_vectors
+    live_then : (p : ℕ) → p < n → interval_of S'' (live_row R p) ≡ checkpoints (tr.lists p)
     live_then p lp = by_eq p i
-        (λ c. rw c (ap (λ (q : ℕ). entry_at vs'' got_row q) (h.row_own i wait.receiver) ∙ live_now))
+        (λ c. rw c (ap (λ (q : ℕ). entry_at S'' got_row q) (owner_then got_row ∙ h.row_own i wait.receiver) ∙ live_now))
         (λ ne.
-        let apart : get_or s.current p 0 ≡ got_row → ⊥ = λ c. ne (sym (h.row_own p lp) ∙ ap (λ (r : ℕ). get_or T.process r 0) c ∙ h.row_own i wait.receiver) in
-        put_other T.vectors got_row (taken_vector (row_of T.vectors got_row) (row_of T.carried y)) (get_or s.current p 0) (get_or T.process (get_or s.current p 0) 0)
-        (omega (arith, h.row_own p lp, h.represented.few)) apart ∙ h.row_live p lp)
+        let apart : live_row R p ≡ got_row → ⊥ = λ c. ne (sym (h.row_own p lp) ∙ ap (λ (r : ℕ). owner_at S r) c ∙ h.row_own i wait.receiver) in
+        ap (λ (x : State). (entry x.vector x.process).0) (state_other S got_row got_state (live_row R p) apart) ∙ h.row_live p lp)
 
-    got_was_sent : (m : ℕ) → Sent tr.lists m → Sent after.lists m
+    got_wide : (r : ℕ) → r < R.rows → length (vector_at S'' r) ≡ 16
+    got_wide r lr = by_eq r got_row
+        (λ e. rw e (ap (λ (x : State). length x.vector) (state_same S got_row got_state in_states) ∙ long_taken))
+        (λ ne. ap (λ (x : State). length x.vector) (state_other S got_row got_state r ne) ∙ h.wide r lr)
+      where
+        long_taken : length (taken_vector (vector_at S got_row) (carried_at M y)) ≡ 16
+        long_taken = unfold taken_vector in length_table {A = Interval} 16 (taken_entry (vector_at S got_row) (carried_at M y))
+
+    got_was_sent : (m : ℕ) → followed.Sent tr.lists m → followed.Sent after.lists m
     unfolding receiving
     got_was_sent m w = (w.0, w.1, event_old tr.lists i (received (suc y)) w.0 w.1 (sent m) w.2)
 
-    pub kept_deliver : Kept n (suc read) (taken t (some (Deliver (suc y)))) after (without_one_of s)
-        (tables vs'' T.process T.carried (set T.passing y 0) T.from (set T.to y (got_row + 1)))
+    pub kept_deliver : Kept n (suc read) (taken t (Some (Deliver (suc y)))) after (settled (with_receipt R got_row (carried_at M y)) y (Received got_row))
     kept_deliver = record {
       right = receiving_right tr h.right i (suc y) wait.was_sent.0 wait.was_sent.1 wait.was_sent.2;
       lists = unfold taken receiving in ap (λ (l : Lists). added l i (received (suc y))) h.lists;
       sends = unfold taken receiving in h.sends;
-      last = unfold without_one_of receiving in h.last;
-      represented = unfold without_one_of in got_represented;
-      row_there = λ p lp. unfold without_one_of in h.row_there p lp;
-      row_own = λ p lp. unfold without_one_of in h.row_own p lp;
-      row_live = λ p lp. unfold without_one_of receiving in live_then p lp ∙ sym (received_own tr.lists i (suc y) p);
-      places = unfold without_one_of in h.places;
-      few_rows = unfold without_one_of in omega (arith, h.few_rows);
-      few_messages = unfold without_one_of in omega (arith, h.few_messages);
-      carriers = h.carriers;
-      marks = omega (arith, length-set T.passing y 0, h.marks);
-      counted = unfold without_one_of taken in off_counted;
-      most = unfold without_one_of in omega (arith, h.most);
-      marked = λ m. unfold without_one_of taken in off_marked m;
-      waits = λ x e. got_waits x (unfold taken in e);
+      last = unfold settled with_receipt receiving in h.last;
+      represented = unfold settled with_receipt in got_represented;
+      wide = unfold settled with_receipt in got_wide;
+      row_there = λ p lp. unfold settled with_receipt in h.row_there p lp;
+      row_own = λ p lp. unfold settled with_receipt in owner_then (live_row R p) ∙ h.row_own p lp;
+      row_live = λ p lp. unfold settled with_receipt receiving in live_then p lp ∙ sym (received_own tr.lists i (suc y) p);
+      few_rows = unfold settled with_receipt in omega (arith, h.few_rows);
+      few_messages = unfold settled with_receipt in omega (arith, h.few_messages);
+      room = unfold settled with_receipt in length-set S got_row got_state ∙ h.room;
+      sent_room = unfold settled with_receipt in length-set M y got_sent ∙ h.sent_room;
+      places = unfold settled with_receipt in h.places;
+      counted = unfold settled with_receipt taken in off_counted;
+      most = unfold settled with_receipt in omega (arith, h.most);
+      marked = λ m. unfold settled with_receipt taken in off_marked got_sent refl m;
+      waits = λ x e. unfold settled with_receipt in got_waits x (unfold taken in e);
     }
       where
-        got_waits : (x : ℕ) → upd t.underway (suc y) false (suc x) ≡ true
-            → Waits n (taken t (some (Deliver (suc y)))) after (tables vs'' T.process T.carried (set T.passing y 0) T.from (set T.to y (got_row + 1))) x
+        got_waits : (x : ℕ) → upd t.underway (suc y) false (suc x) ≡ true → Waits n (taken t (Some (Deliver (suc y)))) after M'' x
         got_waits x e = let w = h.waits x (still x e) in let ne = other_place x e in record {
-          mark = unfold taken in get_or-set_other T.passing y x 0 0 ne ∙ w.mark;
+          mark = unfold taken in ap (λ (z : Sent). receiver_mark z.fate) (sent_other M y got_sent x ne) ∙ w.mark;
           receiver = unfold taken in w.receiver;
-          not_got = get_or-set_other T.to y x (got_row + 1) 0 ne ∙ w.not_got;
-          carried = λ f lf. unfold receiving in w.carried f lf;
+          not_got = ap (λ (z : Sent). receipt_mark z.fate) (sent_other M y got_sent x ne) ∙ w.not_got;
+          carried = λ f lf. unfold receiving in ap (λ (z : Sent). (entry z.carried f).0) (sent_other M y got_sent x ne) ∙ w.carried f lf;
           was_sent = got_was_sent (suc x) w.was_sent;
         }
 
 -- The start.
-module _ (n : ℕ) (s : Progress) (T : Tables) (few : n ≤ 16) (room : 65792 ≤ length T.vectors) (places : 4112 ≤ length T.process) (carriers : 65536 ≤ length T.carried)
-    (marks : 4096 ≤ length T.passing) (sends : 4096 ≤ length T.from) (receipts : 4096 ≤ length T.to)
-    (w : FirstRows n T.vectors T.process s.current) (rows : s.rows ≡ n) (none-under : s.underway ≡ 0) (no_last : s.last ≡ 0) where
-  start_represented : Represents n begin.lists begin.vector s.rows s.last T.vectors T.process T.from T.to
-  start_represented = rw (rows, no_last) (begin_represented n T.vectors T.process T.from T.to s.current few room places sends receipts w)
+pub kept_begin : (n : ℕ) (R : Reading) → n ≤ 16 → FirstRows n R → Kept n 0 empty begin R
+unfolding empty begin
+kept_begin n R few w = record {
+  right = begin_right;
+  lists = refl;
+  sends = refl;
+  last = w.last;
+  represented = start_represented;
+  wide = λ r lr. w.first.wide r (omega (arith, lr, w.rows));
+  row_there = λ p lp. omega (arith, w.first.live p lp, w.rows);
+  row_own = λ p lp. ap (owner_at R.states) (w.first.live p lp) ∙ w.first.owner p lp;
+  row_live = λ p lp. ap (interval_of R.states) (w.first.live p lp) ∙ first_live p lp;
+  few_rows = omega (arith, w.rows);
+  few_messages = omega (arith, w.last);
+  room = w.room;
+  sent_room = w.sent_room;
+  places = w.places;
+  counted = w.underway ∙ sym (count_none 1 (λ m. false) (λ j l. refl));
+  most = omega (arith, w.underway);
+  marked = λ m. sym (rw w.last (none_marked m));
+  waits = λ y e. absurd (false≢true e);
+}
+  where
+    start_represented : Represents n begin.lists begin.vector R.rows R.last R.states R.messages
+    start_represented = rw (w.rows, w.last) (begin_represented n R.states R.messages R.current few w.first)
 
-  pub kept_begin : Kept n 0 empty begin s T
-  unfolding empty begin
-  kept_begin = record {
-    right = begin_right;
-    lists = refl;
-    sends = refl;
-    last = no_last;
-    represented = start_represented;
-    row_there = λ p lp. rw (w.live p lp, rows) lp;
-    row_own = λ p lp. rw (w.live p lp) (w.owner p lp);
-    row_live = λ p lp. rw (w.live p lp) (first_live p lp);
-    places = w.size;
-    few_rows = omega (arith, rows);
-    few_messages = omega (arith, no_last);
-    carriers = carriers;
-    marks = marks;
-    counted = none-under ∙ sym (count_none 1 (λ m. false) (λ j l. refl));
-    most = omega (arith, none-under);
-    marked = λ m. sym (rw no_last (none_marked m));
-    waits = λ y e. absurd (false≢true e);
-  }
-    where
-      first_live : (p : ℕ) → p < n → interval_of T.vectors T.process p ≡ checkpoints (begin.lists p)
-      first_live p lp = ap (λ (q : ℕ). entry_at T.vectors p q) (w.owner p lp) ∙ w.vector p p lp (omega arith) ∙ ap (λ b. pick b 1 0) (eq-eqb p p refl) ∙ sym (own_begin p)
+    first_live : (p : ℕ) → p < n → interval_of R.states p ≡ checkpoints (begin.lists p)
+    first_live p lp = ap (λ (q : ℕ). entry_at R.states p q) (w.first.owner p lp) ∙ w.first.vector p p lp (omega arith) ∙ ap (λ b. pick b 1 0) (eq-eqb p p refl) ∙ sym (own_begin p)
 
-      none_marked : (m : ℕ) → is_under_way T.passing 0 m ≡ false
-      none_marked zero = unfold is_under_way in refl
-      none_marked (suc y) = unfold is_under_way in rw (le-ltb y 0 (omega arith))
+    none_marked : (m : ℕ) → is_under_way R.messages 0 m ≡ false
+    none_marked zero = unfold is_under_way in refl
+    none_marked (suc y) = unfold is_under_way in rw (le-ltb y 0 (omega arith))

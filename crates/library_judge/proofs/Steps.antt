@@ -1,7 +1,7 @@
 -- The tables hold the trail after each record: a checkpoint, a send, a delivery. A lost message changes nothing that the tables hold.
 -- Assumes nothing.
 use Rattle.std.specs.Prelude.{◌≡◌, ◌⊎◌, ◌-◌, ◌≤◌, ◌<◌}
-use Rattle.laws.specs.Basics.{refl, sym, ◌∙◌, ap, List, inl, inr, ℕ, suc, arith, ltb, length, get_or, ltb-true, ltb-false, by_bool, by_eq}
+use Rattle.laws.specs.Basics.{sym, ◌∙◌, ap, List, inl, inr, ℕ, suc, arith, ltb, length, ltb-true, ltb-false, by_bool, by_eq}
 use Rattle.laws.specs.Loops.{either}
 use Rattle.histories.specs.History.{HistoryEvent, stored, sent, received, Lists, checkpoints}
 use Rattle.whole_runs.specs.Survival.{added}
@@ -10,7 +10,8 @@ use Rattle.histories.proofs.Places.{checkpoints_stored, checkpoints_sent, checkp
 use Rattle.theory_patterns.specs.Paths.{interval, StandsIn}
 use Rattle.theory_patterns.proofs.Placing.{place_in}
 use Rattle.theory_patterns.proofs.Adding.{list_same, list_other, event_old, event_new, event_cases, interval_old, interval_new}
-use Rattle.library_judge.specs.{decision.Rows.entry_at, decision.Represents.interval_of, decision.Represents.Represents}
+use Rattle.library_judge.specs.declared.pattern.{State.State, Sent.Sent}
+use Rattle.library_judge.specs.decision.{Rows.owner_at, Rows.entry_at, Rows.from_at, Rows.to_at, Represents.interval_of, Represents.Represents}
 use Rattle.library_judge.proofs.decision.Verdict.{received_row}
 
 module _ (lists : Lists) (i : ℕ) (x : HistoryEvent) where
@@ -37,38 +38,34 @@ sent_own lists i m p = by_eq p i (λ e. rw (e, list_same lists i (sent m)) (chec
 pub received_own : (lists : Lists) (i m p : ℕ) → checkpoints (added lists i (received m) p) ≡ checkpoints (lists p)
 received_own lists i m p = by_eq p i (λ e. rw (e, list_same lists i (received m)) (checkpoints_received (lists i) m)) (λ ne. other_own lists i (received m) p ne)
 
-placed_to : {e : HistoryEvent} {g j p q : ℕ} (lists : Lists) → g ≡ j → p ≡ q → StandsIn e g (lists p) → StandsIn e j (lists q)
+pub placed_to : {e : HistoryEvent} {g j p q : ℕ} (lists : Lists) → g ≡ j → p ≡ q → StandsIn e g (lists p) → StandsIn e j (lists q)
 placed_to lists a b s = rw b at (rw a at s)
 
-module _ (n : ℕ) (lists : Lists) (vector vector' : ℕ → ℕ → ℕ → ℕ) (rows last : ℕ) (vs process from to : List ℕ)
-    (h : Represents n lists vector rows last vs process from to) where
+module _ (n : ℕ) (lists : Lists) (vector vector' : ℕ → ℕ → ℕ → ℕ) (rows last : ℕ) (vs : List State) (ms : List Sent)
+    (h : Represents n lists vector rows last vs ms) where
   -- A checkpoint of i: a new row, after all others.
-  module _ (i : ℕ) (vs' process' : List ℕ) (li : i < n) (room : rows < 4112) (len : 65792 ≤ length vs') (len' : 4112 ≤ length process')
+  module _ (i : ℕ) (vs' : List State) (li : i < n) (room : rows < 4112)
       (old-e : (r f : ℕ) → r < rows → f < 16 → entry_at vs' r f ≡ entry_at vs r f)
-      (old-p : (r : ℕ) → r < rows → get_or process' r 0 ≡ get_or process r 0)
-      (new-p : get_or process' rows 0 ≡ i)
+      (old-p : (r : ℕ) → r < rows → owner_at vs' r ≡ owner_at vs r)
+      (new-p : owner_at vs' rows ≡ i)
       (new-e : (f : ℕ) → f < 16 → entry_at vs' rows f ≡ vector' i (suc (checkpoints (lists i))) f)
       (self : vector' i (suc (checkpoints (lists i))) i ≡ suc (checkpoints (lists i)))
       (old-v : (p k f : ℕ) → k ≤ checkpoints (lists p) → vector' p k f ≡ vector p k f) where
-    old_i : (r : ℕ) → r < rows → interval_of vs' process' r ≡ interval_of vs process r
-    old_i r lr = ap (λ (q : ℕ). entry_at vs' r q) (old-p r lr) ∙ old-e r (get_or process r 0) lr (omega (arith, h.owner r lr, h.few))
+    old_i : (r : ℕ) → r < rows → interval_of vs' r ≡ interval_of vs r
+    old_i r lr = ap (λ (q : ℕ). entry_at vs' r q) (old-p r lr) ∙ old-e r (owner_at vs r) lr (omega (arith, h.owner r lr, h.few))
 
-    new_i : interval_of vs' process' rows ≡ suc (checkpoints (lists i))
+    new_i : interval_of vs' rows ≡ suc (checkpoints (lists i))
     new_i = ap (λ (q : ℕ). entry_at vs' rows q) new-p ∙ new-e i (omega (arith, h.few)) ∙ self
 
     least : (p : ℕ) → checkpoints (lists p) ≤ checkpoints (added lists i stored p)
     least p = by_eq p i (λ e. rw e (omega (arith, stored_own lists i))) (λ ne. omega (arith, other_own lists i stored p ne))
 
-    state' : (r : ℕ) → r < rows → interval_of vs' process' r ≤ checkpoints (added lists i stored (get_or process' r 0))
-    state' r lr = omega (arith, old_i r lr, h.state r lr, least (get_or process r 0), ap (λ (q : ℕ). checkpoints (added lists i stored q)) (old-p r lr))
+    state' : (r : ℕ) → r < rows → interval_of vs' r ≤ checkpoints (added lists i stored (owner_at vs' r))
+    state' r lr = omega (arith, old_i r lr, h.state r lr, least (owner_at vs r), ap (λ (q : ℕ). checkpoints (added lists i stored q)) (old-p r lr))
 
-    pub represented_stored : Represents n (added lists i stored) vector' (suc rows) last vs' process' from to
+    pub represented_stored : Represents n (added lists i stored) vector' (suc rows) last vs' ms
     represented_stored = record {
       few = h.few;
-      room = len;
-      places = len';
-      sends = h.sends;
-      receipts = h.receipts;
       most_rows_lem = omega arith;
       most_messages = h.most_messages;
       owner = λ r lr. by_eq r rows (λ e. rw (e, new-p) li) (λ ne. let l : r < rows = omega arith in rw (old-p r l) (h.owner r l));
@@ -76,10 +73,10 @@ module _ (n : ℕ) (lists : Lists) (vector vector' : ℕ → ℕ → ℕ → ℕ
           (λ e. rw e (omega (arith, new_i, stored_own lists i, ap (λ (q : ℕ). checkpoints (added lists i stored q)) new-p)))
           (λ ne. state' r (omega arith));
       vector_is = λ r f lr lf. by_eq r rows
-          (λ e. rw e (new-e f lf ∙ ap (λ (q : ℕ). vector' i q f) (sym new_i) ∙ ap (λ (q : ℕ). vector' q (interval_of vs' process' rows) f) (sym new-p)))
+          (λ e. rw e (new-e f lf ∙ ap (λ (q : ℕ). vector' i q f) (sym new_i) ∙ ap (λ (q : ℕ). vector' q (interval_of vs' rows) f) (sym new-p)))
           (λ ne. let l : r < rows = omega arith in
-          old-e r f l lf ∙ h.vector_is r f l lf ∙ sym (old-v (get_or process r 0) (interval_of vs process r) f (h.state r l))
-          ∙ ap (λ (q : ℕ). vector' (get_or process r 0) q f) (sym (old_i r l)) ∙ ap (λ (q : ℕ). vector' q (interval_of vs' process' r) f) (sym (old-p r l)));
+          old-e r f l lf ∙ h.vector_is r f l lf ∙ sym (old-v (owner_at vs r) (interval_of vs r) f (h.state r l))
+          ∙ ap (λ (q : ℕ). vector' (owner_at vs r) q f) (sym (old_i r l)) ∙ ap (λ (q : ℕ). vector' q (interval_of vs' r) f) (sym (old-p r l)));
       there = λ p k lp pos le. by_eq k (suc (checkpoints (lists p)))
           (λ e. by_eq p i
           (λ d. (rows, omega arith, new-p ∙ sym d, new_i ∙ sym (e ∙ ap (λ (q : ℕ). suc (checkpoints (lists q))) d)))
@@ -91,31 +88,31 @@ module _ (n : ℕ) (lists : Lists) (vector vector' : ℕ → ℕ → ℕ → ℕ
           (w.0, omega (arith, w.1), old-p w.0 w.1 ∙ w.2, old_i w.0 w.1 ∙ w.3));
       ascends = λ r x lt lx e. by_eq x rows
           (λ d. let l : r < rows = omega arith in
-          let is_i : get_or process r 0 ≡ i = sym (old-p r l) ∙ e ∙ ap (λ (q : ℕ). get_or process' q 0) d ∙ new-p in
+          let is_i : owner_at vs r ≡ i = sym (old-p r l) ∙ e ∙ ap (λ (q : ℕ). owner_at vs' q) d ∙ new-p in
           rw d (omega (arith, new_i, old_i r l, h.state r l, ap (λ (q : ℕ). checkpoints (lists q)) is_i)))
           (λ ne. let lx' : x < rows = omega arith in let lr : r < rows = omega arith in
           omega (arith, old_i r lr, old_i x lx', h.ascends r x lt lx' (sym (old-p r lr) ∙ e ∙ old-p x lx')));
       from_row = λ m lm. omega (arith, h.from_row m lm);
       to_row = λ m lm. omega (arith, h.to_row m lm);
       sent_in_lem = λ m lm. let l = h.from_row m lm in
-          placed_to (added lists i stored) (sym (old_i (get_or from m 0) l)) (sym (old-p (get_or from m 0) l)) (keeps lists i stored (get_or process (get_or from m 0) 0) (h.sent_in_lem m lm));
+          placed_to (added lists i stored) (sym (old_i (from_at ms m) l)) (sym (old-p (from_at ms m) l)) (keeps lists i stored (owner_at vs (from_at ms m)) (h.sent_in_lem m lm));
       received_in = λ m lm ne. let l = received_row h m lm ne in
-          placed_to (added lists i stored) (sym (old_i (get_or to m 0 - 1) l)) (sym (old-p (get_or to m 0 - 1) l)) (keeps lists i stored (get_or process (get_or to m 0 - 1) 0) (h.received_in m lm ne));
+          placed_to (added lists i stored) (sym (old_i (to_at ms m - 1) l)) (sym (old-p (to_at ms m - 1) l)) (keeps lists i stored (owner_at vs (to_at ms m - 1)) (h.received_in m lm ne));
       all_sent = λ p g m s. either (cases lists i stored p s)
           (λ w. let y = h.all_sent p g m w in let l = h.from_row y.0 y.1 in
-          (y.0, y.1, y.2, old-p (get_or from y.0 0) l ∙ y.3, old_i (get_or from y.0 0) l ∙ y.4))
+          (y.0, y.1, y.2, old-p (from_at ms y.0) l ∙ y.3, old_i (from_at ms y.0) l ∙ y.4))
           (λ w. absurd (sent_stored m w.1));
       all_received = λ p g m s. either (cases lists i stored p s)
           (λ w. let y = h.all_received p g m w in let l = received_row h y.0 y.1 y.3 in
-          (y.0, y.1, y.2, y.3, old-p (get_or to y.0 0 - 1) l ∙ y.4, old_i (get_or to y.0 0 - 1) l ∙ y.5))
+          (y.0, y.1, y.2, y.3, old-p (to_at ms y.0 - 1) l ∙ y.4, old_i (to_at ms y.0 - 1) l ∙ y.5))
           (λ w. absurd (received_stored m w.1));
     }
 
   -- A send of i, from its live row.
-  module _ (i row : ℕ) (from' to' : List ℕ) (room : last < 4096) (len : 4096 ≤ length from') (len' : 4096 ≤ length to')
-      (lr : row < rows) (own_row : get_or process row 0 ≡ i) (live : interval_of vs process row ≡ checkpoints (lists i))
-      (old-f : (m : ℕ) → m < last → get_or from' m 0 ≡ get_or from m 0) (new-f : get_or from' last 0 ≡ row)
-      (old-t : (m : ℕ) → m < last → get_or to' m 0 ≡ get_or to m 0) (new-t : get_or to' last 0 ≡ 0) where
+  module _ (i row : ℕ) (ms' : List Sent) (room : last < 4096)
+      (lr : row < rows) (own_row : owner_at vs row ≡ i) (live : interval_of vs row ≡ checkpoints (lists i))
+      (old-f : (m : ℕ) → m < last → from_at ms' m ≡ from_at ms m) (new-f : from_at ms' last ≡ row)
+      (old-t : (m : ℕ) → m < last → to_at ms' m ≡ to_at ms m) (new-t : to_at ms' last ≡ 0) where
     e : HistoryEvent
     e = sent (suc last)
 
@@ -126,40 +123,36 @@ module _ (n : ℕ) (lists : Lists) (vector vector' : ℕ → ℕ → ℕ → ℕ
     sent_at : {g j p q : ℕ} {x : HistoryEvent} → g ≡ j → p ≡ q → StandsIn x g (lists p) → StandsIn x j (added lists i e q)
     sent_at {q = q} a b s = keeps lists i e q (placed_to lists a b s)
 
-    from_iv : (m : ℕ) → m < last → interval_of vs process (get_or from' m 0) ≡ interval_of vs process (get_or from m 0)
-    from_iv m lm = ap (λ (r : ℕ). interval_of vs process r) (old-f m lm)
+    from_iv : (m : ℕ) → m < last → interval_of vs (from_at ms' m) ≡ interval_of vs (from_at ms m)
+    from_iv m lm = ap (λ (r : ℕ). interval_of vs r) (old-f m lm)
 
-    from_own : (m : ℕ) → m < last → get_or process (get_or from' m 0) 0 ≡ get_or process (get_or from m 0) 0
-    from_own m lm = ap (λ (r : ℕ). get_or process r 0) (old-f m lm)
+    from_own : (m : ℕ) → m < last → owner_at vs (from_at ms' m) ≡ owner_at vs (from_at ms m)
+    from_own m lm = ap (λ (r : ℕ). owner_at vs r) (old-f m lm)
 
-    to_iv : (m : ℕ) → m < last → interval_of vs process (get_or to' m 0 - 1) ≡ interval_of vs process (get_or to m 0 - 1)
-    to_iv m lm = ap (λ (r : ℕ). interval_of vs process (r - 1)) (old-t m lm)
+    to_iv : (m : ℕ) → m < last → interval_of vs (to_at ms' m - 1) ≡ interval_of vs (to_at ms m - 1)
+    to_iv m lm = ap (λ (r : ℕ). interval_of vs (r - 1)) (old-t m lm)
 
-    to_own : (m : ℕ) → m < last → get_or process (get_or to' m 0 - 1) 0 ≡ get_or process (get_or to m 0 - 1) 0
-    to_own m lm = ap (λ (r : ℕ). get_or process (r - 1) 0) (old-t m lm)
+    to_own : (m : ℕ) → m < last → owner_at vs (to_at ms' m - 1) ≡ owner_at vs (to_at ms m - 1)
+    to_own m lm = ap (λ (r : ℕ). owner_at vs (r - 1)) (old-t m lm)
 
-    new_own : get_or process (get_or from' last 0) 0 ≡ i
-    new_own = ap (λ (r : ℕ). get_or process r 0) new-f ∙ own_row
+    new_own : owner_at vs (from_at ms' last) ≡ i
+    new_own = ap (λ (r : ℕ). owner_at vs r) new-f ∙ own_row
 
-    new_iv : interval_of vs process (get_or from' last 0) ≡ checkpoints (lists i)
-    new_iv = ap (λ (r : ℕ). interval_of vs process r) new-f ∙ live
+    new_iv : interval_of vs (from_at ms' last) ≡ checkpoints (lists i)
+    new_iv = ap (λ (r : ℕ). interval_of vs r) new-f ∙ live
 
-    new_sent : StandsIn (sent (suc last)) (interval_of vs process (get_or from' last 0)) (added lists i e (get_or process (get_or from' last 0) 0))
+    new_sent : StandsIn (sent (suc last)) (interval_of vs (from_at ms' last)) (added lists i e (owner_at vs (from_at ms' last)))
     unfolding e
     new_sent = placed_to (added lists i (sent (suc last))) (sym new_iv) (sym new_own) (ends lists i (sent (suc last)))
 
-    pub represented_sent : Represents n (added lists i (sent (suc last))) vector rows (suc last) vs process from' to'
+    pub represented_sent : Represents n (added lists i (sent (suc last))) vector rows (suc last) vs ms'
     unfolding e
     represented_sent = record {
       few = h.few;
-      room = h.room;
-      places = h.places;
-      sends = len;
-      receipts = len';
       most_rows_lem = h.most_rows_lem;
       most_messages = omega arith;
       owner = h.owner;
-      state = λ r l. omega (arith, h.state r l, own_is (get_or process r 0));
+      state = λ r l. omega (arith, h.state r l, own_is (owner_at vs r));
       vector_is = h.vector_is;
       there = λ p k lp pos le. h.there p k lp pos (omega (arith, own_is p));
       ascends = h.ascends;
@@ -169,7 +162,7 @@ module _ (n : ℕ) (lists : Lists) (vector vector' : ℕ → ℕ → ℕ → ℕ
           (λ d. rw d new_sent)
           (λ ne. let l : m < last = omega arith in sent_at (sym (from_iv m l)) (sym (from_own m l)) (h.sent_in_lem m l));
       received_in = λ m lm got. by_eq m last
-          (λ d. absurd (got (ap (λ (r : ℕ). get_or to' r 0) d ∙ new-t)))
+          (λ d. absurd (got (ap (λ (r : ℕ). to_at ms' r) d ∙ new-t)))
           (λ ne. let l : m < last = omega arith in sent_at (sym (to_iv m l)) (sym (to_own m l)) (h.received_in m l (λ z. got (old-t m l ∙ z))));
       all_sent = λ p g m s. either (cases lists i (sent (suc last)) p s)
           (λ w. let y = h.all_sent p g m w in (y.0, omega (arith, y.1), y.2, from_own y.0 y.1 ∙ y.3, from_iv y.0 y.1 ∙ y.4))
@@ -181,27 +174,31 @@ module _ (n : ℕ) (lists : Lists) (vector vector' : ℕ → ℕ → ℕ → ℕ
     }
 
   -- A delivery to b, in its live row, of the message in place y, which is not received yet.
-  module _ (b row y : ℕ) (vs' to' : List ℕ) (ly : y < last) (len : 65792 ≤ length vs') (len' : 4096 ≤ length to')
-      (lr : row < rows) (own_row : get_or process row 0 ≡ b) (live : interval_of vs process row ≡ checkpoints (lists b))
+  module _ (b row y : ℕ) (vs' : List State) (ms' : List Sent) (ly : y < last)
+      (lr : row < rows) (own_row : owner_at vs row ≡ b) (live : interval_of vs row ≡ checkpoints (lists b))
       (old-e : (r f : ℕ) → (r ≡ row → ⊥) → f < 16 → entry_at vs' r f ≡ entry_at vs r f)
       (new-e : (f : ℕ) → f < 16 → entry_at vs' row f ≡ vector' b (checkpoints (lists b)) f)
       (self : vector' b (checkpoints (lists b)) b ≡ checkpoints (lists b))
       (old-v : (p k f : ℕ) → (p ≡ b → k ≡ checkpoints (lists b) → ⊥) → vector' p k f ≡ vector p k f)
-      (old-t : (m : ℕ) → (m ≡ y → ⊥) → get_or to' m 0 ≡ get_or to m 0) (new-t : get_or to' y 0 ≡ suc row) (not_got : get_or to y 0 ≡ 0) where
+      (old-p : (r : ℕ) → owner_at vs' r ≡ owner_at vs r) (old-f : (m : ℕ) → from_at ms' m ≡ from_at ms m)
+      (old-t : (m : ℕ) → (m ≡ y → ⊥) → to_at ms' m ≡ to_at ms m) (new-t : to_at ms' y ≡ suc row) (not_got : to_at ms y ≡ 0) where
     b16 : b < 16
     b16 = omega (arith, own_row, h.owner row lr, h.few)
 
     own_got : (p : ℕ) → checkpoints (added lists b (received (suc y)) p) ≡ checkpoints (lists p)
     own_got p = received_own lists b (suc y) p
 
+    own_row' : owner_at vs' row ≡ b
+    own_row' = old-p row ∙ own_row
+
     -- The interval of every row stays.
-    same_i : (r : ℕ) → r < rows → interval_of vs' process r ≡ interval_of vs process r
+    same_i : (r : ℕ) → r < rows → interval_of vs' r ≡ interval_of vs r
     same_i r l = by_eq r row
-        (λ d. rw d (ap (λ (q : ℕ). entry_at vs' row q) own_row ∙ new-e b b16 ∙ self ∙ sym live))
-        (λ ne. old-e r (get_or process r 0) ne (omega (arith, h.owner r l, h.few)))
+        (λ d. rw d (ap (λ (q : ℕ). entry_at vs' row q) own_row' ∙ new-e b b16 ∙ self ∙ sym live))
+        (λ ne. ap (λ (q : ℕ). entry_at vs' r q) (old-p r) ∙ old-e r (owner_at vs r) ne (omega (arith, h.owner r l, h.few)))
 
     -- A row that is not the live row of b is another state.
-    another : (r : ℕ) → r < rows → (r ≡ row → ⊥) → get_or process r 0 ≡ b → interval_of vs process r ≡ checkpoints (lists b) → ⊥
+    another : (r : ℕ) → r < rows → (r ≡ row → ⊥) → owner_at vs r ≡ b → interval_of vs r ≡ checkpoints (lists b) → ⊥
     another r l ne d q = by_bool (ltb r row)
         (λ z. omega (arith, h.ascends r row (ltb-true r row z) lr (d ∙ sym own_row), live))
         (λ z. let gt : row < r = omega (arith, ltb-false r row z, ne) in omega (arith, h.ascends row r gt l (own_row ∙ sym d), live))
@@ -209,50 +206,54 @@ module _ (n : ℕ) (lists : Lists) (vector vector' : ℕ → ℕ → ℕ → ℕ
     got_at : {g j p q : ℕ} {x : HistoryEvent} → g ≡ j → p ≡ q → StandsIn x g (lists p) → StandsIn x j (added lists b (received (suc y)) q)
     got_at {q = q} a d s = keeps lists b (received (suc y)) q (placed_to lists a d s)
 
-    new_row : get_or to' y 0 - 1 ≡ row
+    -- The row of a send.
+    got_from_own : (m : ℕ) → owner_at vs' (from_at ms' m) ≡ owner_at vs (from_at ms m)
+    got_from_own m = ap (owner_at vs') (old-f m) ∙ old-p (from_at ms m)
+
+    got_from_iv : (m : ℕ) → m < last → interval_of vs' (from_at ms' m) ≡ interval_of vs (from_at ms m)
+    got_from_iv m lm = ap (interval_of vs') (old-f m) ∙ same_i (from_at ms m) (h.from_row m lm)
+
+    -- The row of a receipt.
+    new_row : to_at ms' y - 1 ≡ row
     new_row = omega (arith, new-t)
 
-    new_own_got : get_or process (get_or to' y 0 - 1) 0 ≡ b
-    new_own_got = ap (λ (r : ℕ). get_or process r 0) new_row ∙ own_row
+    new_own_got : owner_at vs' (to_at ms' y - 1) ≡ b
+    new_own_got = ap (owner_at vs') new_row ∙ own_row'
 
-    new_iv_got : interval_of vs' process (get_or to' y 0 - 1) ≡ checkpoints (lists b)
-    new_iv_got = ap (λ (r : ℕ). interval_of vs' process r) new_row ∙ same_i row lr ∙ live
+    new_iv_got : interval_of vs' (to_at ms' y - 1) ≡ checkpoints (lists b)
+    new_iv_got = ap (interval_of vs') new_row ∙ same_i row lr ∙ live
 
-    old_iv_got : (m : ℕ) → m < last → (m ≡ y → ⊥) → (get_or to m 0 ≡ 0 → ⊥) → interval_of vs' process (get_or to' m 0 - 1) ≡ interval_of vs process (get_or to m 0 - 1)
-    old_iv_got m lm ne got = ap (λ (r : ℕ). interval_of vs' process (r - 1)) (old-t m ne) ∙ same_i (get_or to m 0 - 1) (received_row h m lm got)
+    old_iv_got : (m : ℕ) → m < last → (m ≡ y → ⊥) → (to_at ms m ≡ 0 → ⊥) → interval_of vs' (to_at ms' m - 1) ≡ interval_of vs (to_at ms m - 1)
+    old_iv_got m lm ne got = ap (λ (r : ℕ). interval_of vs' (r - 1)) (old-t m ne) ∙ same_i (to_at ms m - 1) (received_row h m lm got)
 
-    old_own_got : (m : ℕ) → (m ≡ y → ⊥) → get_or process (get_or to' m 0 - 1) 0 ≡ get_or process (get_or to m 0 - 1) 0
-    old_own_got m ne = ap (λ (r : ℕ). get_or process (r - 1) 0) (old-t m ne)
+    old_own_got : (m : ℕ) → (m ≡ y → ⊥) → owner_at vs' (to_at ms' m - 1) ≡ owner_at vs (to_at ms m - 1)
+    old_own_got m ne = ap (λ (r : ℕ). owner_at vs' (r - 1)) (old-t m ne) ∙ old-p (to_at ms m - 1)
 
-    pub represented_received : Represents n (added lists b (received (suc y))) vector' rows last vs' process from to'
+    pub represented_received : Represents n (added lists b (received (suc y))) vector' rows last vs' ms'
     represented_received = record {
       few = h.few;
-      room = len;
-      places = h.places;
-      sends = h.sends;
-      receipts = len';
       most_rows_lem = h.most_rows_lem;
       most_messages = h.most_messages;
-      owner = h.owner;
-      state = λ r l. omega (arith, h.state r l, own_got (get_or process r 0), same_i r l);
+      owner = λ r l. omega (arith, old-p r, h.owner r l);
+      state = λ r l. omega (arith, h.state r l, own_got (owner_at vs r), same_i r l, ap (λ (q : ℕ). checkpoints (added lists b (received (suc y)) q)) (old-p r));
       vector_is = λ r f l lf. by_eq r row
-          (λ d. rw d (new-e f lf ∙ ap (λ (q : ℕ). vector' b q f) (sym (same_i row lr ∙ live)) ∙ ap (λ (q : ℕ). vector' q (interval_of vs' process row) f) (sym own_row)))
-          (λ ne. old-e r f ne lf ∙ h.vector_is r f l lf ∙ sym (old-v (get_or process r 0) (interval_of vs process r) f (another r l ne))
-          ∙ ap (λ (q : ℕ). vector' (get_or process r 0) q f) (sym (same_i r l)));
-      there = λ p k lp pos le. let w = h.there p k lp pos (omega (arith, own_got p)) in (w.0, w.1, w.2, same_i w.0 w.1 ∙ w.3);
-      ascends = λ r x lt lx d. omega (arith, h.ascends r x lt lx d, same_i r (omega arith), same_i x lx);
-      from_row = h.from_row;
+          (λ d. rw d (new-e f lf ∙ ap (λ (q : ℕ). vector' b q f) (sym (same_i row lr ∙ live)) ∙ ap (λ (q : ℕ). vector' q (interval_of vs' row) f) (sym own_row')))
+          (λ ne. old-e r f ne lf ∙ h.vector_is r f l lf ∙ sym (old-v (owner_at vs r) (interval_of vs r) f (another r l ne))
+          ∙ ap (λ (q : ℕ). vector' (owner_at vs r) q f) (sym (same_i r l)) ∙ ap (λ (q : ℕ). vector' q (interval_of vs' r) f) (sym (old-p r)));
+      there = λ p k lp pos le. let w = h.there p k lp pos (omega (arith, own_got p)) in (w.0, w.1, old-p w.0 ∙ w.2, same_i w.0 w.1 ∙ w.3);
+      ascends = λ r x lt lx d. omega (arith, h.ascends r x lt lx (sym (old-p r) ∙ d ∙ old-p x), same_i r (omega arith), same_i x lx);
+      from_row = λ m lm. omega (arith, old-f m, h.from_row m lm);
       to_row = λ m lm. by_eq m y (λ d. rw (d, new-t) (omega arith)) (λ ne. rw (old-t m ne) (h.to_row m lm));
-      sent_in_lem = λ m lm. got_at (sym (same_i (get_or from m 0) (h.from_row m lm))) refl (h.sent_in_lem m lm);
+      sent_in_lem = λ m lm. got_at (sym (got_from_iv m lm)) (sym (got_from_own m)) (h.sent_in_lem m lm);
       received_in = λ m lm got. by_eq m y
           (λ d. rw d (placed_to (added lists b (received (suc y))) (sym new_iv_got) (sym new_own_got) (ends lists b (received (suc y)))))
-          (λ ne. let before : get_or to m 0 ≡ 0 → ⊥ = λ z. got (old-t m ne ∙ z) in got_at (sym (old_iv_got m lm ne before)) (sym (old_own_got m ne)) (h.received_in m lm before));
+          (λ ne. let before : to_at ms m ≡ 0 → ⊥ = λ z. got (old-t m ne ∙ z) in got_at (sym (old_iv_got m lm ne before)) (sym (old_own_got m ne)) (h.received_in m lm before));
       all_sent = λ p g m s. either (cases lists b (received (suc y)) p s)
-          (λ w. let z = h.all_sent p g m w in (z.0, z.1, z.2, z.3, same_i (get_or from z.0 0) (h.from_row z.0 z.1) ∙ z.4))
+          (λ w. let z = h.all_sent p g m w in (z.0, z.1, z.2, got_from_own z.0 ∙ z.3, got_from_iv z.0 z.1 ∙ z.4))
           (λ w. absurd (sent_received m (suc y) w.1));
       all_received = λ p g m s. either (cases lists b (received (suc y)) p s)
           (λ w. let z = h.all_received p g m w in
-          let ne : z.0 ≡ y → ⊥ = λ d. z.3 (ap (λ (q : ℕ). get_or to q 0) d ∙ not_got) in
+          let ne : z.0 ≡ y → ⊥ = λ d. z.3 (ap (λ (q : ℕ). to_at ms q) d ∙ not_got) in
           (z.0, z.1, z.2, (λ q. z.3 (sym (old-t z.0 ne) ∙ q)), old_own_got z.0 ne ∙ z.4, old_iv_got z.0 z.1 ne z.3 ∙ z.5))
           (λ w. (y, ly, same_received m (suc y) w.1, (λ q. absurd (omega (arith, new-t, q))), new_own_got ∙ sym w.0, new_iv_got ∙ sym w.2));
     }

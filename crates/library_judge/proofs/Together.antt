@@ -1,7 +1,7 @@
 -- Records one after the other: the reading of a whole trace, and its verdict.
 -- Assumes nothing.
-use Rattle.std.specs.Prelude.{◌≡◌, ◌∷◌, ◌⊎◌, ◌+◌, ◌-◌, ◌*◌, ◌/◌, ◌≤◌, ◌<◌}
-use Rattle.laws.specs.Basics.{refl, sym, ◌∙◌, ap, true, false, List, [], Option, none, some, inl, inr, ℕ, arith, length, get_or, take, drop, length-drop, get_or-replicate, eq-eqb, lt-ltb, le-ltb, le-leb, lt-leb, leb-true, leb-false}
+use Rattle.std.specs.Prelude.{◌≡◌, ◌∷◌, ◌⊎◌, ◌+◌, ◌*◌, ◌/◌, ◌≤◌, ◌<◌, Ok, Err}
+use Rattle.laws.specs.Basics.{refl, sym, ◌∙◌, ap, true, List, [], Option, None, Some, inl, inr, ℕ, arith, length, get_or, take, drop, length-drop, get_or-replicate, eq-eqb, lt-ltb, le-ltb, le-leb, lt-leb}
 use native.Mathlib.Numerals.{add-one}
 use lib.Seq.{drop-drop}
 use Rattle.model.specs.declared.{Event.Event, Refusal.Refusal}
@@ -10,35 +10,15 @@ use Rattle.histories.specs.History.{Lists}
 use Rattle.model.specs.{Words.ones, Sound.is_block_count_of, Refusals.first_of, Refusals.start_refusal, Trace.decoded}
 use Rattle.model.proofs.simulation.Accepted.{start_in}
 use Rattle.whole_runs.specs.Outcomes.{judged}
-use Rattle.trace.specs.declared.{Decoded.Decoded, Decoded.TheVariants.Malformed, Decoded.TheVariants.StandsFor}
-use Rattle.trace.specs.{Answers.record_at, Answers.event_in, Answers.event_read, reader.Reading.record_after_of, reader.Reading.record_left_of}
-use Rattle.theory_patterns.specs.declared.{Verdict.Verdict, Verdict.TheVariants.Refused, Verdict.TheVariants.Trackable, Verdict.TheVariants.Breaks}
+use Rattle.trace.specs.{Answers.record_at, Answers.event_in, reader.Reading.record_after_of}
+use Rattle.theory_patterns.specs.declared.BreakingPair.{BreakingPair}
 use Rattle.theory_patterns.specs.Patterns.{Pattern, empty, record_refusal, taken, refused, whole, read_from, reading}
 use Rattle.theory_patterns.specs.Verdicts.{count_of, verdict_on, verdict, RightVerdict}
-use Rattle.theory_patterns.proofs.{Right.is_verdict, Facts.begin, Trail.Trail, Trail.Right}
-use Rattle.library_judge.specs.decision.Represents.{Represents, Judges, Says}
-use Rattle.library_judge.specs.{declared.reading.Progress.Progress, declared.reading.Step.Step, Readings.refused_step, Readings.taken_step}
-use Rattle.library_judge.specs.Kept.{Tables, Kept, AfterRecord, Reads, Reached, ReadsTo, ReadsAll}
-use Rattle.admissions.specs.declared.Admission.TheVariants as answers
-
--- The event that a match has found is the event of the record.
-module _ (n : ℕ) (s : Progress) (T : Tables) (r : Step) (T' : Tables) where
-  pub by_event : (e x : Event) → e ≡ x → Reads n s T (some x) r T' → Reads n s T (some e) r T'
-  by_event e x c h = rw c h
-
-  pub by_malformed : (d : Decoded) (part : List ℕ) → d ≡ Malformed → event_read d ≡ event_in part → Reads n s T none r T' → Reads n s T (event_in part) r T'
-  unfolding event_read
-  by_malformed d part c e h = rw (sym e, c) h
-
-  pub by_decoded : (d : Decoded) (x : Event) (part : List ℕ) → d ≡ StandsFor x → event_read d ≡ event_in part → Reads n s T (some x) r T' → Reads n s T (event_in part) r T'
-  unfolding event_read
-  by_decoded d x part c e h = rw (sym e, c) h
-
--- The first byte.
-pub first_byte : (l : List ℕ) → 1 ≤ length l → get_or l 0 0 ≡ count_of l
-unfolding count_of
-first_byte [] h = absurd (omega arith)
-first_byte (a ∷ l) h = refl
+use Rattle.theory_patterns.proofs.{Right.is_verdict, Facts.begin}
+use Rattle.library_judge.specs.decision.Represents.{Holds, Judges, Says}
+use Rattle.library_judge.specs.declared.reading.Reading.{Reading}
+use Rattle.library_judge.specs.Kept.{Kept, AfterRecord, Reads, Reached, ReadsAll, Counts}
+use Rattle.library_judge.proofs.{Trails.fronts}
 
 -- A record that is left, in the bytes that are.
 four : (l : List ℕ) (n : ℕ) (t : Pattern) → 4 ≤ length l
@@ -71,44 +51,40 @@ unfolding read_from
 nothing_over [] n t h = refl
 nothing_over (a ∷ l) n t h = absurd (omega arith)
 
-module _ (n : ℕ) (trace : List ℕ) (read : ℕ) (left : record_left_of trace read ≡ true) where
-  pub left_long : 1 + 4 * read + 4 ≤ length trace
-  unfolding record_left_of
-  left_long = leb-true (1 + 4 * read + 4) (length trace) left
-
+module _ (n : ℕ) (trace : List ℕ) (read : ℕ) (left : 1 + 4 * read + 4 ≤ length trace) where
   abbrev rest : List ℕ
   rest = drop (1 + 4 * read) trace
 
   rest_long : 4 ≤ length rest
-  rest_long = omega (arith, left_long, length-drop (1 + 4 * read) trace)
+  rest_long = omega (arith, left, length-drop (1 + 4 * read) trace)
 
   part_is : event_in (record_after_of trace read) ≡ decoded (take 4 rest)
-  unfolding record_after_of record_at record_left_of event_in
-  part_is = rw (left, eq-eqb (length (take 4 rest)) 4 (four_long rest rest_long))
+  unfolding record_after_of record_at event_in
+  part_is = rw (le-leb (1 + 4 * read + 4) (length trace) left, eq-eqb (length (take 4 rest)) 4 (four_long rest rest_long))
 
   rest_then : drop 4 rest ≡ drop (1 + 4 * (read + 1)) trace
   rest_then = drop-drop 4 (1 + 4 * read) trace ∙ ap (λ (k : ℕ). drop k trace) (let e : 1 + 4 * read + 4 ≡ 1 + 4 * (read + 1) = omega arith in e)
 
   -- The next record, by what the reading of it left.
-  pub next_refused : (s : Progress) (T : Tables) (w : Reached n trace read s T) (few : read < 4096) (r : Step) (T' : Tables) (part : List ℕ) → part ≡ record_after_of trace read → Reads n s T (event_in part) r T'
-      → (why : Refusal) → r.answer ≡ answers.Refused why → read_from n empty (drop 1 trace) ≡ refused why
+  pub next_refused : (R : Reading) (w : Reached n trace read R) (few : read < 4096) (R' : Reading) (part : List ℕ) → part ≡ record_after_of trace read
+      → (why : Refusal) → Reads n R (event_in part) (Err why) R' → read_from n empty (drop 1 trace) ≡ refused why
   unfolding Reads AfterRecord
-  next_refused s T w few r T' part is reads why e =
-      let h = rw e at (reads read w.pattern w.trail few w.kept) in
-      let why-there : record_refusal n w.pattern (decoded (take 4 rest)) ≡ some why = ap (record_refusal n w.pattern) (sym (ap event_in is ∙ part_is)) ∙ h in
+  next_refused R w few R' part is why reads =
+      let h = reads read w.pattern w.trail few w.kept in
+      let why-there : record_refusal n w.pattern (decoded (take 4 rest)) ≡ Some why = ap (record_refusal n w.pattern) (sym (ap event_in is ∙ part_is)) ∙ h in
       w.rest ∙ four rest n w.pattern rest_long ∙ ap (λ (o : Option Refusal). judged o refused (read_from n (taken w.pattern (decoded (take 4 rest))) (drop 4 rest))) why-there
 
-  pub next_taken : (s : Progress) (T : Tables) (w : Reached n trace read s T) (few : read < 4096) (r : Step) (T' : Tables) (part : List ℕ) → part ≡ record_after_of trace read → Reads n s T (event_in part) r T'
-      → r.answer ≡ answers.Accepted → Reached n trace (read + 1) r.next T'
+  pub next_taken : (R : Reading) (w : Reached n trace read R) (few : read < 4096) (R' : Reading) (part : List ℕ) → part ≡ record_after_of trace read
+      → (u : Unit {0}) → Reads n R (event_in part) (Ok u) R' → Reached n trace (read + 1) R'
   unfolding Reads AfterRecord
-  next_taken s T w few r T' part is reads e =
-      let h = rw e at (reads read w.pattern w.trail few w.kept) in
-      let free : record_refusal n w.pattern (decoded (take 4 rest)) ≡ none = ap (record_refusal n w.pattern) (sym (ap event_in is ∙ part_is)) ∙ h.0 in
+  next_taken R w few R' part is u reads =
+      let h = reads read w.pattern w.trail few w.kept in
+      let free : record_refusal n w.pattern (decoded (take 4 rest)) ≡ None = ap (record_refusal n w.pattern) (sym (ap event_in is ∙ part_is)) ∙ h.0 in
       record {
         pattern = taken w.pattern (event_in part);
         trail = h.1.0;
         kept = rw add-one h.1.1;
-        inside = omega (arith, left_long);
+        inside = omega (arith, left);
         rest = w.rest ∙ four rest n w.pattern rest_long
             ∙ ap (λ (o : Option Refusal). judged o refused (read_from n (taken w.pattern (decoded (take 4 rest))) (drop 4 rest))) free
             ∙ ap (λ (x : Option Event). read_from n (taken w.pattern x) (drop 4 rest)) (sym (ap event_in is ∙ part_is))
@@ -116,107 +92,74 @@ module _ (n : ℕ) (trace : List ℕ) (read : ℕ) (left : record_left_of trace 
       }
 
 -- No record is left.
-module _ (n : ℕ) (trace : List ℕ) (read : ℕ) (left : record_left_of trace read ≡ false) (s : Progress) (T : Tables) (w : Reached n trace read s T) where
-  short : length trace < 1 + 4 * read + 4
-  unfolding record_left_of
-  short = leb-false (1 + 4 * read + 4) (length trace) left
-
-  pub end_refused : 1 + 4 * read < length trace → read_from n empty (drop 1 trace) ≡ refused LeftOverBytes
-  end_refused more = w.rest ∙ over (drop (1 + 4 * read) trace) n w.pattern (omega (arith, short, length-drop (1 + 4 * read) trace)) (omega (arith, more, length-drop (1 + 4 * read) trace))
+module _ (n : ℕ) (trace : List ℕ) (read : ℕ) (R : Reading) (w : Reached n trace read R) where
+  pub end_refused : 1 + 4 * read < length trace → length trace < 1 + 4 * read + 4 → read_from n empty (drop 1 trace) ≡ refused LeftOverBytes
+  end_refused more short = w.rest ∙ over (drop (1 + 4 * read) trace) n w.pattern (omega (arith, short, length-drop (1 + 4 * read) trace)) (omega (arith, more, length-drop (1 + 4 * read) trace))
 
   pub end_whole : length trace ≤ 1 + 4 * read → read_from n empty (drop 1 trace) ≡ whole w.pattern
-  end_whole None-more = w.rest ∙ nothing_over (drop (1 + 4 * read) trace) n w.pattern (omega (arith, None-more, length-drop (1 + 4 * read) trace))
+  end_whole no_more = w.rest ∙ nothing_over (drop (1 + 4 * read) trace) n w.pattern (omega (arith, no_more, length-drop (1 + 4 * read) trace))
 
 -- Before the first record.
-pub begins : (n : ℕ) (trace : List ℕ) (s : Progress) (T : Tables) → 1 ≤ length trace → Kept n 0 empty begin s T → Reached n trace 0 s T
-begins n trace s T h k = record { pattern = empty; trail = begin; kept = k; inside = omega arith; rest = refl }
+pub begins : (n : ℕ) (trace : List ℕ) (R : Reading) → 1 ≤ length trace → Kept n 0 empty begin R → Reached n trace 0 R
+begins n trace R h k = record { pattern = empty; trail = begin; kept = k; inside = omega arith; rest = refl }
 
--- What `read_all` answers.
-module _ (n : ℕ) (trace : List ℕ) (r : Step) (T : Tables) where
-  pub refused_to : (why : Refusal) (s : Progress) → r ≡ refused_step why s → read_from n empty (drop 1 trace) ≡ refused why → ReadsAll n trace r T
-  unfolding ReadsTo refused_step
-  refused_to why s a b = rw a b
-
-  pub taken_to : (s : Progress) → r ≡ taken_step s → (read : ℕ) (w : Reached n trace read s T) → read_from n empty (drop 1 trace) ≡ whole w.pattern → ReadsAll n trace r T
-  unfolding ReadsTo taken_step
-  taken_to s a read w b = rw a (read, w.pattern, w.trail, w.kept, b)
-
-  pub answered_to : (why : Refusal) → r.answer ≡ answers.Refused why → read_from n empty (drop 1 trace) ≡ refused why → ReadsAll n trace r T
-  unfolding ReadsTo
-  answered_to why e b = rw e b
-
-  pub all_refused : (why : Refusal) → ReadsAll n trace r T → r.answer ≡ answers.Refused why → read_from n empty (drop 1 trace) ≡ refused why
-  unfolding ReadsTo
-  all_refused why h e = rw e at h
-
-  pub all_taken : ReadsAll n trace r T → r.answer ≡ answers.Accepted → (read : ℕ) × (t : Pattern) × (tr : Trail) × Kept n read t tr r.next T × (read_from n empty (drop 1 trace) ≡ whole t)
-  unfolding ReadsTo
-  all_taken h e = rw e at h
-
--- A trace of at most 4,096 records has at most 16,388 bytes.
-pub short_enough : (size : ℕ) → 1 ≤ size → (size - 1) / 4 ≤ 4096 → size ≤ 16388
-short_enough size b h = omega arith
-
--- The same where the count is known by another name.
-pub all_refused_by : (trace : List ℕ) (n : ℕ) → n ≡ count_of trace → (r : Step) (T : Tables) (why : Refusal) → ReadsAll n trace r T → r.answer ≡ answers.Refused why
-    → read_from (count_of trace) empty (drop 1 trace) ≡ refused why
-all_refused_by trace n c r T why h e = rw c at (all_refused n trace r T why h e)
-
-judges_says : (n rows last : ℕ) (vectors process from to : List ℕ) (v : Verdict) → Judges n rows last vectors process from to v → (tr : Trail) → Right tr
-    → Represents n tr.lists tr.vector rows last vectors process from to → Says n tr.lists v
-unfolding Judges
-judges_says n rows last vectors process from to v h = h
-
--- The verdicts on a trace, in the order of the refusals.
-pub no_byte : (trace : List ℕ) → length trace ≡ 0 → Refused NoFirstByte ≡ verdict trace
-unfolding verdict verdict_on reading
-no_byte [] h = refl
-no_byte (a ∷ l) h = absurd (omega arith)
-
-pub bad_count : (trace : List ℕ) → 1 ≤ length trace → (count_of trace < 1) ⊎ (16 < count_of trace) → Refused CountOutsideRange ≡ verdict trace
-unfolding verdict verdict_on reading count_of start_refusal first_of
-bad_count [] h c = absurd (omega arith)
-bad_count (a ∷ l) h (inl low) = rw (lt-leb 1 a low)
-bad_count (a ∷ l) h (inr high) = rw (le-leb 1 a (omega arith), lt-leb a 16 high)
-
-count_good : (a : ℕ) → 1 ≤ a → a ≤ 16 → start_refusal a ones ≡ none
+-- What is judged before any record.
+count_good : (a : ℕ) → 1 ≤ a → a ≤ 16 → start_refusal a ones ≡ None
 count_good a h g = start_in a ones h g (λ p lp. one_fits_lem (get_or ones p 0) (get_or-replicate 16 p 1 0 (omega arith)))
   where
     one_fits_lem : (k : ℕ) → k ≡ 1 → is_block_count_of k ≡ true
     one_fits_lem k e = unfold is_block_count_of in rw e
 
-one_less : (a : ℕ) (l : List ℕ) → length (a ∷ l) - 1 ≡ length l
-one_less a l = omega arith
+pub counts_none : (trace : List ℕ) → length trace ≡ 0 → Counts trace (Err NoFirstByte)
+unfolding Counts reading
+counts_none [] h = refl
+counts_none (a ∷ l) h = absurd (omega arith)
 
-pub too_many : (trace : List ℕ) → 1 ≤ length trace → 1 ≤ count_of trace → count_of trace ≤ 16 → 4096 < (length trace - 1) / 4 → Refused TooManyRecords ≡ verdict trace
-unfolding verdict verdict_on reading count_of
-too_many [] h = absurd (omega arith)
-too_many (a ∷ l) h = λ low high many. rw (count_good a low high, lt-ltb 4096 (length l / 4) (rw (one_less a l) at many))
+pub counts_bad : (a : ℕ) (l : List ℕ) → (a < 1) ⊎ (16 < a) → Counts (a ∷ l) (Err CountOutsideRange)
+unfolding Counts reading start_refusal first_of
+counts_bad a l (inl low) = rw (lt-leb 1 a low)
+counts_bad a l (inr high) = rw (le-leb 1 a (omega arith), lt-leb a 16 high)
 
-read_on : (trace : List ℕ) → 1 ≤ length trace → 1 ≤ count_of trace → count_of trace ≤ 16 → (length trace - 1) / 4 ≤ 4096 → reading trace ≡ read_from (count_of trace) empty (drop 1 trace)
-unfolding reading count_of
-read_on [] h = absurd (omega arith)
-read_on (a ∷ l) h = λ low high few. rw (count_good a low high, le-ltb 4096 (length l / 4) (rw (one_less a l) at few))
+pub counts_many : (a : ℕ) (l : List ℕ) → 1 ≤ a → a ≤ 16 → 4096 < length l / 4 → Counts (a ∷ l) (Err TooManyRecords)
+unfolding Counts reading
+counts_many a l low high many = rw (count_good a low high, lt-ltb 4096 (length l / 4) many)
 
-module _ (trace : List ℕ) (some_byte : 1 ≤ length trace) (low : 1 ≤ count_of trace) (high : count_of trace ≤ 16) (few : (length trace - 1) / 4 ≤ 4096) where
-  pub right_refused : (why : Refusal) → read_from (count_of trace) empty (drop 1 trace) ≡ refused why → Refused why ≡ verdict trace
-  unfolding verdict verdict_on
-  right_refused why e = ap (verdict_on (count_of trace)) (sym (read_on trace some_byte low high few ∙ e))
+pub counts_good : (a : ℕ) (l : List ℕ) → 1 ≤ a → a ≤ 16 → length l / 4 ≤ 4096 → Counts (a ∷ l) (Ok a)
+unfolding Counts reading count_of
+counts_good a l low high few = (refl, omega arith, high, omega arith, rw (count_good a low high, le-ltb 4096 (length l / 4) few))
 
-  right_whole : (t : Pattern) (lists : Lists) (v : Verdict) → read_from (count_of trace) empty (drop 1 trace) ≡ whole t → t.lists ≡ lists → Says (count_of trace) lists v → RightVerdict trace v
+-- The verdicts on a trace, in the order of the refusals.
+pub verdict_early : (trace : List ℕ) (why : Refusal) → Counts trace (Err why) → Err why ≡ verdict trace
+unfolding Counts verdict verdict_on
+verdict_early trace why e = ap (verdict_on (count_of trace)) (sym e)
+
+module _ (trace : List ℕ) (n : ℕ) (counted : Counts trace (Ok n)) where
+  pub counted_is : (n ≡ count_of trace) × (1 ≤ length trace) × (n ≤ 16) × (length trace ≤ 4 * 4096 + 4) × (reading trace ≡ read_from n empty (drop 1 trace))
+  unfolding Counts
+  counted_is = counted
+
+  pub verdict_refused : (why : Refusal) (R : Reading) → ReadsAll n trace (Err why) R → Err why ≡ verdict trace
+  unfolding ReadsAll verdict verdict_on
+  verdict_refused why R e = ap (verdict_on (count_of trace)) (sym (counted_is.4 ∙ e))
+
+  right_whole : (t : Pattern) (lists : Lists) (v : Option BreakingPair) → read_from n empty (drop 1 trace) ≡ whole t → t.lists ≡ lists → Says n lists v → RightVerdict trace (Ok v)
   unfolding RightVerdict Says
-  right_whole t lists (Refused why) e c h = absurd h
-  right_whole t lists Trackable e c h = (t, read_on trace some_byte low high few ∙ e, rw c h)
-  right_whole t lists (Breaks a α b β) e c h = (t, read_on trace some_byte low high few ∙ e, rw c h)
+  right_whole t lists None e c h = (t, counted_is.4 ∙ e, rw (← counted_is.0, c) h)
+  right_whole t lists (Some w) e c h = (t, counted_is.4 ∙ e, rw (← counted_is.0, c) h)
 
-says_moved : (n k : ℕ) (lists : Lists) (v : Verdict) → n ≡ k → Says n lists v → Says k lists v
-says_moved n k lists v c h = rw c at h
+  pub verdict_taken : (u : Unit {0}) (R : Reading) → ReadsAll n trace (Ok u) R → (v : Option BreakingPair) → Judges n (take R.rows R.states) (take R.last R.messages) v → Ok v ≡ verdict trace
+  unfolding ReadsAll Judges
+  verdict_taken u R (read, t, tr, k, whole-there) v j =
+      let here = fronts n tr.lists tr.vector R.rows R.last R.states R.messages k.represented (omega (arith, k.room, k.represented.most_rows_lem)) (omega (arith, k.sent_room, k.represented.most_messages)) in
+      is_verdict trace (Ok v) (right_whole t tr.lists v whole-there k.lists (j tr k.right here))
 
-pub right_taken : (trace : List ℕ) (n : ℕ) → n ≡ count_of trace → 1 ≤ length trace → 1 ≤ count_of trace → count_of trace ≤ 16 → (length trace - 1) / 4 ≤ 4096
-    → (r : Step) (T : Tables) (v : Verdict) → ReadsAll n trace r T → r.answer ≡ answers.Accepted
-    → Judges n r.next.rows r.next.last T.vectors T.process T.from T.to v → v ≡ verdict trace
-right_taken trace n c some_byte low high few r T v h e j =
-    let w = all_taken n trace r T h e in
-    is_verdict trace v
-    (right_whole trace some_byte low high few w.1 w.2.lists v (ap (λ (k : ℕ). read_from k empty (drop 1 trace)) (sym c) ∙ w.4) w.3.lists
-    (says_moved n (count_of trace) w.2.lists v c (judges_says n r.next.rows r.next.last T.vectors T.process T.from T.to v j w.2 w.3.right w.3.represented)))
+-- What is read fits its tables, and holds a trail.
+module _ (n : ℕ) (trace : List ℕ) (u : Unit {0}) (R : Reading) (all : ReadsAll n trace (Ok u) R) where
+  pub in_tables : (R.rows ≤ 4112) × (R.last ≤ 4096)
+  unfolding ReadsAll
+  in_tables = let k = all.3 in (k.represented.most_rows_lem, k.represented.most_messages)
+
+  pub held : Holds n (take R.rows R.states) (take R.last R.messages)
+  unfolding ReadsAll
+  held = let k = all.3 in let tr = all.2 in
+      (tr, k.right, fronts n tr.lists tr.vector R.rows R.last R.states R.messages k.represented (omega (arith, k.room, k.represented.most_rows_lem)) (omega (arith, k.sent_room, k.represented.most_messages)))

@@ -1,8 +1,5 @@
-// Note 7 of document 02: the verdict on a trace that is read to its end, from the tables that the reading left: a row of `vectors` and of `process` for each state
-// that ends an interval, and of each message the row of its send and, once received, the row of its receipt and 1.
-
-// flat.rt: rows of 16 in a flat table
-pub mod flat;
+// Note 7 of document 02: the verdict on a trace that is read to its end, from what the reading left: a state for each interval that ended or is live, and the messages
+// with the rows of their sends and receipts.
 
 // crossing.rt: the near end
 pub mod crossing;
@@ -15,40 +12,19 @@ pub mod far;
 
 ghost use Rattle.library_judge.specs.decision.Represents.{Holds, Judges};
 
-use model::{CheckpointIndex, PROCESSES};
-use theory_patterns::Verdict;
+use crate::pattern::{Sent, State};
+use model::PROCESSES;
+use theory_patterns::BreakingPair;
 
-// No row of a process was reached: no row has this number.
-pub const NO_ROW: u16 = 65535;
-
-// No message crosses: trackable. Else the near end, and what its closure reaches first without knowing it.
-pub fn decide(
-    vectors: &[u16],
-    process: &[u16],
-    from: &[u16],
-    to: &[u16],
-    rows: usize,
-    last: usize,
-    n: usize,
-) -> Verdict
-    requires { Holds n rows last vectors.now process.now from.now to.now }
-    ensures { Judges n rows last vectors.now process.now from.now to.now result }
+// No message crosses: no pair breaks. Else the near end, and what its closure reaches first without knowing it.
+pub fn decide(states: &[State], messages: &[Sent], n: usize) -> Option<BreakingPair>
+    requires { Holds n states.now messages.now }
+    ensures { Judges n states.now messages.now result }
 {
-    let near = crossing::near_end(vectors, from, to, last, n);
-    if !near.found {
-        return Verdict::Trackable;
-    }
-    let p = near.process;
-    let k = near.index;
-    let first = reach::first_row(vectors, process, rows, p, k);
-    let mut start = [NO_ROW; PROCESSES];
-    start[p] = first as u16;
-    let all = reach::closure(start, process, from, to, last);
-    let far = far::far_end(vectors, all, n, p, k);
-    Verdict::Breaks(
-        p,
-        CheckpointIndex(k),
-        far.process,
-        CheckpointIndex(far.index),
-    )
+    let near = crossing::near_end(states, messages, n)?;
+    let mut start = [None; PROCESSES];
+    start[near.process] = reach::first_row(states, near);
+    let reach = reach::closure(start, states, messages);
+    let far = far::far_end(states, &reach, n, near)?;
+    Some(BreakingPair { near, far })
 }

@@ -1,368 +1,195 @@
-// The reading of a trace, record by record, into tables. `vectors` and `process` have a row for each state that ends an interval or is live: its dependency vector and
-// its process. Message m has place m - 1 in the others: `carried` has the vector that it carries, `passing` its receiver and 1 while it is under way, else 0, `from`
-// the row of its send, and `to` the row of its receipt and 1, or 0.
-ghost use Rattle.std.specs.Prelude.{◌≡◌, ◌+◌, ◌*◌, ◌≤◌, ◌<◌};
-ghost use Rattle.laws.specs.Basics.{some, length};
+// The reading of a trace, record by record: the states and the messages of its pattern. A state is added for each process at the start and for each checkpoint, and is
+// live until the next one of its process.
+ghost use Rattle.std.specs.Prelude.{◌≡◌, ◌+◌, ◌*◌, ◌≤◌, ◌<◌, IfSome};
+ghost use Rattle.laws.specs.Basics.{Some, length};
 ghost use Rattle.theory_patterns.specs.Patterns.{most_judged};
-ghost use Rattle.model.specs.Words.{most_processes, most_under_way};
-ghost use Rattle.library_judge.specs.decision.Rows.{row_of, most_rows, table_size};
+ghost use Rattle.model.specs.Words.{most_processes};
+ghost use Rattle.library_judge.specs.decision.Rows.{most_rows};
 ghost use Rattle.trace.specs.Answers.{event_in};
-ghost use Rattle.library_judge.specs.Kept.{tables, Sized, Ready, Reads, ReadsAll};
-ghost use Rattle.library_judge.specs.Readings.{refused_step, taken_step, with_row, EnoughRoom, checkpoint_step, checkpoint_vectors, checkpoint_process, with_message_of, SendRoom, sent_carried, send_step, send_carried, send_passing, send_from, send_to, found_in_of, without_one_of, drop_step, drop_passing, receipt_vectors, DeliverRoom, deliver_vectors, deliver_to, FirstRows};
+ghost use Rattle.library_judge.specs.Kept.{Ready, Reads, ReadsAll};
+ghost use Rattle.library_judge.specs.Readings.{answer_by, read_by, with_state, settled, checkpoint_refusal, with_checkpoint, EnoughRoom, send_refusal, with_message, SendRoom, found_in_of, drop_refusal, lost_of, received_of, DeliverRoom, FirstRows};
 
-use admissions::Admission;
-use model::{Event, PROCESSES, Refusal};
-use trace::Decoded;
+use crate::pattern::{Fate, Sent, State};
+use model::{Event, Interval, PROCESSES, Refusal};
+use theory_patterns::MOST_JUDGED;
 
-// How far the reading is.
-#[derive(Clone, Copy)]
-pub struct Progress {
-    // how many rows are used
+// A row for each process and one for each record.
+pub const ROWS: usize = MOST_JUDGED + PROCESSES;
+
+// What is read so far. Memory is fixed: lists have as much room as the longest trace needs, and say how much of it is used.
+#[derive(Drop)]
+pub struct Reading {
+    // the states, of which so many are used
+    pub states: [State; ROWS],
     pub rows: usize,
     // the row of each process's live state
     pub current: [u16; PROCESSES],
-    // how many messages are under way
-    pub underway: usize,
-    // how many messages were sent
+    // the messages, of which so many were sent
+    pub messages: [Sent; MOST_JUDGED],
     pub last: usize,
+    // how many are under way
+    pub underway: usize,
 }
 
-// What a record comes to: whether it is refused, and why; and how far the reading is then.
-#[derive(Clone, Copy)]
-pub struct Step {
-    pub answer: Admission,
-    pub next: Progress,
-}
-
-// A message that a record names: whether it is under way, and if so its place and its receiver.
+// A message under way that a record names: its place and its receiver.
 #[derive(Clone, Copy)]
 pub struct Found {
-    pub found: bool,
     pub place: usize,
-    pub receiver: usize,
+    pub receiver: u16,
 }
 
-fn refuse(why: Refusal, s: Progress) -> Step
-    ensures { result ≡ refused_step why s }
-{
-    let answer = Admission::Refused(why);
-    Step { answer, next: s }
-}
-
-fn take(s: Progress) -> Step
-    ensures { result ≡ taken_step s }
-{
-    let answer = Admission::Accepted;
-    Step { answer, next: s }
-}
-
-// Process i has a new live row.
-fn with_row(s: Progress, i: usize) -> Progress
-    requires { (i < most_processes) × (s.rows < most_rows) }
-    ensures { result ≡ with_row s i }
-{
-    let mut current = s.current;
-    let next = s.rows;
-    current[i] = next as u16;
-    Progress {
-        current,
-        rows: next + 1,
-        ..s
+impl Reading {
+    // Process i has a new live state.
+    #[tactic(auto, unfolding(crate::specs::Readings::with_state))]
+    fn add_state(&mut self, i: usize, vector: [Interval; PROCESSES])
+        requires { (i < most_processes) × (self.old.rows < most_rows) }
+        ensures { self.new ≡ with_state self.old i vector }
+    {
+        let row = self.rows;
+        self.states[row] = State {
+            process: i as u16,
+            vector,
+        };
+        self.rows = row + 1;
+        self.current[i] = row as u16;
     }
-}
 
-fn read_checkpoint(
-    vectors: &mut [u16],
-    process: &mut [u16],
-    s: Progress,
-    n: usize,
-    i: usize,
-) -> Step
-    requires { EnoughRoom n s vectors.old process.old }
-    ensures value { result ≡ checkpoint_step n s i vectors.old }
-    ensures vectors_after { vectors.new ≡ checkpoint_vectors n s i vectors.old }
-    ensures process_after { process.new ≡ checkpoint_process n s i vectors.old process.old }
-{
-    if n <= i {
-        return refuse(Refusal::NoSuchProcess, s);
+    #[tactic(auto, unfolding(crate::specs::Readings::checkpoint_refusal, model::specs::Refusals::first_of))]
+    fn checkpoint(&mut self, n: usize, i: usize) -> Result<(), Refusal>
+        requires { EnoughRoom n self.old }
+        ensures answer { result ≡ answer_by (checkpoint_refusal n self.old i) }
+        ensures after { self.new ≡ read_by (checkpoint_refusal n self.old i) self.old (with_checkpoint self.old i) }
+    {
+        if n <= i {
+            return Err(Refusal::NoSuchProcess);
+        }
+        let live = self.states[usize::from(self.current[i])].vector;
+        if admissions::is_last_interval(live[i]) {
+            return Err(Refusal::IntervalsUsed);
+        }
+        self.add_state(i, words::rows::vector::advanced(live, i));
+        Ok(())
     }
-    let row = s.current[i] as usize;
-    let v = crate::decision::flat::row_at(vectors, row);
-    let own = v[i];
-    let full = admissions::is_last_interval(own);
-    if full {
-        return refuse(Refusal::IntervalsUsed, s);
+
+    // The message carries the vector of its sender's live state.
+    #[tactic(auto, unfolding(crate::specs::Readings::with_message, crate::specs::Readings::send_refusal, admissions::specs::Admissions::refusal_of))]
+    fn send(&mut self, n: usize, i: usize, receiver: usize) -> Result<(), Refusal>
+        requires { SendRoom n self.old }
+        ensures answer { result ≡ answer_by (send_refusal n self.old i receiver) }
+        ensures after { self.new ≡ read_by (send_refusal n self.old i receiver) self.old (with_message self.old i receiver) }
+    {
+        let place = self.last;
+        admissions::send_admission(i, receiver, n, self.underway, place as u32)?;
+        let from = self.current[i];
+        self.messages[place] = Sent {
+            from,
+            carried: self.states[usize::from(from)].vector,
+            fate: Fate::UnderWay(receiver as u16),
+        };
+        self.last = place + 1;
+        self.underway += 1;
+        Ok(())
     }
-    let w = words::rows::vector::advanced(v, i);
-    let next = s.rows;
-    crate::decision::flat::put_row(vectors, next, w);
-    process[next] = i as u16;
-    let more = with_row(s, i);
-    take(more)
-}
 
-// One message more.
-fn with_message(s: Progress) -> Progress
-    requires { (s.underway ≤ most_under_way) × (s.last < most_judged) }
-    ensures { result ≡ with_message_of s }
-{
-    let underway = s.underway;
-    let last = s.last;
-    Progress {
-        underway: underway + 1,
-        last: last + 1,
-        ..s
-    }
-}
-
-// The vector that a message carries: that of its sender's live row.
-fn put_carried(vectors: &[u16], carried: &mut [u16], row: usize, place: usize)
-    requires { (most_processes * row + most_processes ≤ length vectors.now) × (most_processes * place + most_processes ≤ length carried.old) }
-    ensures { carried.new ≡ sent_carried vectors.now row place carried.old }
-{
-    let v = crate::decision::flat::row_at(vectors, row);
-    crate::decision::flat::put_row(carried, place, v);
-}
-
-fn read_send(
-    vectors: &[u16],
-    carried: &mut [u16],
-    passing: &mut [u16],
-    from: &mut [u16],
-    to: &mut [u16],
-    s: Progress,
-    n: usize,
-    i: usize,
-    receiver: usize,
-) -> Step
-    requires { SendRoom n s vectors.now carried.old passing.old from.old to.old }
-    ensures value { result ≡ send_step n s i receiver }
-    ensures carried_after { carried.new ≡ send_carried n s i receiver vectors.now carried.old }
-    ensures passing_after { passing.new ≡ send_passing n s i receiver passing.old }
-    ensures from_after { from.new ≡ send_from n s i receiver from.old }
-    ensures to_after { to.new ≡ send_to n s i receiver to.old }
-{
-    let answer = admissions::send_admission(i, receiver, n, s.underway, s.last as u32);
-    match answer {
-        Admission::Refused(why) => refuse(why, s),
-        Admission::Accepted => {
-            let row = s.current[i] as usize;
-            let place = s.last;
-            put_carried(vectors, carried, row, place);
-            passing[place] = (receiver + 1) as u16;
-            from[place] = row as u16;
-            to[place] = 0;
-            let more = with_message(s);
-            take(more)
+    // The message that a record names, if it is under way. None has number 0.
+    #[tactic(auto, unfolding(crate::specs::Readings::found_in_of, crate::specs::Readings::is_under_way))]
+    fn find(&self, m: u32) -> Option<Found>
+        requires { self.now.last ≤ most_judged }
+        ensures found { result ≡ found_in_of self.now m }
+        ensures sent { IfSome result (λ f. f.place < self.now.last) }
+    {
+        let place = (m as usize).checked_sub(1)?;
+        if self.last <= place {
+            return None;
+        }
+        match self.messages[place].fate {
+            Fate::UnderWay(receiver) => Some(Found { place, receiver }),
+            _ => None,
         }
     }
-}
 
-fn wide(x: u16) -> usize
-    ensures { result ≡ x }
-{
-    x as usize
-}
+    // A message is no longer under way.
+    #[tactic(auto, unfolding(crate::specs::Readings::settled))]
+    fn settle(&mut self, place: usize, fate: Fate)
+        requires { place < most_judged }
+        ensures { self.new ≡ settled self.old place fate }
+    {
+        self.messages[place].fate = fate;
+        self.underway = self.underway.saturating_sub(1);
+    }
 
-// The message with this number, if it is under way.
-fn find(passing: &[u16], last: usize, m: u32) -> Found
-    requires { last ≤ length passing.now }
-    ensures { result ≡ found_in_of passing.now last m }
-{
-    let number = m as usize;
-    if 1 <= number {
-        let place = number - 1;
-        if place < last {
-            let q = passing[place];
-            if q != 0 {
-                let receiver = wide(q) - 1;
-                return Found {
-                    found: true,
-                    place,
-                    receiver,
-                };
-            }
+    fn lose(&mut self, m: u32) -> Result<(), Refusal>
+        requires { self.old.last ≤ most_judged }
+        ensures answer { result ≡ answer_by (drop_refusal (found_in_of self.old m)) }
+        ensures after { self.new ≡ lost_of self.old (found_in_of self.old m) }
+    {
+        let found = self.find(m).ok_or(Refusal::NotUnderWay)?;
+        self.settle(found.place, Fate::Lost);
+        Ok(())
+    }
+
+    // The receiver's live state takes in what the message carries: the greater of each two entries. No line of the judge tells the set of the entries that rose, so it is
+    // not made here (Note 3's steps, which make it, are those of a run's own deliveries).
+    #[tactic(auto, unfolding(crate::specs::Readings::with_receipt))]
+    fn deliver(&mut self, m: u32) -> Result<(), Refusal>
+        requires { DeliverRoom self.old m }
+        ensures answer { result ≡ answer_by (drop_refusal (found_in_of self.old m)) }
+        ensures after { self.new ≡ received_of self.old (found_in_of self.old m) }
+    {
+        let found = self.find(m).ok_or(Refusal::NotUnderWay)?;
+        let row = self.current[usize::from(found.receiver)];
+        let own = self.states[usize::from(row)].vector;
+        let carried = self.messages[found.place].carried;
+        self.states[usize::from(row)].vector = words::rows::vector::greatest(own, carried);
+        self.settle(found.place, Fate::Received(row));
+        Ok(())
+    }
+
+    // A record's event. "A record of kind 4 is refused with 14."
+    fn event(&mut self, n: usize, e: Event) -> Result<(), Refusal>
+        requires { Ready n self.old }
+        ensures { Reads n self.old (Some e) result self.new }
+    {
+        match e {
+            Event::Checkpoint(i) => self.checkpoint(n, i),
+            Event::Send(i, j) => self.send(n, i, j as usize),
+            Event::Deliver(m) => self.deliver(m),
+            Event::Lose(m) => self.lose(m),
+            Event::Recover(failed) => Err(Refusal::MalformedRecord),
         }
     }
-    Found {
-        found: false,
-        place: 0,
-        receiver: 0,
-    }
-}
 
-// One message less under way.
-fn without_one(s: Progress) -> Progress
-    ensures { result ≡ without_one_of s }
-{
-    let underway = s.underway;
-    if underway == 0 {
-        return s;
+    // A record, as the part of the trace with its four bytes.
+    #[tactic(auto, using(crate::proofs::Records::malformed_reads))]
+    fn record(&mut self, n: usize, part: &[u8]) -> Result<(), Refusal>
+        requires { Ready n self.old }
+        ensures { Reads n self.old (event_in part.now) result self.new }
+    {
+        let e = trace::decode(part).ok_or(Refusal::MalformedRecord)?;
+        self.event(n, e)
     }
-    Progress {
-        underway: underway - 1,
-        ..s
-    }
-}
 
-fn read_lose(passing: &mut [u16], s: Progress, m: u32) -> Step
-    requires { (s.last ≤ most_judged) × (s.last ≤ length passing.old) }
-    ensures value { result ≡ drop_step s (found_in_of passing.old s.last m) }
-    ensures passing_after { passing.new ≡ drop_passing (found_in_of passing.old s.last m) passing.old }
-{
-    let last = s.last;
-    let f = find(passing, last, m);
-    if !f.found {
-        return refuse(Refusal::NotUnderWay, s);
-    }
-    let place = f.place;
-    passing[place] = 0;
-    let left = without_one(s);
-    take(left)
-}
-
-// The receiver's live row takes in what the message in this place carries: the greater of each two entries. No line of the judge tells the set of the entries that
-// rose, so it is not made here (Note 3's steps, which make it, are those of a run's own deliveries).
-fn put_receipt(vectors: &mut [u16], carried: &[u16], row: usize, place: usize)
-    requires { (most_processes * row + most_processes ≤ length vectors.old) × (most_processes * place + most_processes ≤ length carried.now) }
-    ensures { vectors.new ≡ receipt_vectors vectors.old row (row_of carried.now place) }
-{
-    let own = crate::decision::flat::row_at(vectors, row);
-    let news = crate::decision::flat::row_at(carried, place);
-    let vector = words::rows::vector::greatest(own, news);
-    crate::decision::flat::put_row(vectors, row, vector);
-}
-
-fn read_deliver(
-    vectors: &mut [u16],
-    carried: &[u16],
-    passing: &mut [u16],
-    to: &mut [u16],
-    s: Progress,
-    m: u32,
-) -> Step
-    requires { DeliverRoom s m vectors.old carried.now passing.old to.old }
-    ensures value { result ≡ drop_step s (found_in_of passing.old s.last m) }
-    ensures vectors_after { vectors.new ≡ deliver_vectors s (found_in_of passing.old s.last m) carried.now vectors.old }
-    ensures passing_after { passing.new ≡ drop_passing (found_in_of passing.old s.last m) passing.old }
-    ensures to_after { to.new ≡ deliver_to s (found_in_of passing.old s.last m) to.old }
-{
-    let last = s.last;
-    let f = find(passing, last, m);
-    if !f.found {
-        return refuse(Refusal::NotUnderWay, s);
-    }
-    let place = f.place;
-    let receiver = f.receiver;
-    let row = s.current[receiver] as usize;
-    put_receipt(vectors, carried, row, place);
-    passing[place] = 0;
-    to[place] = (row + 1) as u16;
-    let left = without_one(s);
-    take(left)
-}
-
-// The rows of the first intervals: process p has row p.
-fn first_rows(vectors: &mut [u16], process: &mut [u16], n: usize) -> Progress
-    requires { (n ≤ most_processes) × (table_size ≤ length vectors.old) × (most_rows ≤ length process.old) }
-    ensures first_rows { FirstRows n vectors.new process.new result.current }
-    ensures vectors_len_unchanged { (length vectors.new ≡ length vectors.old) × (length process.new ≡ length process.old) }
-    ensures rows_value { (result.rows ≡ n) × (result.underway ≡ 0) × (result.last ≡ 0) }
-{
-    let mut current = [0u16; PROCESSES];
-    for p in 0..n {
-        let v = words::rows::start::first_vector(p);
-        crate::decision::flat::put_row(vectors, p, v);
-        process[p] = p as u16;
-        current[p] = p as u16;
-    }
-    Progress {
-        rows: n,
-        current,
-        underway: 0,
-        last: 0,
-    }
-}
-
-// A record's event. "A record of kind 4 is refused with 14."
-fn read_event(
-    vectors: &mut [u16],
-    process: &mut [u16],
-    carried: &mut [u16],
-    passing: &mut [u16],
-    from: &mut [u16],
-    to: &mut [u16],
-    s: Progress,
-    n: usize,
-    e: Event,
-) -> Step
-    requires { Ready n s (tables vectors.old process.old carried.old passing.old from.old to.old) }
-    ensures { Reads n s (tables vectors.old process.old carried.old passing.old from.old to.old) (some e) result (tables vectors.new process.new carried.new passing.new from.new to.new) }
-{
-    match e {
-        Event::Checkpoint(i) => read_checkpoint(vectors, process, s, n, i),
-        Event::Send(i, j) => read_send(vectors, carried, passing, from, to, s, n, i, j as usize),
-        Event::Deliver(m) => read_deliver(vectors, carried, passing, to, s, m),
-        Event::Lose(m) => read_lose(passing, s, m),
-        Event::Recover(failed) => refuse(Refusal::MalformedRecord, s),
-    }
-}
-
-// A record, as the part of the trace with its four bytes.
-fn read_record(
-    vectors: &mut [u16],
-    process: &mut [u16],
-    carried: &mut [u16],
-    passing: &mut [u16],
-    from: &mut [u16],
-    to: &mut [u16],
-    s: Progress,
-    n: usize,
-    part: &[u8],
-) -> Step
-    requires { Ready n s (tables vectors.old process.old carried.old passing.old from.old to.old) }
-    ensures { Reads n s (tables vectors.old process.old carried.old passing.old from.old to.old) (event_in part.now) result (tables vectors.new process.new carried.new passing.new from.new to.new) }
-{
-    let d = trace::decode(part);
-    match d {
-        Decoded::Malformed => refuse(Refusal::MalformedRecord, s),
-        Decoded::StandsFor(e) => read_event(vectors, process, carried, passing, from, to, s, n, e),
-    }
-}
-
-// The records of a trace of n processes, up to the first that is refused, then the bytes left over.
-pub(crate) fn read_all(
-    vectors: &mut [u16],
-    process: &mut [u16],
-    carried: &mut [u16],
-    passing: &mut [u16],
-    from: &mut [u16],
-    to: &mut [u16],
-    trace: &[u8],
-    n: usize,
-) -> Step
-    requires sized { Sized (tables vectors.old process.old carried.old passing.old from.old to.old) }
-    requires n_le_most_processes { (n ≤ most_processes) × (1 ≤ length trace.now) × (length trace.now ≤ 4 * most_judged + 4) }
-    ensures { ReadsAll n trace.now result (tables vectors.new process.new carried.new passing.new from.new to.new) }
-{
-    let mut s = first_rows(vectors, process, n);
-    let mut taken = 0;
-    while trace::reader::record_left(trace, taken) {
-        let part = trace::reader::record_after(trace, taken);
-        let r = read_record(vectors, process, carried, passing, from, to, s, n, part);
-        let answer = r.answer;
-        match answer {
-            Admission::Refused(why) => {
-                return r;
-            }
-            Admission::Accepted => {
-                s = r.next;
-                taken += 1;
-            }
+    // The states of the first intervals: process p has row p.
+    pub(crate) fn begin(&mut self, n: usize)
+        requires { (n ≤ most_processes) × (self.old.rows ≡ 0) × (self.old.last ≡ 0) × (self.old.underway ≡ 0) }
+        ensures { FirstRows n self.new }
+    {
+        for p in 0..n {
+            self.add_state(p, words::rows::start::first_vector(p));
         }
     }
-    if 1 + 4 * taken < trace.len() {
-        return refuse(Refusal::LeftOverBytes, s);
+
+    // The records of a trace of n processes, up to the first that is refused, then the bytes left over.
+    pub(crate) fn read_all(&mut self, trace: &[u8], n: usize) -> Result<(), Refusal>
+        requires { FirstRows n self.old × (n ≤ most_processes) × (1 ≤ length trace.now) × (length trace.now ≤ 4 * most_judged + 4) }
+        ensures { ReadsAll n trace.now result self.new }
+    {
+        for taken in 0..(trace.len() - 1) / 4 {
+            self.record(n, trace::reader::record_after(trace, taken))?;
+        }
+        if (trace.len() - 1) % 4 != 0 {
+            return Err(Refusal::LeftOverBytes);
+        }
+        Ok(())
     }
-    take(s)
 }

@@ -1,7 +1,7 @@
 -- What the reader of a carried vector does, by the place of the message in the words.
 -- Assumes nothing.
 use Rattle.std.specs.Prelude.{◌≡◌, ◌∷◌, ◌+◌, ◌≤◌, ◌<◌}
-use Rattle.laws.specs.Basics.{refl, ◌∙◌, ap, true, List, [], Option, none, some, ℕ, suc, arith, length, lt-ltb, le-ltb}
+use Rattle.laws.specs.Basics.{refl, ◌∙◌, ap, true, List, [], Option, None, Some, ℕ, suc, arith, length, lt-ltb, le-ltb}
 use Rattle.laws.specs.{Lists.table, Lists.or_else, Tables.table_same}
 use Rattle.model.specs.declared.{Interval.Interval, Message.Message, Refusal.TheVariants.ListTooShort, Refusal.TheVariants.NotUnderWay, Run.Run}
 use Rattle.model.specs.{Words.entry, Words.no_message, Steps.found, Sound.sound}
@@ -29,11 +29,11 @@ module _ (w : List ℕ) (h : sound (run_of w) ≡ true) (m : ℕ) (lent : List �
     pub carried_missing : place_of w m ≡ 0 → carried_reading s m lent ≡ refused_by NotUnderWay lent
     unfolding carried_reading message_at
     carried_missing e =
-        let gone : found s m ≡ none = found_is w h m ∙ ap (message_at w) e in
+        let gone : found s m ≡ None = found_is w h m ∙ ap (message_at w) e in
         refused_by_lem _ _ _ lent NotUnderWay (2, (rw h, (le-ltb (length lent) s.count (omega (arith, n_is)), tt)), rw gone, refl)
 
     module _ (k : ℕ) (e : place_of w m ≡ suc k) where
-      there : found s m ≡ some (message_in w k)
+      there : found s m ≡ Some (message_in w k)
       unfolding message_at
       there = found_is w h m ∙ ap (message_at w) e
 
@@ -43,7 +43,7 @@ module _ (w : List ℕ) (h : sound (run_of w) ≡ true) (m : ℕ) (lent : List �
           ∙ ap (λ (q : ℕ). table q (λ f. (entry (vector_in w (carried_at k)) f).0)) n_is
           ∙ table_same (count_of w) _ _ (λ f less. ap (λ (x : Interval). x.0) (vector_word w (carried_at k) f (omega (arith, known.few))))
 
-      pub carried_read : carried_reading s m lent ≡ read none (words_from w (carried_at k) (count_of w)) lent
+      pub carried_read : carried_reading s m lent ≡ read None (words_from w (carried_at k) (count_of w)) lent
       unfolding carried_reading
       carried_read = read_by _ _ _ lent (rw h, (le-ltb (length lent) s.count (omega (arith, n_is)), (rw there, tt)))
-          ∙ ap (λ (l : List ℕ). read none l lent) numbers
+          ∙ ap (λ (l : List ℕ). read None l lent) numbers

@@ -1,7 +1,7 @@
 -- What the reader of the messages that a recovery would lose does, by the words.
 -- Assumes nothing.
 use Rattle.std.specs.Prelude.{◌≡◌, ◌&&◌, ◌∷◌, ◌^◌, ◌≤◌, ◌<◌}
-use Rattle.laws.specs.Basics.{refl, sym, ◌∙◌, ap, true, false, List, [], some, ℕ, arith, leb, length, lt-ltb, le-ltb}
+use Rattle.laws.specs.Basics.{refl, sym, ◌∙◌, ap, true, false, List, [], Some, ℕ, arith, leb, length, lt-ltb, le-ltb}
 use Rattle.laws.specs.{Lists.table, Select.select_length, Select.select_select, Tables.length_table}
 use Rattle.model.specs.declared.{CheckpointIndex.CheckpointIndex, Message.Message, Run.Run}
 use Rattle.model.specs.declared.Refusal.TheVariants.{UnsoundState, ListTooShort, NoSuchFailedProcess}
@@ -49,7 +49,7 @@ module _ (w : List ℕ) (h : sound (run_of w) ≡ true) (F : ℕ) (lent : List �
         unfolding messages_in
         lost_in_places = rw e (sym (lost_are w h F there) ∙ select_select (lost_to (line_indexes w F)) is_message (table (end_of w) (message_in w)))
 
-        pub lost_read : lost_reading s F lent ≡ read (some (length (lost_below indexes w (end_of w)))) (sent_numbers (lost_below indexes w (end_of w))) lent
+        pub lost_read : lost_reading s F lent ≡ read (Some (length (lost_below indexes w (end_of w)))) (sent_numbers (lost_below indexes w (end_of w))) lent
         unfolding lost_reading
         lost_read = read_by _ _ _ lent (rw h, (le-ltb (length lent) 192 room, (rw n_is inside, (there, tt))))
-            ∙ ap (λ (l : List Message). read (some (length l)) (sent_numbers l) lent) lost_in_places
+            ∙ ap (λ (l : List Message). read (Some (length l)) (sent_numbers l) lent) lost_in_places

@@ -1,7 +1,7 @@
 -- What the readers write, by the words that they read.
 -- Assumes nothing.
 use Rattle.std.specs.Prelude.{◌&&◌, ◌∷◌, ◌+◌}
-use Rattle.laws.specs.Basics.{List, [], none, ℕ}
+use Rattle.laws.specs.Basics.{List, [], None, ℕ}
 use Rattle.laws.specs.Lists.{select, table}
 use Rattle.model.specs.declared.{Checkpoint.Checkpoint, CheckpointIndex.CheckpointIndex, Message.Message}
 use Rattle.words.specs.Layout.{word, wide2, wide4, count_of, part_at, message_in, is_message, run_of}
@@ -18,7 +18,7 @@ words_from w at n = table n (λ f. word w (at + f))
 
 -- They go to a lent list, where the place is one of process p's part.
 unfoldable pub row_reading : List ℕ → ℕ → ℕ → List ℕ → Reading
-row_reading w p from lent = reading (of_process (run_of w) p (run_of w).count lent) none (words_from w (part_at p + from) (count_of w)) lent
+row_reading w p from lent = reading (of_process (run_of w) p (run_of w).count lent) None (words_from w (part_at p + from) (count_of w)) lent
 
 -- The three numbers of a checkpoint and of a message.
 abbrev pub three_stored : Checkpoint → List ℕ

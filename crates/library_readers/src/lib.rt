@@ -4,7 +4,7 @@
 #![tactic(auto)]
 
 ghost use Rattle.std.specs.Prelude.{◌≡◌, ◌∷◌, ◌+◌, ◌*◌, ◌≤◌, ◌<◌};
-ghost use Rattle.laws.specs.Basics.{true, [], some, ℕ, length, sets, pick};
+ghost use Rattle.laws.specs.Basics.{true, [], Some, ℕ, length, sets, pick};
 ghost use Rattle.laws.specs.Lists.{table};
 ghost use Rattle.model.specs.{Sound.sound, Words.most_processes, Words.most_under_way};
 ghost use Rattle.whole_runs.specs.Outcomes.{refusing, accepting};
@@ -13,10 +13,9 @@ ghost use Rattle.words.specs.Layout.{word, count_of, end_of, index_at_of, checkp
 ghost use Rattle.library_readers.specs.Readings.{numbers_reading, vector_reading, pins_reading, stored_numbers, kept_reading, sent_numbers, messages_reading, carried_reading};
 ghost use Rattle.library_readers.specs.Written.{numbers_in, words_from, row_reading, three_stored, three_of, messages_below};
 
+use listing::Summary;
 use listing::answers::code_of;
-use listing::{Summary, Value};
 use model::{MESSAGES, Refusal};
-use words::messages::Found;
 use words::places;
 
 // lost.rt: the messages under way that a recovery would lose
@@ -33,18 +32,18 @@ pub(crate) const THREE: usize = 3;
 pub fn refused(why: Refusal) -> u64
     ensures { result ≡ coded (refusing why) 0 }
 {
-    let summary = listing::summaries::refused(why);
+    let summary = Summary::from(why);
     code_of(summary, 0)
 }
 
 // That many things were read; the field of the answer has 24 bits.
 pub fn counted(many: usize) -> u64
     requires { many < 16777216 }
-    ensures { result ≡ coded (accepting (some many) 0) 0 }
+    ensures { result ≡ coded (accepting (Some many) 0) 0 }
 {
-    let value = Value::Number(many as u64);
+    let value = Some(many as u64);
     let summary = Summary {
-        refused: 0,
+        refused: None,
         value,
         deletions: 0,
     };
@@ -265,8 +264,8 @@ pub fn carried_on(w: &[u16], message: u32, vector: &mut [u16]) -> u64
     }
     let found = words::messages::place_of(w, message);
     match found {
-        Found::Nothing => refused(Refusal::NotUnderWay),
-        Found::At(k) => {
+        None => refused(Refusal::NotUnderWay),
+        Some(k) => {
             let at = places::carried_at(k);
             copy_words(w, at, n, vector);
             0

@@ -1,10 +1,11 @@
 -- The recorder on the calls in place. `recorded_checkpoint` .. `recorded_earliest` of the crate theory_recording are of the run that the words stand for; here are a start in place
 -- through the recorder, and what a replay of the buffer gives. proofs/Recorded has the theorem.
 -- Assumes nothing.
-use Rattle.std.specs.Prelude.{◌≡◌, ◌∷◌}
+use Rattle.std.specs.Prelude.{◌≡◌, ◌∷◌, Err, Ok}
 use Rattle.laws.specs.Basics.{List, [], ℕ, ltb, length, pick}
-use Rattle.model.specs.{declared.Refusal.TheVariants.BufferTooShort, declared.StartAnswer.StartAnswer, Words.blank}
-use Rattle.model.specs.declared.StartAnswer.TheVariants.{Refused, Started}
+use Prim.{tt}
+use Rattle.model.specs.Shapes.{StartAnswer}
+use Rattle.model.specs.{declared.Refusal.TheVariants.BufferTooShort, Words.blank}
 use Rattle.whole_runs.specs.{Outcomes.judged, Calls.Call}
 use Rattle.theory_recording.specs.Recording.{Recorded, unwritten, appended, Tape, recorded, begun, entries, ReplaysTheSame}
 use Rattle.words.specs.{Clean.Clean, Layout.run_of}
@@ -15,7 +16,7 @@ unfoldable pub recorded_start_in : ℕ → ℕ → List ℕ → List ℕ → ℕ
 recorded_start_in many n block_counts buffer place = judged (start_refusal_in many n block_counts)
     (λ r. unwritten (start_outcome_in many n block_counts) buffer place)
     (pick (ltb (length buffer) 1)
-    (unwritten (record { run = blank 0; answer = Refused BufferTooShort; rose = 0; deleted = []; line = [] }) buffer place)
+    (unwritten (record { run = blank 0; answer = Err BufferTooShort; rose = 0; deleted = []; line = [] }) buffer place)
     (appended (start_outcome_in many n block_counts) (n ∷ []) buffer 0))
 
 -- The words then: with no byte in the buffer every start is refused, and leaves what a start of no process does.
@@ -51,6 +52,6 @@ begun_in w n block_counts buffer place = record {
 -- Note 9 in place: "Where every call of a run, the start first, goes through the writer, each with the state, buffer and place the one before left", a replay of what was
 -- recorded is the same; and every place of the words that is not in use is zero.
 unfoldable pub RecordingReplaysIn : Type 0
-RecordingReplaysIn = (w : List ℕ) (n : ℕ) (block_counts buffer : List ℕ) (place : ℕ) → (recorded_start_in (length w) n block_counts buffer place).outcome.answer ≡ Started
+RecordingReplaysIn = (w : List ℕ) (n : ℕ) (block_counts buffer : List ℕ) (place : ℕ) → (recorded_start_in (length w) n block_counts buffer place).outcome.answer ≡ Ok tt
     → (calls : List Call) (u : WordTape) → RecordedAll (begun_in w n block_counts buffer place) calls u
     → ReplaysTheSame n block_counts buffer (tape_of u) (entries (begun n block_counts buffer) calls) × Clean u.words

@@ -4,7 +4,7 @@
 
 #![tactic(auto)]
 
-ghost use Rattle.std.specs.Prelude.{◌≡◌};
+ghost use Rattle.std.specs.Prelude.{◌≡◌, Err};
 ghost use Rattle.laws.specs.Basics.{length};
 ghost use Rattle.model.specs.declared.Refusal.{Refusal};
 ghost use Rattle.theory_recording.specs.Recording.{recorded_checkpoint, recorded_send, recorded_deliver, recorded_lose, recorded_line, recorded_recover, recorded_earliest};
@@ -13,7 +13,7 @@ ghost use Rattle.words_line.specs.Through.{named_in};
 ghost use Rattle.in_place.specs.Left.{Leaves};
 ghost use Rattle.library_recorder.specs.Recorded.{recorded_start_in, recorded_start_words};
 
-use listing::summaries;
+use listing::Summary;
 use model::{
     CheckpointAnswer, DeliverAnswer, Event, LineAnswer, LoseAnswer, RecoverAnswer, Refusal,
     SendAnswer, StartAnswer,
@@ -85,13 +85,14 @@ pub fn start(
     ensures clean { length w.old ≡ state_size → Clean w.new }
 {
     let answer = in_place::start::start(w, n, block_counts);
-    let summary = summaries::of_start(answer);
-    if summary.refused != 0 {
+    let summary = Summary::from(answer);
+    let number = summary.number();
+    if number != 0 {
         return StartRecorded { answer, place };
     }
     if buffer.len() == 0 {
-        in_place::start::start(w, 0, block_counts);
-        let answer = StartAnswer::Refused(Refusal::BufferTooShort);
+        let _ = in_place::start::start(w, 0, block_counts);
+        let answer = Err(Refusal::BufferTooShort);
         return StartRecorded { answer, place };
     }
     buffer[0] = n as u8;
@@ -111,7 +112,7 @@ pub fn checkpoint(
     ensures deleted_after { deleted.new ≡ (recorded_checkpoint (run_of w.old) i deleted.old buffer.old place).outcome.deleted }
     ensures buffer_after { buffer.new ≡ (recorded_checkpoint (run_of w.old) i deleted.old buffer.old place).buffer }
     ensures place_value { result.place ≡ (recorded_checkpoint (run_of w.old) i deleted.old buffer.old place).place }
-    ensures w_unchanged { (why : Refusal) → result.answer ≡ CheckpointAnswer.Refused why → w.new ≡ w.old }
+    ensures w_unchanged { (why : Refusal) → result.answer ≡ Err why → w.new ≡ w.old }
     ensures leaves { Leaves w.old w.new }
 {
     let room = record::has_room(buffer.len(), place);
@@ -120,8 +121,9 @@ pub fn checkpoint(
         return CheckpointRecorded { answer, place };
     }
     let answer = in_place::checkpoint::checkpoint(w, i, deleted);
-    let summary = summaries::of_checkpoint(answer);
-    let next = record::append_accepted(summary.refused, buffer, place, Event::Checkpoint(i));
+    let summary = Summary::from(answer);
+    let number = summary.number();
+    let next = record::append_accepted(number, buffer, place, Event::Checkpoint(i));
     CheckpointRecorded {
         answer,
         place: next,
@@ -134,7 +136,7 @@ pub fn send(w: &mut [u16], i: usize, j: usize, buffer: &mut [u8], place: usize) 
     ensures answer_value { result.answer ≡ (recorded_send (run_of w.old) i j buffer.old place).outcome.answer }
     ensures buffer_after { buffer.new ≡ (recorded_send (run_of w.old) i j buffer.old place).buffer }
     ensures place_value { result.place ≡ (recorded_send (run_of w.old) i j buffer.old place).place }
-    ensures w_unchanged { (why : Refusal) → result.answer ≡ SendAnswer.Refused why → w.new ≡ w.old }
+    ensures w_unchanged { (why : Refusal) → result.answer ≡ Err why → w.new ≡ w.old }
     ensures leaves { Leaves w.old w.new }
 {
     let room = record::has_room(buffer.len(), place);
@@ -143,8 +145,9 @@ pub fn send(w: &mut [u16], i: usize, j: usize, buffer: &mut [u8], place: usize) 
         return SendRecorded { answer, place };
     }
     let answer = in_place::send::send(w, i, j);
-    let summary = summaries::of_send(answer);
-    if summary.refused != 0 {
+    let summary = Summary::from(answer);
+    let number = summary.number();
+    if number != 0 {
         return SendRecorded { answer, place };
     }
     let next = record::append(buffer, place, Event::Send(i, j as u32));
@@ -168,7 +171,7 @@ pub fn deliver(
     ensures deleted_after { deleted.new ≡ (recorded_deliver (run_of w.old) m deleted.old buffer.old place).outcome.deleted }
     ensures buffer_after { buffer.new ≡ (recorded_deliver (run_of w.old) m deleted.old buffer.old place).buffer }
     ensures place_value { result.place ≡ (recorded_deliver (run_of w.old) m deleted.old buffer.old place).place }
-    ensures w_unchanged { (why : Refusal) → result.answer ≡ DeliverAnswer.Refused why → w.new ≡ w.old }
+    ensures w_unchanged { (why : Refusal) → result.answer ≡ Err why → w.new ≡ w.old }
     ensures leaves { Leaves w.old w.new }
 {
     let room = record::has_room(buffer.len(), place);
@@ -183,8 +186,9 @@ pub fn deliver(
     let delivered = in_place::deliver::deliver(w, m, deleted);
     let answer = delivered.answer;
     let rose = delivered.rose;
-    let summary = summaries::of_deliver(answer);
-    let next = record::append_accepted(summary.refused, buffer, place, Event::Deliver(m));
+    let summary = Summary::from(answer);
+    let number = summary.number();
+    let next = record::append_accepted(number, buffer, place, Event::Deliver(m));
     DeliverRecorded {
         answer,
         rose,
@@ -198,7 +202,7 @@ pub fn lose(w: &mut [u16], m: u32, buffer: &mut [u8], place: usize) -> LoseRecor
     ensures answer_value { result.answer ≡ (recorded_lose (run_of w.old) m buffer.old place).outcome.answer }
     ensures buffer_after { buffer.new ≡ (recorded_lose (run_of w.old) m buffer.old place).buffer }
     ensures place_value { result.place ≡ (recorded_lose (run_of w.old) m buffer.old place).place }
-    ensures w_unchanged { (why : Refusal) → result.answer ≡ LoseAnswer.Refused why → w.new ≡ w.old }
+    ensures w_unchanged { (why : Refusal) → result.answer ≡ Err why → w.new ≡ w.old }
     ensures leaves { Leaves w.old w.new }
 {
     let room = record::has_room(buffer.len(), place);
@@ -207,8 +211,9 @@ pub fn lose(w: &mut [u16], m: u32, buffer: &mut [u8], place: usize) -> LoseRecor
         return LoseRecorded { answer, place };
     }
     let answer = in_place::lose::lose(w, m);
-    let summary = summaries::of_lose(answer);
-    let next = record::append_accepted(summary.refused, buffer, place, Event::Lose(m));
+    let summary = Summary::from(answer);
+    let number = summary.number();
+    let next = record::append_accepted(number, buffer, place, Event::Lose(m));
     LoseRecorded {
         answer,
         place: next,
@@ -248,7 +253,7 @@ pub fn recover(
     ensures line_after { line.new ≡ (recorded_recover (run_of w.old) failed deleted.old line.old buffer.old place).outcome.line }
     ensures buffer_after { buffer.new ≡ (recorded_recover (run_of w.old) failed deleted.old line.old buffer.old place).buffer }
     ensures place_value { result.place ≡ (recorded_recover (run_of w.old) failed deleted.old line.old buffer.old place).place }
-    ensures w_unchanged { (why : Refusal) → result.answer ≡ RecoverAnswer.Refused why → w.new ≡ w.old }
+    ensures w_unchanged { (why : Refusal) → result.answer ≡ Err why → w.new ≡ w.old }
     ensures leaves { Leaves w.old w.new }
 {
     let room = record::has_room(buffer.len(), place);
@@ -257,8 +262,9 @@ pub fn recover(
         return RecoverRecorded { answer, place };
     }
     let answer = in_place_recover::recover(w, failed, deleted, line);
-    let summary = summaries::of_recover(answer);
-    let next = record::append_accepted(summary.refused, buffer, place, Event::Recover(failed));
+    let summary = Summary::from(answer);
+    let number = summary.number();
+    let next = record::append_accepted(number, buffer, place, Event::Recover(failed));
     RecoverRecorded {
         answer,
         place: next,

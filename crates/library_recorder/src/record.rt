@@ -28,14 +28,14 @@ fn put(buffer: &mut [u8], place: usize, bytes: [u8; 4])
 }
 
 // The record of an event goes to a place. The answer is the place after it.
+#[tactic(auto, unfolding(model::specs::Trace::encoded, theory_recording::specs::Replay::record_bytes))]
 pub fn append(buffer: &mut [u8], place: usize, e: Event) -> usize
     requires place_in_bounds { place + 4 ≤ length buffer.old }
     requires e_value { fits e ≡ true }
     ensures buffer_after { buffer.new ≡ sets buffer.old place (record_bytes e) }
     ensures value { result ≡ place + length (record_bytes e) }
 {
-    let encoded = trace::encode(e);
-    let bytes = encoded.bytes;
+    let bytes = trace::encode(e).unwrap();
     put(buffer, place, bytes);
     place + 4
 }

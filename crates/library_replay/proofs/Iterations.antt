@@ -1,7 +1,7 @@
 -- The iterations of the loop over a block: nothing taken yet, one record more, and where it stops.
 -- Assumes nothing.
 use Rattle.std.specs.Prelude.{◌≡◌, ◌&&◌, ◌∷◌, ◌+◌, ◌-◌, ◌*◌, ◌≤◌, ◌<◌}
-use Rattle.laws.specs.Basics.{refl, sym, ◌∙◌, ap, Bool, true, false, List, [], Option, none, some, ℕ, suc, arith, ltb, leb, length, take, drop, length-drop, sets, length-take-le, eq-eqb, ltb-true, le-leb, lt-leb, leb-true, leb-false, pick, by_bool}
+use Rattle.laws.specs.Basics.{refl, sym, ◌∙◌, ap, Bool, true, false, List, [], Option, None, Some, ℕ, suc, arith, ltb, leb, length, take, drop, length-drop, sets, length-take-le, eq-eqb, ltb-true, le-leb, lt-leb, leb-true, leb-false, pick, by_bool}
 use lib.Seq.{length-sets, drop-drop}
 use Rattle.laws.specs.Truth.{and_left, and_right}
 use Rattle.model.specs.{declared.Event.Event, declared.Run.Run, Trace.decoded}
@@ -10,7 +10,7 @@ use Rattle.whole_runs.specs.Listing.{line_text, call_of, perform, most_records, 
 use Rattle.whole_runs.proofs.{Blocks.next_line, Blocks.next_goes_on, Blocks.next_state, Sizes.Small, Sizes.record_small, WholeRuns.reachable_call}
 use Rattle.trace.specs.{Answers.record_at, Answers.event_in, reader.Reading.record_after_of}
 use Rattle.listing.specs.declared.Summary.{Summary}
-use Rattle.listing.specs.{Lines.longest_line, Lines.reply_of, Printed.Printed, Summarised.report_in, Summarised.Performs}
+use Rattle.listing.specs.{Lines.longest_line, Lines.number_said, Lines.reply_of, Printed.Printed, Summarised.report_in, Summarised.Performs}
 use Rattle.listing.proofs.{Summarised.says_line, Texts.then, Texts.nothing}
 use Rattle.in_place.specs.Left.{Leaves}
 use Rattle.library_replay.specs.Taken.{may_take, taken_of, BlockOutcome, outcome_of, block_outcome, is_left_of, record_in_of, takes_next_of}
@@ -161,7 +161,7 @@ module _ (all : Bool) (done : ℕ) (s : Run) (block out : List ℕ) (run : Run) 
 
     pub one_taken : (e : Option Event) → e ≡ decoded next → (next-run : Run) (summary : Summary) (deleted : List ℕ) → Performs run e next-run summary deleted
         → (next_out : List ℕ) (next-written : ℕ) → Printed now-out written (line_text (done + (taken + 1)) (reply_of summary deleted)) next_out next-written → next-written ≤ length now-out
-        → (next-going : Bool) → next-going ≡ goes_on_of all summary.refused
+        → (next-going : Bool) → next-going ≡ goes_on_of all (number_said summary.refused)
         → SoFar all done s block out next-run (taken + 1) next_out next-written next-going
     unfolding report_in
     one_taken e read next-run summary deleted does next_out next-written printed fits next-going goes =
@@ -214,8 +214,8 @@ summary_small s e run summary deleted h =
 -- Calls from a start lead to the state after a record, and after the records of a block.
 pub reachable_record : (s : Run) → Reachable s → (e : Option Event) → Reachable (perform s e).run
 unfolding perform
-reachable_record s v none = v
-reachable_record s v (some e) = reachable_call s v (call_of e)
+reachable_record s v None = v
+reachable_record s v (Some e) = reachable_call s v (call_of e)
 
 pub reachable_records : (s : Run) → Reachable s → (l : List ℕ) → Reachable (state_after_records s l)
 unfolding state_after_records

@@ -1,10 +1,10 @@
 -- What the calls in place say of a record, with lists of 512 and 16 entries whatever these hold: the state and the reply of the record by the model, whose lists hold zeros.
 -- Assumes nothing.
 use Rattle.std.specs.Prelude.{◌≡◌, ◌≤◌}
-use Rattle.laws.specs.Basics.{refl, sym, ◌∙◌, ap, false, List, [], none, some, ℕ, arith, length, replicate, length-replicate, sets, by_bool}
-use Rattle.model.specs.declared.{Event.Event, Refusal.TheVariants.UnsoundState, Refusal.TheVariants.MalformedRecord, Run.Run, SendAnswer.SendAnswer}
+use Rattle.laws.specs.Basics.{refl, sym, ◌∙◌, ap, false, List, [], None, Some, ℕ, arith, length, replicate, length-replicate, sets, by_bool}
+use Rattle.model.specs.Shapes.{CheckpointAnswer, DeliverAnswer, LoseAnswer, RecoverAnswer, SendAnswer}
+use Rattle.model.specs.declared.{Event.Event, Refusal.TheVariants.UnsoundState, Refusal.TheVariants.MalformedRecord, Run.Run}
 use Rattle.model.specs.declared.Event.TheVariants.{Checkpoint, Send, Deliver, Lose, Recover}
-use Rattle.model.specs.declared.{CheckpointAnswer.CheckpointAnswer, DeliverAnswer.DeliverAnswer, LoseAnswer.LoseAnswer, RecoverAnswer.RecoverAnswer}
 use Rattle.model.specs.{Steps.Deletion, Steps.checkpoint_deletions, Steps.deliver_deletions, Steps.recover_deletions, Steps.forces, Words.process, Sound.sound}
 use Rattle.model.specs.Refusals.{checkpoint_refusal, send_refusal, deliver_refusal, lose_refusal, recover_refusal}
 use Rattle.model.specs.laws.Refusals.{by_refusal}
@@ -86,15 +86,15 @@ line_long = length-replicate {A = ℕ} 16 0
 
 checkpoint_few : (s : Run) (i : ℕ) → (checkpoint_report (checkpoint_outcome s i lent).answer).deletions ≤ 256
 unfolding perform call answered call_of
-checkpoint_few s i = (record_small s (some (Checkpoint i))).deletions
+checkpoint_few s i = (record_small s (Some (Checkpoint i))).deletions
 
 deliver_few : (s : Run) (m : ℕ) → (deliver_report (deliver_outcome s m lent).answer).deletions ≤ 256
 unfolding perform call answered call_of
-deliver_few s m = (record_small s (some (Deliver m))).deletions
+deliver_few s m = (record_small s (Some (Deliver m))).deletions
 
 recover_few : (s : Run) (F : ℕ) → (recover_report (recover_outcome s F lent lent_line).answer).deletions ≤ 256
 unfolding perform call answered call_of
-recover_few s F = (record_small s (some (Recover F))).deletions
+recover_few s F = (record_small s (Some (Recover F))).deletions
 
 -- A summary of the answer says what the record's reply says.
 says_alike : {A : Type 0} (report : A → Report) (o p : Outcome A) → Alike report o p → (summary : Summary) → report_in summary ≡ report o.answer
@@ -107,21 +107,21 @@ says_alike report o p h summary e =
 
 module _ (s : Run) where
   pub checkpoint_performs : (i : ℕ) (l : List ℕ) → length l ≡ 512 → {run : Run} → run ≡ (checkpoint_outcome s i l).run → {a : CheckpointAnswer} → a ≡ (checkpoint_outcome s i l).answer
-      → {deleted : List ℕ} → deleted ≡ (checkpoint_outcome s i l).deleted → {summary : Summary} → report_in summary ≡ checkpoint_report a → Performs s (some (Checkpoint i)) run summary deleted
+      → {deleted : List ℕ} → deleted ≡ (checkpoint_outcome s i l).deleted → {summary : Summary} → report_in summary ≡ checkpoint_report a → Performs s (Some (Checkpoint i)) run summary deleted
   unfolding perform call call_of answered
   checkpoint_performs i l long {run} r {a} b {deleted} d {summary} e =
       let h = checkpoint_alike l lent long lent_long s i (checkpoint_few s i) in
       record { state = r ∙ h.run; says = rw d (says_alike checkpoint_report (checkpoint_outcome s i l) (checkpoint_outcome s i lent) h summary (e ∙ ap checkpoint_report b)) }
 
   pub deliver_performs : (m : ℕ) (l : List ℕ) → length l ≡ 512 → {run : Run} → run ≡ (deliver_outcome s m l).run → {a : DeliverAnswer} → a ≡ (deliver_outcome s m l).answer
-      → {deleted : List ℕ} → deleted ≡ (deliver_outcome s m l).deleted → {summary : Summary} → report_in summary ≡ deliver_report a → Performs s (some (Deliver m)) run summary deleted
+      → {deleted : List ℕ} → deleted ≡ (deliver_outcome s m l).deleted → {summary : Summary} → report_in summary ≡ deliver_report a → Performs s (Some (Deliver m)) run summary deleted
   unfolding perform call call_of answered
   deliver_performs m l long {run} r {a} b {deleted} d {summary} e =
       let h = deliver_alike l lent long lent_long s m (deliver_few s m) in
       record { state = r ∙ h.run; says = rw d (says_alike deliver_report (deliver_outcome s m l) (deliver_outcome s m lent) h summary (e ∙ ap deliver_report b)) }
 
   pub recover_performs : (F : ℕ) (l line : List ℕ) → length l ≡ 512 → length line ≡ 16 → {run : Run} → run ≡ (recover_outcome s F l line).run → {a : RecoverAnswer} → a ≡ (recover_outcome s F l line).answer
-      → {deleted : List ℕ} → deleted ≡ (recover_outcome s F l line).deleted → {summary : Summary} → report_in summary ≡ recover_report a → Performs s (some (Recover F)) run summary deleted
+      → {deleted : List ℕ} → deleted ≡ (recover_outcome s F l line).deleted → {summary : Summary} → report_in summary ≡ recover_report a → Performs s (Some (Recover F)) run summary deleted
   unfolding perform call call_of answered
   recover_performs F l line long few {run} r {a} b {deleted} d {summary} e =
       let h = recover_alike l lent long lent_long s F line lent_line (few ∙ sym line_long) (recover_few s F) in
@@ -137,27 +137,27 @@ module _ (s : Run) where
   lose_none m = by_refusal (lose_refusal s m) (λ e. rw e) (λ why e. rw e)
 
   pub send_performs : (i j : ℕ) {run : Run} → run ≡ (send_outcome s i j).run → {a : SendAnswer} → a ≡ (send_outcome s i j).answer → {summary : Summary} → report_in summary ≡ send_report a
-      → (deleted : List ℕ) → Performs s (some (Send i j)) run summary deleted
+      → (deleted : List ℕ) → Performs s (Some (Send i j)) run summary deleted
   unfolding perform call call_of answered
   send_performs i j {run} r {a} b {summary} e deleted =
       let same = e ∙ ap send_report b in
       record { state = r; says = record { report = same; listed = none_listed summary (send_report (send_outcome s i j).answer) deleted (send_outcome s i j).deleted same (send_none i j) } }
 
   pub lose_performs : (m : ℕ) {run : Run} → run ≡ (lose_outcome s m).run → {a : LoseAnswer} → a ≡ (lose_outcome s m).answer → {summary : Summary} → report_in summary ≡ lose_report a
-      → (deleted : List ℕ) → Performs s (some (Lose m)) run summary deleted
+      → (deleted : List ℕ) → Performs s (Some (Lose m)) run summary deleted
   unfolding perform call call_of answered
   lose_performs m {run} r {a} b {summary} e deleted =
       let same = e ∙ ap lose_report b in
       record { state = r; says = record { report = same; listed = none_listed summary (lose_report (lose_outcome s m).answer) deleted (lose_outcome s m).deleted same (lose_none m) } }
 
   -- "14: .. given before any other number for that record"
-  pub malformed_performs : {summary : Summary} → report_in summary ≡ refusing MalformedRecord → (deleted : List ℕ) → Performs s none s summary deleted
+  pub malformed_performs : {summary : Summary} → report_in summary ≡ refusing MalformedRecord → (deleted : List ℕ) → Performs s None s summary deleted
   unfolding perform
   malformed_performs {summary} e deleted = record { state = refl; says = record { report = e; listed = none_listed summary (refusing MalformedRecord) deleted [] e refl } }
 
   -- a state that is not sound refuses every record with 2
   module _ (h : sound s ≡ false) where
-    unsound_call : (e : Event) → (s ≡ (perform s (some e)).run) × (refusing UnsoundState ≡ (perform s (some e)).reply.report)
+    unsound_call : (e : Event) → (s ≡ (perform s (Some e)).run) × (refusing UnsoundState ≡ (perform s (Some e)).reply.report)
     unfolding perform call call_of answered checkpoint_report send_report deliver_report lose_report recover_report
     unsound_call (Checkpoint i) = let u = checkpoint_unsound s h i lent in (u.0, ap checkpoint_report u.1.0)
     unsound_call (Send i j) = let u = send_unsound s h i j in (u.0, ap send_report u.1)
@@ -165,10 +165,10 @@ module _ (s : Run) where
     unsound_call (Lose m) = let u = lose_unsound s h m in (u.0, ap lose_report u.1)
     unsound_call (Recover F) = let u = recover_unsound s h F lent lent_line in (u.0, ap recover_report u.1.0)
 
-    pub unsound_performs : (e : Event) {summary : Summary} → report_in summary ≡ refusing UnsoundState → (deleted : List ℕ) → Performs s (some e) s summary deleted
+    pub unsound_performs : (e : Event) {summary : Summary} → report_in summary ≡ refusing UnsoundState → (deleted : List ℕ) → Performs s (Some e) s summary deleted
     unsound_performs e {summary} same deleted =
         let u = unsound_call e in
-        record { state = u.0; says = record { report = same ∙ u.1; listed = none_listed summary (refusing UnsoundState) deleted (perform s (some e)).reply.deleted same refl } }
+        record { state = u.0; says = record { report = same ∙ u.1; listed = none_listed summary (refusing UnsoundState) deleted (perform s (Some e)).reply.deleted same refl } }
 
   -- calls from a start lead to the state after it
   pub recover_reachable : Reachable s → (F : ℕ) (l line : List ℕ) → Reachable (recover_outcome s F l line).run

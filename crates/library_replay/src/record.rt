@@ -1,9 +1,8 @@
 // One record on the words: the call that it stands for, what its line says, and whether the words then stand for a sound state.
 ghost use Rattle.std.specs.Prelude.{◌≡◌};
-ghost use Rattle.laws.specs.Basics.{true, List, some, ℕ, length};
+ghost use Rattle.laws.specs.Basics.{true, List, Some, ℕ, length};
 ghost use Rattle.model.specs.{Sound.sound, Words.most_deletions, Words.most_processes};
 ghost use Rattle.whole_runs.specs.{Outcomes.refusing, WholeRuns.Reachable};
-ghost use Rattle.trace.specs.Answers.{event_read};
 ghost use Rattle.listing.specs.Summarised.{report_in, Performs};
 ghost use Rattle.words.specs.Layout.{run_of};
 ghost use Rattle.in_place.specs.Left.{Leaves};
@@ -11,7 +10,6 @@ ghost use Rattle.model.specs.declared.Event.TheVariants as event;
 
 use listing::Summary;
 use model::{Event, Refusal};
-use trace::Decoded;
 
 // What a record comes to: what its line says, and whether the words then stand for a sound state.
 #[derive(Clone, Copy)]
@@ -23,7 +21,7 @@ pub struct Applied {
 fn refuse(why: Refusal, still: bool) -> Applied
     ensures { (report_in result.summary ≡ refusing why) × (result.sound ≡ still) }
 {
-    let summary = listing::summaries::refused(why);
+    let summary = Summary::from(why);
     Applied {
         summary,
         sound: still,
@@ -32,12 +30,12 @@ fn refuse(why: Refusal, still: bool) -> Applied
 
 fn checkpoint(w: &mut [u16], i: usize, deleted: &mut [u16]) -> Applied
     requires { (sound (run_of w.old) ≡ true) × (length deleted.old ≡ most_deletions) }
-    ensures performs { Performs (run_of w.old) (some (event.Checkpoint i)) (run_of w.new) result.summary deleted.new }
+    ensures performs { Performs (run_of w.old) (Some (event.Checkpoint i)) (run_of w.new) result.summary deleted.new }
     ensures sound_value { result.sound ≡ sound (run_of w.new) }
     ensures leaves { Leaves w.old w.new }
 {
     let answer = in_place::checkpoint::checkpoint_on(w, i, deleted);
-    let summary = listing::summaries::of_checkpoint(answer);
+    let summary = Summary::from(answer);
     Applied {
         summary,
         sound: true,
@@ -46,12 +44,12 @@ fn checkpoint(w: &mut [u16], i: usize, deleted: &mut [u16]) -> Applied
 
 fn send(w: &mut [u16], i: usize, j: usize) -> Applied
     requires { sound (run_of w.old) ≡ true }
-    ensures by_index { (deleted : List ℕ) → Performs (run_of w.old) (some (event.Send i j)) (run_of w.new) result.summary deleted }
+    ensures by_index { (deleted : List ℕ) → Performs (run_of w.old) (Some (event.Send i j)) (run_of w.new) result.summary deleted }
     ensures sound_value { result.sound ≡ sound (run_of w.new) }
     ensures leaves { Leaves w.old w.new }
 {
     let answer = in_place::send::send_on(w, i, j);
-    let summary = listing::summaries::of_send(answer);
+    let summary = Summary::from(answer);
     Applied {
         summary,
         sound: true,
@@ -60,13 +58,13 @@ fn send(w: &mut [u16], i: usize, j: usize) -> Applied
 
 fn deliver(w: &mut [u16], m: u32, deleted: &mut [u16]) -> Applied
     requires { (sound (run_of w.old) ≡ true) × (length deleted.old ≡ most_deletions) }
-    ensures performs { Performs (run_of w.old) (some (event.Deliver m)) (run_of w.new) result.summary deleted.new }
+    ensures performs { Performs (run_of w.old) (Some (event.Deliver m)) (run_of w.new) result.summary deleted.new }
     ensures sound_value { result.sound ≡ sound (run_of w.new) }
     ensures leaves { Leaves w.old w.new }
 {
     let delivered = in_place::deliver::deliver_on(w, m, deleted);
     let answer = delivered.answer;
-    let summary = listing::summaries::of_deliver(answer);
+    let summary = Summary::from(answer);
     Applied {
         summary,
         sound: true,
@@ -75,12 +73,12 @@ fn deliver(w: &mut [u16], m: u32, deleted: &mut [u16]) -> Applied
 
 fn lose(w: &mut [u16], m: u32) -> Applied
     requires { sound (run_of w.old) ≡ true }
-    ensures by_index { (deleted : List ℕ) → Performs (run_of w.old) (some (event.Lose m)) (run_of w.new) result.summary deleted }
+    ensures by_index { (deleted : List ℕ) → Performs (run_of w.old) (Some (event.Lose m)) (run_of w.new) result.summary deleted }
     ensures sound_value { result.sound ≡ sound (run_of w.new) }
     ensures leaves { Leaves w.old w.new }
 {
     let answer = in_place::lose::lose_on(w, m);
-    let summary = listing::summaries::of_lose(answer);
+    let summary = Summary::from(answer);
     Applied {
         summary,
         sound: true,
@@ -110,12 +108,12 @@ fn recover(
     line: &mut [u16],
 ) -> Applied
     requires { (sound (run_of w.old) ≡ true) × (reached ≡ true → Reachable (run_of w.old)) × (length deleted.old ≡ most_deletions) × (length line.old ≡ most_processes) }
-    ensures performs { Performs (run_of w.old) (some (event.Recover failed)) (run_of w.new) result.summary deleted.new }
+    ensures performs { Performs (run_of w.old) (Some (event.Recover failed)) (run_of w.new) result.summary deleted.new }
     ensures sound_value { result.sound ≡ sound (run_of w.new) }
     ensures leaves { Leaves w.old w.new }
 {
     let answer = in_place_recover::recover_on(w, failed, deleted, line);
-    let summary = listing::summaries::of_recover(answer);
+    let summary = Summary::from(answer);
     let still = sound_after(w, reached, summary.deletions);
     Applied {
         summary,
@@ -132,7 +130,7 @@ fn event_on(
     line: &mut [u16],
 ) -> Applied
     requires { (sound (run_of w.old) ≡ true) × (reached ≡ true → Reachable (run_of w.old)) × (length deleted.old ≡ most_deletions) × (length line.old ≡ most_processes) }
-    ensures performs { Performs (run_of w.old) (some e) (run_of w.new) result.summary deleted.new }
+    ensures performs { Performs (run_of w.old) (Some e) (run_of w.new) result.summary deleted.new }
     ensures sound_value { result.sound ≡ sound (run_of w.new) }
     ensures leaves { Leaves w.old w.new }
 {
@@ -151,18 +149,18 @@ pub fn apply(
     w: &mut [u16],
     still: bool,
     reached: bool,
-    d: Decoded,
+    d: Option<Event>,
     deleted: &mut [u16],
     line: &mut [u16],
 ) -> Applied
     requires { (still ≡ sound (run_of w.old)) × (reached ≡ true → Reachable (run_of w.old)) × (length deleted.old ≡ most_deletions) × (length line.old ≡ most_processes) }
-    ensures performs { Performs (run_of w.old) (event_read d) (run_of w.new) result.summary deleted.new }
+    ensures performs { Performs (run_of w.old) d (run_of w.new) result.summary deleted.new }
     ensures sound_value { result.sound ≡ sound (run_of w.new) }
     ensures leaves { Leaves w.old w.new }
 {
     match d {
-        Decoded::Malformed => refuse(Refusal::MalformedRecord, still),
-        Decoded::StandsFor(e) => {
+        None => refuse(Refusal::MalformedRecord, still),
+        Some(e) => {
             if still {
                 event_on(w, reached, e, deleted, line)
             } else {

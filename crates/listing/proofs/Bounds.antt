@@ -1,7 +1,7 @@
 -- No line is longer than `longest_line`: a bound for the buffer that lines are printed into.
 -- Assumes nothing.
 use Rattle.std.specs.Prelude.{◌≡◌, ◌∷◌, ◌*◌, ◌^◌, ◌≤◌, ◌<◌}
-use Rattle.laws.specs.Basics.{refl, List, [], Option, none, some, ℕ, zero, suc, arith, eqb, length, get_or, length-append, by_bool}
+use Rattle.laws.specs.Basics.{refl, List, [], Option, None, Some, ℕ, zero, suc, arith, eqb, length, get_or, length-append, by_bool}
 use Rattle.whole_runs.specs.{Calls.Reply, Listing.decimal, Listing.value_text, Listing.deletions_text, Listing.accepted_text, Listing.line_text}
 use Rattle.listing.specs.Lines.{longest_line}
 use Rattle.listing.proofs.Digits.{no_more, at_most_lem}
@@ -15,10 +15,10 @@ pub twenty_digits : (n : ℕ) → length (decimal n) ≤ 20
 unfolding decimal
 twenty_digits n = no_more 20 n
 
-value_length : (o : Option ℕ) → ((v : ℕ) → o ≡ some v → v < 10000000000) → length (value_text o) ≤ 10
+value_length : (o : Option ℕ) → ((v : ℕ) → o ≡ Some v → v < 10000000000) → length (value_text o) ≤ 10
 unfolding value_text
-value_length none h = omega arith
-value_length (some v) h = decimal_length 10 v (omega arith) (h v refl)
+value_length None h = omega arith
+value_length (Some v) h = decimal_length 10 v (omega arith) (h v refl)
 
 -- A deletion takes at most 12 bytes: a space, a colon, and two numbers of 16 bits.
 deletions_length : (k : ℕ) (l : List ℕ) → ((j : ℕ) → get_or l j 0 < 65536) → length (deletions_text k l) ≤ 12 * k
@@ -33,7 +33,7 @@ deletions_length (suc k) (p ∷ i ∷ l) h =
 
 -- For every record number of a replay, every number of 32 bits as the value, and as many deletions as 16 processes can have.
 pub line_length : (number : ℕ) (r : Reply) → number ≤ 1000000000 → r.report.refused < 1000
-    → ((v : ℕ) → r.report.value ≡ some v → v < 10000000000) → r.report.deletions ≤ 256 → ((j : ℕ) → get_or r.deleted j 0 < 65536)
+    → ((v : ℕ) → r.report.value ≡ Some v → v < 10000000000) → r.report.deletions ≤ 256 → ((j : ℕ) → get_or r.deleted j 0 < 65536)
     → length (line_text number r) ≤ longest_line
 unfolding line_text accepted_text
 line_length number r hn hr hv hd hl =

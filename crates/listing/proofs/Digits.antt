@@ -1,6 +1,6 @@
 -- The decimal digits of a number: how many there are, by powers of ten, and what stands in a buffer while they are stored, the last one first.
 -- Assumes nothing.
-use Rattle.std.specs.Prelude.{◌≡◌, ◌∷◌, ◌++◌, ◌+◌, ◌-◌, ◌/◌, ◌%◌, ◌^◌, ◌≤◌, ◌<◌}
+use Rattle.std.specs.Prelude.{◌≡◌, ◌∷◌, ◌++◌, ◌+◌, ◌-◌, ◌*◌, ◌/◌, ◌%◌, ◌^◌, ◌≤◌, ◌<◌}
 use Rattle.laws.specs.Basics.{refl, sym, ◌∙◌, ap, List, [], append-nil, append_assoc, ℕ, zero, suc, arith, ltb, length, set, length-set, length-append, sets, lt-ltb, le-ltb, ltb-true, ltb-false, by_bool}
 use native.Mathlib.Nat.{pow-suc, one-le-pow}
 use lib.Seq.{set_comm}
@@ -50,6 +50,12 @@ more_than (suc k) zero n h l = at_least_one k n
 more_than (suc k) (suc w) n h l =
     let ten : 10 ≤ n = omega (arith, pow-suc 10 w, one-le-pow w 10 (omega arith)) in
     rw (length_more k n ten) (omega (arith, more_than k w (n / 10) (omega (arith, pow-suc 10 w)) (omega arith)))
+
+-- A number from ten to the power of k on, and below the next power, has one digit more than k.
+pub digits_counted : (k x : ℕ) → 10 ^ k ≤ x → x < 10 * 10 ^ k → k < 20 → k + 1 ≡ length (decimal x)
+unfolding decimal
+digits_counted k x low high few =
+    omega (arith, more_than 20 k x low few, at_most_lem 20 (suc k) x (omega arith) (omega (arith, pow-suc 10 k)))
 
 -- A store in front of values that were stored.
 set_before : (l : List ℕ) (i p : ℕ) (vs : List ℕ) (d : ℕ) → p < i → set (sets l i vs) p d ≡ sets (set l p d) i vs
@@ -112,19 +118,26 @@ two_stored before at x out place rest s h =
     let less : rest / 100 ≡ rest / 10 / 10 = omega arith in
     rw (last, first, last-digit, first-digit, less, set_comm out (place - 1 - 1) (place - 1) (48 + rest / 10 % 10) (48 + rest % 10) (omega arith)) two
 
+-- Where the digits stand: after the first place, inside a buffer that has room for all of them; two more, if the rest has three; the first two, if it has two.
+pub inside : {before : List ℕ} {at x : ℕ} {out : List ℕ} {place rest : ℕ} → Storing before at x out place rest → at + length (decimal x) ≤ length before → (at < place) × (place ≤ length out)
+inside {before} {at} {x} {out} {place} {rest} s room = let b = between before at x out place rest s in (b.0, omega (arith, b.1, s.same_length))
+
+pub two_before : {before : List ℕ} {at x : ℕ} {out : List ℕ} {place rest : ℕ} → Storing before at x out place rest → 100 ≤ rest → at + 2 < place
+two_before {before} {at} {x} {out} {place} {rest} s h = omega (arith, between before at x _ (place - 2) (rest / 100) (two_stored before at x out place rest s h))
+
 -- The first digit is stored: that is the whole number.
-pub all_stored : (before : List ℕ) (at x : ℕ) (out : List ℕ) (place rest : ℕ) → Storing before at x out place rest → rest < 10 → set out at (48 + rest) ≡ sets before at (decimal x)
-all_stored before at x out place rest s h =
+pub all_stored : {before : List ℕ} {at x : ℕ} {out : List ℕ} {place rest : ℕ} → Storing before at x out place rest → rest < 10 → set out at (48 + rest) ≡ sets before at (decimal x)
+all_stored {before} {at} {x} {out} {place} {rest} s h =
     let one = one_digit s.left rest h in
     in_front before out at place (48 + rest) s.stored (omega (arith, ap length one)) s.holds
     ∙ ap (λ (l : List ℕ). sets before at l) (sym (s.all ∙ ap (λ (l : List ℕ). l ++ s.stored) one))
 
 -- The first two digits are stored.
-pub all_stored_by_two : (before : List ℕ) (at x : ℕ) (out : List ℕ) (place rest : ℕ) → Storing before at x out place rest → 10 ≤ rest → rest < 100
+pub all_stored_by_two : {before : List ℕ} {at x : ℕ} {out : List ℕ} {place rest : ℕ} → Storing before at x out place rest → 10 ≤ rest → rest < 100
     → (place ≡ at + 2) × (set (set out at (48 + rest / 10)) (at + 1) (48 + rest % 10) ≡ sets before at (decimal x))
-all_stored_by_two before at x out place rest s low high =
+all_stored_by_two {before} {at} {x} {out} {place} {rest} s low high =
     let one = one_stored before at x out place rest s low in
     let next : place - 1 ≡ at + 1 = omega (arith, one.next, ap length (one_digit one.left (rest / 10) (omega arith))) in (
       omega (arith, between before at x out place rest s),
-      rw (set_comm out at (at + 1) (48 + rest / 10) (48 + rest % 10) (omega arith), ← next) (all_stored before at x (set out (place - 1) (48 + rest % 10)) (place - 1) (rest / 10) one (omega arith)),
+      rw (set_comm out at (at + 1) (48 + rest / 10) (48 + rest % 10) (omega arith), ← next) (all_stored one (omega arith)),
     )

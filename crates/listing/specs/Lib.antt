@@ -1,4 +1,5 @@
 pub mod Lines
 pub mod Printed
+pub mod Reports
 pub mod Summarised
 pub mod answers

@@ -1,17 +1,19 @@
 -- What a line says, as the model has it: a summary of a reply, and the text of one deletion.
 -- Assumes nothing.
 use Rattle.std.specs.Prelude.{◌∷◌, ◌++◌}
-use Rattle.laws.specs.Basics.{List, [], Option, none, some, ℕ}
+use Rattle.laws.specs.Basics.{List, [], Option, None, Some, ℕ}
+use Rattle.model.specs.{declared.Refusal.Refusal, Refusals.number}
 use Rattle.whole_runs.specs.{Calls.Reply, Listing.decimal, Listing.space, Listing.colon, Listing.line_feed}
-use Rattle.listing.specs.declared.{Value.Value, Value.TheVariants.Hyphen, Value.TheVariants.Number, Summary.Summary}
+use Rattle.listing.specs.declared.Summary.{Summary}
 
-unfoldable pub value_in : Value → Option ℕ
-value_in Hyphen = none
-value_in (Number v) = some v
+-- The number that a line says: that of the refusal, 0 if there is none.
+abbrev pub number_said : Option Refusal → ℕ
+number_said None = 0
+number_said (Some why) = number why
 
 -- The reply that a summary and a deletion list make. A line prints nothing of a line list.
 unfoldable pub reply_of : Summary → List ℕ → Reply
-reply_of s deleted = record { report = record { refused = s.refused; value = value_in s.value; deletions = s.deletions }; rose = 0; deleted = deleted; line = [] }
+reply_of s deleted = record { report = record { refused = number_said s.refused; value = s.value; deletions = s.deletions }; rose = 0; deleted = deleted; line = [] }
 
 -- "each as process:index", after a space
 unfoldable pub pair_text : ℕ → ℕ → List ℕ

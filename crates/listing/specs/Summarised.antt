@@ -5,11 +5,11 @@ use Rattle.laws.specs.Basics.{List, Option, ℕ}
 use Rattle.model.specs.declared.{Run.Run, Event.Event}
 use Rattle.whole_runs.specs.{Outcomes.Report, Calls.Reply, Listing.deletions_text, Listing.perform}
 use Rattle.listing.specs.declared.Summary.{Summary}
-use Rattle.listing.specs.Lines.{value_in}
+use Rattle.listing.specs.Lines.{number_said}
 
 -- The report that a summary stands for.
 unfoldable pub report_in : Summary → Report
-report_in summary = record { refused = summary.refused; value = value_in summary.value; deletions = summary.deletions }
+report_in summary = record { refused = number_said summary.refused; value = summary.value; deletions = summary.deletions }
 
 -- A summary with a deletion list says what a reply says.
 pub record Says (summary : Summary) (deleted : List ℕ) (reply : Reply) : Type 0 where

@@ -1,126 +1,139 @@
 // What a line says of each answer: the number that document 01 gives a refusal, the value, the count of deletions.
-ghost use Rattle.std.specs.Prelude.{◌≡◌};
-ghost use Rattle.model.specs.Refusals.{number};
-ghost use Rattle.whole_runs.specs.Outcomes.{refusing, start_report, checkpoint_report, send_report, deliver_report, lose_report, line_report, recover_report};
-ghost use Rattle.listing.specs.Summarised.{report_in};
+ghost use Rattle.std.specs.Prelude.{◌≡◌, Result, Ok, Err};
+ghost use Rattle.model.specs.{declared.Refusal.Refusal, Refusals.number};
+ghost use Rattle.whole_runs.specs.Outcomes.{Report, refusing, accepting, start_report, checkpoint_report, send_report, deliver_report, recover_report};
+ghost use Rattle.listing.specs.{Lines.number_said, Summarised.report_in, Reports.count_report, Reports.start_refused, Reports.checkpoint_refused, Reports.send_refused, Reports.deliver_refused, Reports.recover_refused, Reports.count_refused};
 
-use crate::{Summary, Value};
-use model::{
-    CheckpointAnswer, DeliverAnswer, LineAnswer, LoseAnswer, RecoverAnswer, Refusal, SendAnswer,
-    StartAnswer,
-};
+use crate::Summary;
+use model::{Delivery, Recovery, Refusal, Stored};
 
+#[tactic(auto, unfolding(model::specs::Refusals::number))]
 pub fn number_of(r: Refusal) -> u8
     ensures { result ≡ number r }
 {
-    match r {
-        Refusal::CountOutsideRange => 1,
-        Refusal::UnsoundState => 2,
-        Refusal::ListTooShort => 3,
-        Refusal::NoSuchProcess => 4,
-        Refusal::SenderIsReceiver => 5,
-        Refusal::NoSuchFailedProcess => 7,
-        Refusal::NotUnderWay => 8,
-        Refusal::TooManyUnderWay => 9,
-        Refusal::MessageNumbersUsed => 10,
-        Refusal::IntervalsUsed => 11,
-        Refusal::NoFirstByte => 12,
-        Refusal::LeftOverBytes => 13,
-        Refusal::MalformedRecord => 14,
-        Refusal::BlockCountOutsideRange => 15,
-        Refusal::BlocksUsed => 16,
-        Refusal::TooManyRecords => 17,
-        Refusal::UnfitNamedList => 18,
-        Refusal::NotKept => 19,
-        Refusal::CausallyOrdered => 20,
-        Refusal::BufferTooShort => 21,
-        Refusal::TrialOutsideRange => 22,
-        Refusal::HalvesMismatch => 23,
-        Refusal::NeitherReady => 24,
-        Refusal::Denied => 25,
+    r as u8
+}
+
+impl Summary {
+    // Of a call that is accepted.
+    #[tactic(auto, unfolding(crate::specs::Summarised::report_in))]
+    fn accepting(value: Option<u64>, deletions: usize) -> Summary
+        ensures { report_in result ≡ accepting value deletions }
+    {
+        Summary {
+            refused: None,
+            value,
+            deletions,
+        }
+    }
+
+    // The number that a line says: that of the refusal, 0 if there is none.
+    pub fn number(self) -> u8
+        ensures { result ≡ number_said self.refused }
+    {
+        self.refused.map_or(0, number_of)
     }
 }
 
-pub fn refused(r: Refusal) -> Summary
-    ensures { report_in result ≡ refusing r }
-{
-    Summary {
-        refused: number_of(r),
-        value: Value::Hyphen,
-        deletions: 0,
+#[tactic(auto, unfolding(crate::specs::Summarised::report_in))]
+impl From<Refusal> for Summary {
+    ghost from_gives = { λ why s. report_in s ≡ refusing why };
+
+    fn from(why: Refusal) -> Summary {
+        Summary {
+            refused: Some(why),
+            value: None,
+            deletions: 0,
+        }
     }
 }
 
-fn accepted(value: Value, deletions: usize) -> Summary
-    ensures { result ≡ record { refused = 0; value = value; deletions = deletions } }
-{
-    Summary {
-        refused: 0,
-        value,
-        deletions,
+// What an accepted call answers, and what a line says of it. `report` is the model's report of the call's answer, refused or accepted.
+pub trait Accepted {
+    ghost report: { Result Self Refusal → Report };
+
+    fn summary(self) -> Summary
+        ensures { report_in result ≡ report (Ok self) };
+
+    // Of a refusal a report has the number alone.
+    ghost refusal: { (why : Refusal) → report (Err why) ≡ refusing why };
+}
+
+#[tactic(auto, unfolding(whole_runs::specs::Outcomes::start_report))]
+impl Accepted for () {
+    ghost report = { start_report };
+
+    ghost refusal = { start_refused };
+
+    fn summary(self) -> Summary {
+        Summary::accepting(None, 0)
     }
 }
 
-pub fn of_start(a: StartAnswer) -> Summary
-    ensures { report_in result ≡ start_report a }
-{
-    match a {
-        StartAnswer::Refused(r) => refused(r),
-        StartAnswer::Started => accepted(Value::Hyphen, 0),
+#[tactic(auto, unfolding(whole_runs::specs::Outcomes::checkpoint_report))]
+impl Accepted for Stored {
+    ghost report = { checkpoint_report };
+
+    ghost refusal = { checkpoint_refused };
+
+    fn summary(self) -> Summary {
+        Summary::accepting(Some(u64::from(self.index.0)), self.deleted)
     }
 }
 
-pub fn of_checkpoint(a: CheckpointAnswer) -> Summary
-    ensures { report_in result ≡ checkpoint_report a }
-{
-    match a {
-        CheckpointAnswer::Refused(r) => refused(r),
-        CheckpointAnswer::Stored(index, count) => accepted(Value::Number(index.0 as u64), count),
+// The number of a message.
+#[tactic(auto, unfolding(whole_runs::specs::Outcomes::send_report))]
+impl Accepted for u32 {
+    ghost report = { send_report };
+
+    ghost refusal = { send_refused };
+
+    fn summary(self) -> Summary {
+        Summary::accepting(Some(u64::from(self)), 0)
     }
 }
 
-pub fn of_send(a: SendAnswer) -> Summary
-    ensures { report_in result ≡ send_report a }
-{
-    match a {
-        SendAnswer::Refused(r) => refused(r),
-        SendAnswer::Sent(number) => accepted(Value::Number(number as u64), 0),
+#[tactic(auto, unfolding(whole_runs::specs::Outcomes::deliver_report))]
+impl Accepted for Delivery {
+    ghost report = { deliver_report };
+
+    ghost refusal = { deliver_refused };
+
+    fn summary(self) -> Summary {
+        Summary::accepting(self.forced.map(|index| u64::from(index.0)), self.deleted)
     }
 }
 
-pub fn of_deliver(a: DeliverAnswer) -> Summary
-    ensures { report_in result ≡ deliver_report a }
-{
-    match a {
-        DeliverAnswer::Refused(r) => refused(r),
-        DeliverAnswer::Received(count) => accepted(Value::Hyphen, count),
-        DeliverAnswer::Forced(index, count) => accepted(Value::Number(index.0 as u64), count),
+#[tactic(auto, unfolding(whole_runs::specs::Outcomes::recover_report))]
+impl Accepted for Recovery {
+    ghost report = { recover_report };
+
+    ghost refusal = { recover_refused };
+
+    fn summary(self) -> Summary {
+        Summary::accepting(Some(self.rolled_back as u64), self.deleted)
     }
 }
 
-pub fn of_lose(a: LoseAnswer) -> Summary
-    ensures { report_in result ≡ lose_report a }
-{
-    match a {
-        LoseAnswer::Refused(r) => refused(r),
-        LoseAnswer::Lost => accepted(Value::Hyphen, 0),
+// How many entries were listed or written.
+#[tactic(auto, unfolding(crate::specs::Reports::count_report))]
+impl Accepted for usize {
+    ghost report = { count_report };
+
+    ghost refusal = { count_refused };
+
+    fn summary(self) -> Summary {
+        Summary::accepting(Some(self as u64), 0)
     }
 }
 
-pub fn of_line(a: LineAnswer) -> Summary
-    ensures { report_in result ≡ line_report a }
-{
-    match a {
-        LineAnswer::Refused(r) => refused(r),
-        LineAnswer::Written => accepted(Value::Hyphen, 0),
-    }
-}
+impl<A: Accepted> From<Result<A, Refusal>> for Summary {
+    ghost from_gives = { λ answer s. report_in s ≡ A.report answer };
 
-pub fn of_recover(a: RecoverAnswer) -> Summary
-    ensures { report_in result ≡ recover_report a }
-{
-    match a {
-        RecoverAnswer::Refused(r) => refused(r),
-        RecoverAnswer::Recovered(rolled, count) => accepted(Value::Number(rolled as u64), count),
+    fn from(answer: Result<A, Refusal>) -> Summary {
+        match answer {
+            Err(why) => Summary::from(why),
+            Ok(a) => a.summary(),
+        }
     }
 }

@@ -1,7 +1,8 @@
 -- A call is made with the lists that are lent for it, and its line is at the front of the buffer.
 -- Assumes nothing.
 use Rattle.std.specs.Prelude.{◌≡◌, ◌∷◌, ◌-◌, ◌*◌, ◌≤◌}
-use Rattle.laws.specs.Basics.{refl, ◌∙◌, ap, Bool, List, [], Option, none, some, ℕ, zero, suc, arith, length, take, replicate, length-replicate, pick, by_bool}
+use Rattle.listing.specs.Lines.{number_said}
+use Rattle.laws.specs.Basics.{refl, ◌∙◌, ap, Bool, List, [], Option, None, Some, ℕ, zero, suc, arith, length, take, replicate, length-replicate, pick, by_bool}
 use lib.Seq.{length-sets}
 use Rattle.model.specs.declared.Run.{Run}
 use Rattle.model.specs.Refusals.{number}
@@ -46,8 +47,8 @@ lent_is short size most k h e = ap (λ (j : ℕ). take j (replicate {A = ℕ} mo
 pub makes : (s : Run) (k : ℕ) (c : Call) (n : ℕ) (w' out out' pairs line pairs' line' : List ℕ) (r : Replied) (size : ℕ)
     → n ≡ processes s → pairs ≡ lent_pairs s c → line ≡ lent_line s c
     → Replies c.operation (made_with c.operation s c pairs line) w' r pairs' line'
-    → Printed out 0 (line_text k r.summary.refused (answer_text c.operation c.caller n (reply_of r pairs' line'))) out' size → size ≤ length out
-    → Makes s k (some c) w' out' size
+    → Printed out 0 (line_text k (number_said r.summary.refused) (answer_text c.operation c.caller n (reply_of r pairs' line'))) out' size → size ≤ length out
+    → Makes s k (Some c) w' out' size
 unfolding made_on call_text tail_text
 makes s k c n w' out out' pairs line pairs' line' r size many ps ls replies printed inside =
     let same : made_with c.operation s c pairs line ≡ made_with c.operation s c (lent_pairs s c) (lent_line s c) = λ j. made_with c.operation s c (ps j) (ls j) in
@@ -57,11 +58,11 @@ makes s k c n w' out out' pairs line pairs' line' r size many ps ls replies prin
           front_text out _ out' size printed inside
           ∙ (λ j. line_text k (replies.refused j) (replies.answer c.caller n j))
           ∙ (λ j. line_text k (same j).reply.report.refused (answer_text c.operation c.caller (many j) (same j).reply));
-      inside = omega (arith, inside, ap (λ (l : List ℕ). length l) printed.holds, length-sets out 0 (line_text k r.summary.refused (answer_text c.operation c.caller n (reply_of r pairs' line'))));
+      inside = omega (arith, inside, ap (λ (l : List ℕ). length l) printed.holds, length-sets out 0 (line_text k (number_said r.summary.refused) (answer_text c.operation c.caller n (reply_of r pairs' line'))));
     }
 
 -- What is no call is refused.
-pub makes_none : (k : ℕ) (w out out' : List ℕ) (o : Option Call) (size : ℕ) → o ≡ none → Printed out 0 (line_text k 14 []) out' size → size ≤ length out → Makes (run_of w) k o w out' size
+pub makes_none : (k : ℕ) (w out out' : List ℕ) (o : Option Call) (size : ℕ) → o ≡ None → Printed out 0 (line_text k 14 []) out' size → size ≤ length out → Makes (run_of w) k o w out' size
 unfolding made_on call_text tail_text number
 makes_none k w out out' o size e printed inside = rw e (record {
   run = refl;
@@ -72,23 +73,23 @@ makes_none k w out out' o size e printed inside = rw e (record {
 -- What eight bytes are.
 pub never_ended : {P : Type 0} (o : Option Call) → asked o ≡ Ended → P
 unfolding asked
-never_ended none e = never (cc)
-never_ended (some c) e = never (cc)
+never_ended None e = never (cc)
+never_ended (Some c) e = never (cc)
 
 pub never_left_over : {P : Type 0} (o : Option Call) → asked o ≡ LeftOver → P
 unfolding asked
-never_left_over none e = never (cc)
-never_left_over (some c) e = never (cc)
+never_left_over None e = never (cc)
+never_left_over (Some c) e = never (cc)
 
-pub malformed_none : (o : Option Call) → asked o ≡ Malformed → o ≡ none
+pub malformed_none : (o : Option Call) → asked o ≡ Malformed → o ≡ None
 unfolding asked
-malformed_none none e = refl
-malformed_none (some c) e = cc
+malformed_none None e = refl
+malformed_none (Some c) e = cc
 
-pub asks_some : (o : Option Call) (c : Call) → asked o ≡ Asks c → o ≡ some c
+pub asks_some : (o : Option Call) (c : Call) → asked o ≡ Asks c → o ≡ Some c
 unfolding asked
-asks_some none c e = cc
-asks_some (some d) c e = cc
+asks_some None c e = cc
+asks_some (Some d) c e = cc
 
 pub eight_is : (bytes : List ℕ) → next_of 8 bytes ≡ asked (call_of bytes)
 unfolding next_of

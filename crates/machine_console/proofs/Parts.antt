@@ -1,7 +1,7 @@
 -- The texts of pairs and of a line list: how long they are, and what one entry more adds.
 -- Assumes nothing.
 use Rattle.std.specs.Prelude.{◌≡◌, ◌∷◌, ◌++◌, ◌+◌, ◌*◌, ◌/◌, ◌≤◌, ◌<◌}
-use Rattle.laws.specs.Basics.{refl, sym, ◌∙◌, ap, subst, List, [], append-nil, append_assoc, Option, none, some, ℕ, zero, suc, min, arith, eqb, ltb, length, get_or, take, length-append, ne_eqb, ltb-true, ltb-false, by_bool}
+use Rattle.laws.specs.Basics.{refl, sym, ◌∙◌, ap, subst, List, [], append-nil, append_assoc, Option, None, Some, ℕ, zero, suc, min, arith, eqb, ltb, length, get_or, take, length-append, ne_eqb, ltb-true, ltb-false, by_bool}
 use native.Mathlib.Numerals.{add-one}
 use lib.Seq.{take_all}
 use Rattle.whole_runs.specs.Listing.{decimal, space, colon, line_feed, value_text, deletions_text}
@@ -12,8 +12,8 @@ use Rattle.machine_console.specs.Text.{field_text, entries_text, member_shown, m
 
 pub value_length : (v : Option ℕ) → length (value_text v) ≤ 20
 unfolding value_text
-value_length none = omega arith
-value_length (some x) = twenty_digits x
+value_length None = omega arith
+value_length (Some x) = twenty_digits x
 
 pub deletions_length : (k : ℕ) (l : List ℕ) → length (deletions_text k l) ≤ 21 * length l
 unfolding deletions_text
@@ -65,24 +65,24 @@ everyone = record { role = Operator; owned = 0 }
 pub entries_members : (n p : ℕ) (l : List ℕ) → members_text everyone n p l ≡ entries_text l
 unfolding members_text entries_text member_shown entitled entitled_by
 entries_members n p [] = refl
-entries_members n p (x ∷ l) = ap (λ (z : List ℕ). field_text (some x) ++ z) (entries_members n (suc p) l)
+entries_members n p (x ∷ l) = ap (λ (z : List ℕ). field_text (Some x) ++ z) (entries_members n (suc p) l)
 
 -- A text that is another one, printed.
 pub printed_as : {l m s t : List ℕ} {at p : ℕ} → t ≡ s → Printed l at s m p → Printed l at t m p
 printed_as {l} {m} {s} {t} {at} {p} e h = subst (λ (x : List ℕ). Printed l at x m p) (sym e) h
 
 -- The texts of a line by its parts.
-pub refused_line : (k x : ℕ) → line_text k x [] ≡ (decimal k ++ field_text (some x)) ++ (line_feed ∷ [])
+pub refused_line : (k x : ℕ) → line_text k x [] ≡ (decimal k ++ field_text (Some x)) ++ (line_feed ∷ [])
 unfolding line_text
 refused_line k x = by_bool (eqb x 0)
-    (λ e. rw e (sym (append_assoc (decimal k) (field_text (some x)) (line_feed ∷ []))))
-    (λ e. rw e (sym (append_assoc (decimal k) (field_text (some x)) (line_feed ∷ []))))
+    (λ e. rw e (sym (append_assoc (decimal k) (field_text (Some x)) (line_feed ∷ []))))
+    (λ e. rw e (sym (append_assoc (decimal k) (field_text (Some x)) (line_feed ∷ []))))
 
-pub accepted_line : (k : ℕ) (answer : List ℕ) → line_text k 0 answer ≡ ((decimal k ++ field_text (some 0)) ++ answer) ++ (line_feed ∷ [])
+pub accepted_line : (k : ℕ) (answer : List ℕ) → line_text k 0 answer ≡ ((decimal k ++ field_text (Some 0)) ++ answer) ++ (line_feed ∷ [])
 unfolding line_text
 accepted_line k answer =
-    sym (append_assoc (decimal k) (field_text (some 0)) (answer ++ (line_feed ∷ [])))
-    ∙ sym (append_assoc (decimal k ++ field_text (some 0)) answer (line_feed ∷ []))
+    sym (append_assoc (decimal k) (field_text (Some 0)) (answer ++ (line_feed ∷ [])))
+    ∙ sym (append_assoc (decimal k ++ field_text (Some 0)) answer (line_feed ∷ []))
 
 pub refused_any : (k x : ℕ) (answer : List ℕ) → (x ≡ 0 → ⊥) → line_text k x answer ≡ line_text k x []
 unfolding line_text

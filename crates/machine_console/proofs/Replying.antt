@@ -1,6 +1,7 @@
 -- A call in place is the call of the caller who claims its role, and its line says what it answered.
 -- Assumes nothing.
 use Rattle.std.specs.Prelude.{◌≡◌}
+use Rattle.listing.specs.Lines.{number_said}
 use Rattle.laws.specs.Basics.{sym, ◌∙◌, ap, subst, List, ℕ}
 use Rattle.model.specs.declared.Run.{Run}
 use Rattle.whole_runs.specs.{Outcomes.Outcome, Outcomes.Report, Calls.answered}
@@ -15,7 +16,7 @@ pub asked_as : {A : Type 0} (role owned : ℕ) (c : Caller) (refusal : Outcome A
 unfolding asked
 asked_as role owned c refusal call h = rw h.0 (ap (λ (k : ℕ). call (record { role = c.role; owned = k })) h.1)
 
-pub same_number : (r : Replied) (x : Report) → report_in r.summary ≡ x → r.summary.refused ≡ x.refused
+pub same_number : (r : Replied) (x : Report) → report_in r.summary ≡ x → (number_said r.summary.refused) ≡ x.refused
 unfolding report_in
 same_number r x e = ap (λ (y : Report). y.refused) e
 

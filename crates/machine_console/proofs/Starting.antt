@@ -1,8 +1,10 @@
 -- A start on words is the console's start with the block count 1 at each process.
 -- Assumes nothing.
 use Rattle.std.specs.Prelude.{◌≡◌}
+use Rattle.listing.specs.Lines.{number_said}
 use Rattle.laws.specs.Basics.{refl, sym, ◌∙◌, ap, true, false, List, ℕ, arith, eqb, length, eq-eqb, ne_eqb, pick, by_bool}
-use Rattle.model.specs.declared.{Refusal.TheVariants.Denied, StartAnswer.StartAnswer}
+use Rattle.model.specs.Shapes.{StartAnswer}
+use Rattle.model.specs.declared.Refusal.TheVariants.{Denied}
 use Rattle.model.specs.{Words.ones}
 use Rattle.whole_runs.specs.{Outcomes.Outcome, Outcomes.Report, Outcomes.start_report, Calls.answered}
 use Rattle.whole_runs.proofs.whole.Reached.{refused_number}
@@ -45,10 +47,10 @@ module _ (role owned : ℕ) (c : Call) (claims : Claims role owned c.caller) (w 
   same : report_in r.summary ≡ start_report (console_start c.caller c.process ones).answer
   same = summary ∙ ap start_report (is ∙ start_answer role owned c.caller claims fresh long c.process)
 
-  number_is : r.summary.refused ≡ (start_report (console_start c.caller c.process ones).answer).refused
+  number_is : (number_said r.summary.refused) ≡ (start_report (console_start c.caller c.process ones).answer).refused
   number_is = same_number r (start_report (console_start c.caller c.process ones).answer) same
 
-  pub start_accepted : r.summary.refused ≡ 0 → w' ≡ fresh' → Replies operation.Start (made_with operation.Start (run_of w) c pairs line) w' r pairs line
+  pub start_accepted : (number_said r.summary.refused) ≡ 0 → w' ≡ fresh' → Replies operation.Start (made_with operation.Start (run_of w) c pairs line) w' r pairs line
   unfolding made_with started_over answered answer_text
   start_accepted none copied =
       let fine : eqb (start_report (console_start c.caller c.process ones).answer).refused 0 ≡ true = eq-eqb _ 0 (sym number_is ∙ none) in
@@ -58,7 +60,7 @@ module _ (role owned : ℕ) (c : Call) (claims : Claims role owned c.caller) (w 
         answer = λ k n. refl;
       }
 
-  pub start_refused : (r.summary.refused ≡ 0 → ⊥) → w' ≡ w → Replies operation.Start (made_with operation.Start (run_of w) c pairs line) w' r pairs line
+  pub start_refused : ((number_said r.summary.refused) ≡ 0 → ⊥) → w' ≡ w → Replies operation.Start (made_with operation.Start (run_of w) c pairs line) w' r pairs line
   unfolding made_with started_over answered answer_text
   start_refused some kept =
       let not : eqb (start_report (console_start c.caller c.process ones).answer).refused 0 ≡ false = ne_eqb _ 0 (λ e. some (number_is ∙ e)) in
@@ -74,10 +76,10 @@ module _ (words : List ℕ) (n : ℕ) (answer : StartAnswer) (summary : Summary)
   unfolding claim_of
   claims_operator = (refl, refl)
 
-  pub opened_number : report_in summary ≡ start_report answer → summary.refused ≡ refused_at n
+  pub opened_number : report_in summary ≡ start_report answer → number_said summary.refused ≡ refused_at n
   unfolding report_in refused_at opened answered
   opened_number e = ap (λ (x : Report). x.refused) (e ∙ ap start_report (is ∙ start_answer 0 0 operator claims_operator words long n))
 
-  pub opened_run : (words' : List ℕ) → run_of words' ≡ (start_as 0 0 words n ones).run → report_in summary ≡ start_report answer → summary.refused ≡ 0 → run_of words' ≡ (opened n).run
+  pub opened_run : (words' : List ℕ) → run_of words' ≡ (start_as 0 0 words n ones).run → report_in summary ≡ start_report answer → number_said summary.refused ≡ 0 → run_of words' ≡ (opened n).run
   unfolding opened answered refused_at
   opened_run words' run e none = run ∙ start_run 0 0 operator claims_operator words long n (eq-eqb _ 0 (sym (opened_number e) ∙ none))

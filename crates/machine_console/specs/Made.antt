@@ -1,7 +1,7 @@
 -- The calls of a script, made on a state: "The console works on states reached by its own calls", an operator's start first.
 -- Assumes nothing.
 use Rattle.std.specs.Prelude.{◌∷◌, ◌-◌, ◌*◌}
-use Rattle.laws.specs.Basics.{Bool, List, [], Option, none, some, ℕ, min, eqb, replicate, pick}
+use Rattle.laws.specs.Basics.{Bool, List, [], Option, None, Some, ℕ, min, eqb, replicate, pick}
 use Rattle.model.specs.{declared.Run.Run, declared.Refusal.TheVariants.MalformedRecord, Words.ones, Words.most_processes}
 use Rattle.whole_runs.specs.Outcomes.{refusing, start_report}
 use Rattle.whole_runs.specs.Calls.{checkpoint, send, deliver, lose, recover, line, earliest, Answered, answered}
@@ -47,8 +47,8 @@ made_with Start s c pairs entries = started_over s (started_by c.caller c.proces
 
 -- What is no call is refused with 14, and changes nothing.
 unfoldable pub made_on : Run → Option Call → Answered
-made_on s none = record { run = s; reply = record { report = refusing MalformedRecord; rose = 0; deleted = []; line = [] } }
-made_on s (some c) = made_with c.operation s c (lent_pairs s c) (lent_line s c)
+made_on s None = record { run = s; reply = record { report = refusing MalformedRecord; rose = 0; deleted = []; line = [] } }
+made_on s (Some c) = made_with c.operation s c (lent_pairs s c) (lent_line s c)
 
 -- The operator, who starts the run of a script.
 abbrev pub operator : Caller

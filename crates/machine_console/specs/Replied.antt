@@ -1,6 +1,7 @@
 -- What the functions leave that make a call on words and write its line.
 -- Assumes nothing.
-use Rattle.std.specs.Prelude.{◌≡◌, ◌≤◌}
+use Rattle.std.specs.Prelude.{◌≡◌, ◌≤◌, Some}
+use Rattle.listing.specs.Lines.{number_said}
 use Rattle.laws.specs.Basics.{List, Option, ℕ, length, take}
 use Rattle.model.specs.declared.Run.{Run}
 use Rattle.whole_runs.specs.Calls.{Reply, Answered}
@@ -8,7 +9,6 @@ use Rattle.listing.specs.Summarised.{report_in}
 use Rattle.words.specs.Layout.{run_of}
 use Rattle.theory_roles.specs.declared.{Caller.Caller, Operation.Operation}
 use Rattle.machine_console.specs.declared.{script.Call.Call, calls.Replied.Replied}
-use Rattle.library_console.specs.declared.denied.Claim.TheVariants.{As}
 use Rattle.library_console.specs.Asked.{claim_of}
 use Rattle.machine_console.specs.{Made.made_on, Text.answer_text, Text.call_text}
 
@@ -25,7 +25,7 @@ longest_line = 12_000
 
 -- The number of a role and a set of processes are those of a caller.
 abbrev pub Claims : ℕ → ℕ → Caller → Type 0
-Claims role owned c = (claim_of role ≡ As c.role) × (owned ≡ c.owned)
+Claims role owned c = (claim_of role ≡ Some c.role) × (owned ≡ c.owned)
 
 -- The reply that a call handed back, with what it left of the lent lists.
 abbrev pub reply_of : Replied → List ℕ → List ℕ → Reply
@@ -34,7 +34,7 @@ reply_of r pairs line = record { report = report_in r.summary; rose = r.rose; de
 -- A call answered so on words, and no line of it reads otherwise.
 pub record Replies (o : Operation) (a : Answered) (w' : List ℕ) (r : Replied) (pairs line : List ℕ) : Type 0 where
   pub run : run_of w' ≡ a.run
-  pub refused : r.summary.refused ≡ a.reply.report.refused
+  pub refused : (number_said r.summary.refused) ≡ a.reply.report.refused
   pub answer : (c : Caller) (n : ℕ) → answer_text o c n (reply_of r pairs line) ≡ answer_text o c n a.reply
 
 -- What is a call or not is made on words, and its line is at the front of a buffer.

@@ -2,7 +2,7 @@
 -- wrote.
 -- Assumes nothing.
 use Rattle.std.specs.Prelude.{◌∷◌, ◌++◌, ◌+◌, ◌/◌, ◌%◌}
-use Rattle.laws.specs.Basics.{List, [], Option, none, some, ℕ, zero, suc, eqb, length, take, drop, pick}
+use Rattle.laws.specs.Basics.{List, [], Option, None, Some, ℕ, zero, suc, eqb, length, take, drop, pick}
 use Rattle.model.specs.declared.{Run.Run, Refusal.Refusal, Refusal.TheVariants.NoFirstByte, Refusal.TheVariants.LeftOverBytes}
 use Rattle.model.specs.Refusals.{number}
 use Rattle.whole_runs.specs.{Calls.Reply, Listing.decimal, Listing.space, Listing.line_feed, Listing.value_text, Listing.deletions_text}
@@ -17,21 +17,21 @@ field_text value = space ∷ value_text value
 
 -- How many pairs, and each of them as process:index, from the front of a deletion list.
 unfoldable pub pairs_text : ℕ → List ℕ → List ℕ
-pairs_text count deleted = field_text (some count) ++ deletions_text count deleted
+pairs_text count deleted = field_text (Some count) ++ deletions_text count deleted
 
 -- The value of a list is its count.
 unfoldable pub list_text : Option ℕ → List ℕ → List ℕ
-list_text none deleted = []
-list_text (some count) deleted = pairs_text count deleted
+list_text None deleted = []
+list_text (Some count) deleted = pairs_text count deleted
 
 -- The entries of a line list, all of which were written.
 unfoldable pub entries_text : List ℕ → List ℕ
 entries_text [] = []
-entries_text (x ∷ l) = field_text (some x) ++ entries_text l
+entries_text (x ∷ l) = field_text (Some x) ++ entries_text l
 
 -- "see its own members of a line for a failed set, other places left unchanged": the entry, whatever it is; none, a hyphen, where nothing was written.
 unfoldable pub member_shown : Caller → ℕ → ℕ → ℕ → Option ℕ
-member_shown c n p entry = pick (entitled c n p) (some entry) none
+member_shown c n p entry = pick (entitled c n p) (Some entry) None
 
 -- The places of a line list from place p on, after a line call.
 unfoldable pub members_text : Caller → ℕ → ℕ → List ℕ → List ℕ
@@ -45,7 +45,7 @@ answer_text Checkpoint c n r = field_text r.report.value ++ pairs_text r.report.
 -- the message's number
 answer_text Send c n r = field_text r.report.value
 -- the forced index or a hyphen; the set of the entries that rose; the deletions
-answer_text Deliver c n r = field_text r.report.value ++ (field_text (some r.rose) ++ pairs_text r.report.deletions r.deleted)
+answer_text Deliver c n r = field_text r.report.value ++ (field_text (Some r.rose) ++ pairs_text r.report.deletions r.deleted)
 answer_text Lose c n r = []
 -- the members of the line; how many were rolled back; the deletions
 answer_text Recover c n r = entries_text r.line ++ (field_text r.report.value ++ pairs_text r.report.deletions r.deleted)
@@ -57,7 +57,7 @@ answer_text Start c n r = []
 
 -- A line: the number of the call, 0 or that of its refusal, and if it is accepted what follows.
 unfoldable pub line_text : ℕ → ℕ → List ℕ → List ℕ
-line_text call refused answer = decimal call ++ (field_text (some refused) ++ (pick (eqb refused 0) answer [] ++ (line_feed ∷ [])))
+line_text call refused answer = decimal call ++ (field_text (Some refused) ++ (pick (eqb refused 0) answer [] ++ (line_feed ∷ [])))
 
 -- The line of a refusal that belongs to the script and to no call.
 unfoldable pub refused_text : ℕ → Refusal → List ℕ
@@ -65,8 +65,8 @@ refused_text call why = line_text call (number why) []
 
 -- What is no call is never accepted.
 unfoldable pub tail_text : Option Call → ℕ → Reply → List ℕ
-tail_text none n r = []
-tail_text (some c) n r = answer_text c.operation c.caller n r
+tail_text None n r = []
+tail_text (Some c) n r = answer_text c.operation c.caller n r
 
 -- The line of the call with a number, which is made on a state.
 unfoldable pub call_text : ℕ → Run → Option Call → List ℕ

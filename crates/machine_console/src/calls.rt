@@ -1,16 +1,15 @@
 // Each call on the words, asked for by the number of the caller's role and the set of its processes, with lent lists for what it writes.
-ghost use Rattle.std.specs.Prelude.{◌≡◌};
+ghost use Rattle.std.specs.Prelude.{◌≡◌, Some};
 ghost use Rattle.laws.specs.Basics.{List, ℕ, length};
 ghost use Rattle.listing.specs.Summarised.{report_in};
 ghost use Rattle.words.specs.Layout.{run_of, state_size};
 ghost use Rattle.theory_roles.specs.Console.{list_report};
-ghost use Rattle.library_console.specs.declared.denied.Claim.TheVariants.{As};
 ghost use Rattle.library_console.specs.Asked.{claim_of};
 ghost use Rattle.machine_console.specs.{Made.made_with, Replied.Claims, Replied.Replies};
 ghost use Rattle.theory_roles.specs.declared.Operation.TheVariants as operation;
 
 use crate::script::Call;
-use listing::{Summary, Value};
+use listing::Summary;
 use model::PROCESSES;
 use theory_roles::{ListAnswer, Operation, Role};
 use words::WORDS;
@@ -24,7 +23,7 @@ pub struct Replied {
 
 // The number of a role.
 fn number_of(role: Role) -> u32
-    ensures { claim_of result ≡ As role }
+    ensures { claim_of result ≡ Some role }
 {
     match role {
         Role::Operator => 0,
@@ -38,7 +37,7 @@ fn checkpoint(w: &mut [u16], role: u32, owned: u32, c: Call, pairs: &mut [u16]) 
     ensures { (line : List ℕ) → Replies operation.Checkpoint (made_with operation.Checkpoint (run_of w.old) c pairs.old line) w.new result pairs.new line }
 {
     let answer = library_console::calls::checkpoint(role, owned, w, c.process as usize, pairs);
-    let summary = listing::summaries::of_checkpoint(answer);
+    let summary = Summary::from(answer);
     Replied { summary, rose: 0 }
 }
 
@@ -53,7 +52,7 @@ fn send(w: &mut [u16], role: u32, owned: u32, c: Call) -> Replied
         c.process as usize,
         c.argument as usize,
     );
-    let summary = listing::summaries::of_send(answer);
+    let summary = Summary::from(answer);
     Replied { summary, rose: 0 }
 }
 
@@ -63,7 +62,7 @@ fn deliver(w: &mut [u16], role: u32, owned: u32, c: Call, pairs: &mut [u16]) -> 
 {
     let delivered = library_console::calls::deliver(role, owned, w, c.argument, pairs);
     let answer = delivered.answer;
-    let summary = listing::summaries::of_deliver(answer);
+    let summary = Summary::from(answer);
     Replied {
         summary,
         rose: delivered.rose,
@@ -75,7 +74,7 @@ fn lose(w: &mut [u16], role: u32, owned: u32, c: Call) -> Replied
     ensures { (pairs line : List ℕ) → Replies operation.Lose (made_with operation.Lose (run_of w.old) c pairs line) w.new result pairs line }
 {
     let answer = library_console::calls::lose(role, owned, w, c.argument);
-    let summary = listing::summaries::of_lose(answer);
+    let summary = Summary::from(answer);
     Replied { summary, rose: 0 }
 }
 
@@ -91,7 +90,7 @@ fn recover(
     ensures { Replies operation.Recover (made_with operation.Recover (run_of w.old) c pairs.old line.old) w.new result pairs.new line.new }
 {
     let answer = library_console::calls::recover(role, owned, w, c.low as u32, pairs, line);
-    let summary = listing::summaries::of_recover(answer);
+    let summary = Summary::from(answer);
     Replied { summary, rose: 0 }
 }
 
@@ -100,7 +99,7 @@ fn members(w: &[u16], role: u32, owned: u32, c: Call, line: &mut [u16]) -> Repli
     ensures { (pairs : List ℕ) → Replies operation.Line (made_with operation.Line (run_of w.now) c pairs line.old) w.now result pairs line.new }
 {
     let answer = library_console::shown::line(role, owned, w, c.low as u32, line);
-    let summary = listing::summaries::of_line(answer);
+    let summary = Summary::from(answer);
     Replied { summary, rose: 0 }
 }
 
@@ -111,21 +110,14 @@ fn earliest(w: &[u16], role: u32, owned: u32, c: Call, line: &mut [u16]) -> Repl
 {
     let named = [c.process as u32, c.low as u32];
     let answer = library_console::calls::earliest(role, owned, w, &named, line);
-    let summary = listing::summaries::of_line(answer);
+    let summary = Summary::from(answer);
     Replied { summary, rose: 0 }
 }
 
 fn of_list(answer: ListAnswer) -> Summary
     ensures { report_in result ≡ list_report answer }
 {
-    match answer {
-        ListAnswer::Refused(why) => listing::summaries::refused(why),
-        ListAnswer::Listed(count) => Summary {
-            refused: 0,
-            value: Value::Number(count as u64),
-            deletions: 0,
-        },
-    }
+    Summary::from(answer)
 }
 
 fn list(w: &[u16], role: u32, owned: u32, c: Call, pairs: &mut [u16]) -> Replied
@@ -142,7 +134,7 @@ fn counts(w: &[u16], role: u32, owned: u32, c: Call, line: &mut [u16]) -> Replie
     ensures { (pairs : List ℕ) → Replies operation.Counts (made_with operation.Counts (run_of w.now) c pairs line.old) w.now result pairs line.new }
 {
     let answer = library_console::shown::counts(role, owned, w, line);
-    let summary = listing::summaries::of_line(answer);
+    let summary = Summary::from(answer);
     Replied { summary, rose: 0 }
 }
 
@@ -159,8 +151,9 @@ fn start_fresh(w: &mut [u16], role: u32, owned: u32, c: Call, fresh: &mut [u16])
         c.process as usize,
         &block_counts,
     );
-    let summary = listing::summaries::of_start(answer);
-    if summary.refused == 0 {
+    let summary = Summary::from(answer);
+    let refused = summary.number();
+    if refused == 0 {
         library_readers::copy_words(fresh, 0, WORDS, w);
     }
     Replied { summary, rose: 0 }

@@ -8,6 +8,7 @@ ghost use Rattle.machine_console.specs.Consoling.{most_calls, Opening, Reading, 
 
 use crate::marks::Marks;
 use crate::{line, making, marks};
+use listing::Summary;
 use machines::heard::Taken;
 use machines::{Answer, heard};
 use model::PROCESSES;
@@ -43,8 +44,8 @@ fn start(words: &mut [u16], n: u8, out: &mut [u8]) -> Marks
 {
     let block_counts = [1u32; PROCESSES];
     let answer = library_console::calls::start(0, 0, words, n as usize, &block_counts);
-    let summary = listing::summaries::of_start(answer);
-    let refused = summary.refused;
+    let summary = Summary::from(answer);
+    let refused = summary.number();
     if refused != 0 {
         return end_refused(out, 0, refused as u64);
     }

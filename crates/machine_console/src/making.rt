@@ -1,6 +1,6 @@
 // A call of a script is made on the words, and its line put to the front of a buffer.
 ghost use Rattle.std.specs.Prelude.{◌≡◌, ◌-◌, ◌≤◌};
-ghost use Rattle.laws.specs.Basics.{some, length, pick};
+ghost use Rattle.laws.specs.Basics.{Some, length, pick};
 ghost use Rattle.words.specs.Layout.{run_of, state_size};
 ghost use Rattle.machine_console.specs.{script.Script.call_of, Made.processes, Made.lent_line, Made.lent_pairs, Replied.longest_line, Replied.Makes};
 
@@ -40,7 +40,7 @@ fn make_with(
     out: &mut [u8],
 ) -> usize
     requires { (length w.old ≡ state_size) × (n ≡ processes (run_of w.old)) × (pairs.old ≡ lent_pairs (run_of w.old) c) × (line.old ≡ lent_line (run_of w.old) c) × (longest_line ≤ length out.old) }
-    ensures { Makes (run_of w.old) number (some c) w.new out.new result }
+    ensures { Makes (run_of w.old) number (Some c) w.new out.new result }
 {
     let replied = calls::call(w, c, pairs, line);
     line::write_line(out, number, c, n, replied, pairs, line)
@@ -49,7 +49,7 @@ fn make_with(
 // The lists have room for n entries and for n × n pairs, or are one entry too short, and every entry is 0.
 fn make_asked(w: &mut [u16], number: u64, c: Call, out: &mut [u8]) -> usize
     requires { (length w.old ≡ state_size) × (longest_line ≤ length out.old) }
-    ensures { Makes (run_of w.old) number (some c) w.new out.new result }
+    ensures { Makes (run_of w.old) number (Some c) w.new out.new result }
 {
     let n = processes(w);
     let room = cut(2 * n * n, c.short);

@@ -1,10 +1,9 @@
 // The parts of a line, printed into a lent buffer from a place on: every function hands back the place after what it printed.
 ghost use Rattle.std.specs.Prelude.{◌≡◌, ◌+◌, ◌*◌, ◌≤◌};
-ghost use Rattle.laws.specs.Basics.{some, min, length};
+ghost use Rattle.laws.specs.Basics.{Some, min, length};
 ghost use Rattle.machine_console.specs.{Replied.longest_field, Text.field_text, Text.pairs_text, Text.entries_text, Text.member_shown, Text.members_text};
-ghost use Rattle.listing.specs.{Lines.value_in, Printed.Printed};
+ghost use Rattle.listing.specs.Printed.{Printed};
 
-use listing::Value;
 use theory_roles::{Caller, Role};
 
 // The smaller of two numbers.
@@ -18,9 +17,9 @@ pub fn least(x: usize, y: usize) -> usize
 }
 
 // A value after a space, or a hyphen where there is none.
-pub fn write_value(out: &mut [u8], at: usize, value: Value) -> usize
+pub fn write_value(out: &mut [u8], at: usize, value: Option<u64>) -> usize
     requires { at + longest_field ≤ length out.old }
-    ensures { Printed out.old at (field_text (value_in value)) out.new result × (result ≤ at + longest_field) }
+    ensures { Printed out.old at (field_text value) out.new result × (result ≤ at + longest_field) }
 {
     let after_space = listing::write_byte(out, at, b' ');
     listing::write_value(out, after_space, value)
@@ -28,9 +27,9 @@ pub fn write_value(out: &mut [u8], at: usize, value: Value) -> usize
 
 pub fn write_field(out: &mut [u8], at: usize, x: u64) -> usize
     requires { at + longest_field ≤ length out.old }
-    ensures { Printed out.old at (field_text (some x)) out.new result × (result ≤ at + longest_field) }
+    ensures { Printed out.old at (field_text (Some x)) out.new result × (result ≤ at + longest_field) }
 {
-    write_value(out, at, Value::Number(x))
+    write_value(out, at, Some(x))
 }
 
 // How many pairs, and each of them that the list has.
@@ -44,16 +43,16 @@ pub fn write_pairs(out: &mut [u8], at: usize, count: usize, pairs: &[u16]) -> us
 }
 
 // What is said of place p of a line list after a line call: the entry, or a hyphen where the call wrote none.
-fn member(caller: Caller, n: usize, p: usize, x: u16) -> Value
-    ensures { value_in result ≡ member_shown caller n p x }
+fn member(caller: Caller, n: usize, p: usize, x: u16) -> Option<u64>
+    ensures { result ≡ member_shown caller n p x }
 {
     let role = caller.role;
     let owned = caller.owned as u32;
     let seen = library_console::denied::is_entitled(role, owned, n, p);
     if seen {
-        return Value::Number(x as u64);
+        return Some(x as u64);
     }
-    Value::Hyphen
+    None
 }
 
 // The places of a line list after a line call.

@@ -1,7 +1,7 @@
 -- A settled verdict is settled for good.
 -- Assumes nothing.
 use Rattle.std.specs.Prelude.{◌≡◌, ◌&&◌, ◌||◌, ◌∷◌, ◌++◌, ◌≤◌}
-use Rattle.laws.specs.Basics.{refl, sym, Bool, true, false, not, false≢true, List, [], none, ℕ, ltb, leb, length, le-ltb, leb-true, by_bool}
+use Rattle.laws.specs.Basics.{refl, sym, Bool, true, false, not, false≢true, List, [], None, ℕ, ltb, leb, length, le-ltb, leb-true, by_bool}
 use Rattle.model.specs.{Words.ones, Refusals.start_refusal, laws.Refusals.no_rule, laws.Refusals.by_refusal}
 use Rattle.theory_patterns.specs.{Patterns.reading, Verdicts.count_of, Verdicts.verdict}
 use Rattle.theory_patterns.proofs.Ends.{long_traces_end}
@@ -13,7 +13,7 @@ both true false e = absurd (false≢true (sym e))
 both false b e = absurd (false≢true (sym e))
 
 -- A first byte that is not refused is a count of processes.
-counted : (n : ℕ) → start_refusal n ones ≡ none → (1 ≤ n) × (n ≤ 16)
+counted : (n : ℕ) → start_refusal n ones ≡ None → (1 ≤ n) × (n ≤ 16)
 counted n a =
     let h : (leb 1 n ≡ true) × (leb n 16 ≡ true) = unfold start_refusal in both (leb 1 n) (leb n 16) (no_rule _ a 0) in
     (leb-true 1 n h.0, leb-true n 16 h.1)

@@ -1,24 +1,22 @@
 // The line of a verdict, printed to the front of a lent buffer.
-ghost use Rattle.std.specs.Prelude.{◌≤◌, ◌<◌};
+ghost use Rattle.std.specs.Prelude.{◌≤◌, ◌<◌, Ok, Some};
 ghost use Rattle.laws.specs.Basics.{length};
 ghost use Rattle.model.specs.Words.{most_processes};
 ghost use Rattle.listing.specs.Printed.{Printed};
-ghost use Rattle.theory_patterns.specs.declared.Verdict.TheVariants.{Breaks};
 ghost use Rattle.machine_judge.specs.Text.{verdict_text, longest_verdict, Small};
 
 use machines::programs::text::{write_refused, write_word};
-use model::CheckpointIndex;
-use theory_patterns::Verdict;
+use theory_patterns::{BreakingPair, Verdict};
 
-fn write_breaks(out: &mut [u8], p: usize, k: CheckpointIndex, q: usize, x: CheckpointIndex) -> usize
-    requires { (longest_verdict ≤ length out.old) × (p < most_processes) × (q < most_processes) }
-    ensures { Printed out.old 0 (verdict_text (Breaks p k q x)) out.new result }
+fn write_breaks(out: &mut [u8], w: BreakingPair) -> usize
+    requires { (longest_verdict ≤ length out.old) × (w.near.process < most_processes) × (w.far.process < most_processes) }
+    ensures { Printed out.old 0 (verdict_text (Ok (Some w))) out.new result }
 {
-    let near = k.0;
-    let far = x.0;
+    let near = w.near;
+    let far = w.far;
     let word = write_word(out, 0, b"breaks");
-    let first = listing::write_pair(out, word, p as u16, near);
-    let second = listing::write_pair(out, first, q as u16, far);
+    let first = listing::write_pair(out, word, near.process as u16, near.index.0);
+    let second = listing::write_pair(out, first, far.process as u16, far.index.0);
     listing::write_byte(out, second, b'\n')
 }
 
@@ -28,8 +26,8 @@ pub fn write_verdict(out: &mut [u8], verdict: Verdict) -> usize
     ensures { Printed out.old 0 (verdict_text verdict) out.new result }
 {
     match verdict {
-        Verdict::Refused(why) => write_refused(out, why),
-        Verdict::Trackable => write_word(out, 0, b"trackable\n"),
-        Verdict::Breaks(p, k, q, x) => write_breaks(out, p, k, q, x),
+        Err(why) => write_refused(out, why),
+        Ok(None) => write_word(out, 0, b"trackable\n"),
+        Ok(Some(w)) => write_breaks(out, w),
     }
 }

@@ -1,16 +1,15 @@
 -- What a merge of what is held comes to: the trace or the line that the program puts.
 -- Assumes nothing.
-use Rattle.std.specs.Prelude.{◌≡◌, ◌∷◌, ◌+◌, ◌≤◌}
-use Rattle.laws.specs.Basics.{refl, sym, ◌∙◌, ap, List, [], none, ℕ, zero, suc, arith, length, take, drop, replicate, sets, le-ltb}
+use Rattle.std.specs.Prelude.{◌≡◌, ◌∷◌, ◌+◌, ◌≤◌, Err, Ok}
+use Rattle.laws.specs.Basics.{refl, sym, ◌∙◌, ap, List, [], None, ℕ, zero, suc, arith, length, take, drop, replicate, sets, le-ltb}
 use lib.Seq.{sets-eq, take_at}
-use Rattle.model.specs.{declared.Fields.Fields, declared.Refusal.Refusal, laws.Refusals.by_refusal}
+use Rattle.model.specs.{Shapes.MergeAnswer, declared.Fields.Fields, declared.Refusal.Refusal, laws.Refusals.by_refusal}
 use Rattle.theory_merges.specs.Halves.{HalfEvent}
 use Rattle.theory_merges.specs.Merge.{half_event_of, next_record, Taken, stopped, took, take_from, take_all, count_of, after_first_byte, fields_in, merge_refusal, plain_bytes, MergeOutcome, finished, merge_outcome}
 use Rattle.theory_merges.proofs.{Keeping.next_out, Keeping.record_out, Replaying.plain_length, Replaying.how_many_lem, Replaying.fine}
 use Rattle.library_halves.proofs.Rules.{after_first_is}
 use Rattle.machine_merge.specs.Printed.{refusing, putting, printed}
 use Rattle.machine_merge.proofs.Standing.{long_enough, refused_text_lem}
-use Rattle.model.specs.declared.MergeAnswer.TheVariants as merge-answer
 
 -- All records are taken, each once.
 took_all : (n set k : ℕ) (T taken : List HalfEvent) (first second : List Fields) → take_from k n set taken first second ≡ took T → length T ≡ length taken + k
@@ -33,30 +32,30 @@ module _ (first second : List ℕ) (F : ℕ) (buffer : List ℕ) (room : length 
 
   -- What the answer and the buffer are worth.
   pub record Worth (o : MergeOutcome) : Type 0 where
-    pub refused : (q : Refusal) → o.answer ≡ merge-answer.Refused q → printed first second F ≡ refusing q
-    pub fits : (size : ℕ) → o.answer ≡ merge-answer.Merged size → size ≤ length buffer
-    pub merged : (size : ℕ) → o.answer ≡ merge-answer.Merged size → ((printed first second F).trace ≡ take size o.buffer) × ((printed first second F).refusal ≡ [])
+    pub refused : (q : Refusal) → o.answer ≡ Err q → printed first second F ≡ refusing q
+    pub fits : (size : ℕ) → o.answer ≡ Ok size → size ≤ length buffer
+    pub merged : (size : ℕ) → o.answer ≡ Ok size → ((printed first second F).trace ≡ take size o.buffer) × ((printed first second F).refusal ≡ [])
 
-  same_refusal : (q r : Refusal) → merge-answer.Refused r ≡ merge-answer.Refused q → r ≡ q
+  same_refusal : (q r : Refusal) → ◌≡◌ {A = MergeAnswer} (Err r) (Err q) → r ≡ q
   same_refusal q r e = cc
 
-  not_merged : (r : Refusal) (size : ℕ) → merge-answer.Refused r ≡ merge-answer.Merged size → ⊥
+  not_merged : (r : Refusal) (size : ℕ) → ◌≡◌ {A = MergeAnswer} (Err r) (Ok size) → ⊥
   not_merged r size e = let z : ◌≡◌ {A = ℕ} 0 1 = cc in omega arith
 
-  not_refused : (r : Refusal) (size : ℕ) → merge-answer.Merged size ≡ merge-answer.Refused r → ⊥
+  not_refused : (r : Refusal) (size : ℕ) → ◌≡◌ {A = MergeAnswer} (Ok size) (Err r) → ⊥
   not_refused r size e = let z : ◌≡◌ {A = ℕ} 0 1 = cc in omega arith
 
-  same_size : (size bytes : ℕ) → merge-answer.Merged bytes ≡ merge-answer.Merged size → bytes ≡ size
+  same_size : (size bytes : ℕ) → ◌≡◌ {A = MergeAnswer} (Ok bytes) (Ok size) → bytes ≡ size
   same_size size bytes e = cc
 
-  worth_refused : (r : Refusal) → printed first second F ≡ refusing r → Worth (record { answer = merge-answer.Refused r; buffer = buffer })
+  worth_refused : (r : Refusal) → printed first second F ≡ refusing r → Worth (record { answer = Err r; buffer = buffer })
   worth_refused r p = record {
     refused = λ q e. p ∙ ap refusing (same_refusal q r e);
     fits = λ size e. absurd (not_merged r size e);
     merged = λ size e. absurd (not_merged r size e);
   }
 
-  module _ (none-holds : merge_refusal first second F buffer ≡ none) where
+  module _ (none-holds : merge_refusal first second F buffer ≡ None) where
     printed_is : printed first second F ≡ putting (count_of first) (take_all first second F)
     unfolding printed
     printed_is = rw (sym refusal_is ∙ none-holds)

@@ -1,7 +1,7 @@
 -- The set, judged whole: one of 65,536 or more has a bit at 16 or above, and so at n or above in every run. Whichever it is, the same is printed for it.
 -- Assumes nothing.
 use Rattle.std.specs.Prelude.{◌≡◌, ◌||◌, ◌+◌, ◌^◌, ◌≤◌, ◌<◌}
-use Rattle.laws.specs.Basics.{sym, ◌∙◌, ap, true, List, none, some, ℕ, arith, leb, length, replicate, lt-ltb, le-ltb, le-leb, by_bool}
+use Rattle.laws.specs.Basics.{sym, ◌∙◌, ap, true, List, None, Some, ℕ, arith, leb, length, replicate, lt-ltb, le-ltb, le-leb, by_bool}
 use lib.Pow.{pow_mono}
 use Rattle.laws.specs.{Rows.by_lt, Truth.or_none, Truth.never_both}
 use Rattle.model.specs.{Refusals.first_of, laws.Refusals.by_refusal, laws.Refusals.no_rule}
@@ -26,7 +26,7 @@ module _ (a b : List ℕ) where
         (λ e. rw e)
         (λ e. let n = good_count a (or_none (bad_count a) (bad_count b) e).0 in rw (outside (count_of a) F n f, outside (count_of a) G n g))
 
-    holds : merge_refusal a b F buffer ≡ none → ⊥
+    holds : merge_refusal a b F buffer ≡ None → ⊥
     unfolding merge_refusal
     holds e = never_both (leb (2 ^ count_of a) F) (outside (count_of a) F (fine a b F buffer e).count f) (no_rule _ e 4)
 
@@ -42,5 +42,5 @@ module _ (a b : List ℕ) where
       (λ great. rw (lt-ltb 4294967295 F great) (alike 4294967295 F (omega arith) (omega (arith, great))))
       (λ small. rw (le-ltb 4294967295 F small))
 
-  pub asked_set : (word : List ℕ) (F : ℕ) → decimal_in word ≡ some F → printed a b (at_most (number_in word)) ≡ printed a b F
+  pub asked_set : (word : List ℕ) (F : ℕ) → decimal_in word ≡ Some F → printed a b (at_most (number_in word)) ≡ printed a b F
   asked_set word F e = ap (printed a b) (at_most_stands word F e) ∙ any_set F

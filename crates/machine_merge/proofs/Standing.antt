@@ -1,7 +1,7 @@
 -- What is held of a half stands for the whole of it: the program prints for it what it prints for the whole.
 -- Assumes nothing.
 use Rattle.std.specs.Prelude.{◌≡◌, ◌∷◌, ◌+◌, ◌-◌, ◌/◌, ◌%◌, ◌≤◌, ◌<◌}
-use Rattle.laws.specs.Basics.{refl, sym, ◌∙◌, ap, false, List, [], some, ℕ, zero, suc, arith, eqb, ltb, leb, length, take, replicate, length-replicate, length-take-le, eq-eqb, ne_eqb, lt-ltb, le-ltb, le-leb, lt-leb, leb-true, leb-false, by_bool, by_eq}
+use Rattle.laws.specs.Basics.{refl, sym, ◌∙◌, ap, false, List, [], Some, ℕ, zero, suc, arith, eqb, ltb, leb, length, take, replicate, length-replicate, length-take-le, eq-eqb, ne_eqb, lt-ltb, le-ltb, le-leb, lt-leb, leb-true, leb-false, by_bool, by_eq}
 use lib.Seq.{take_all}
 use Rattle.model.specs.declared.Refusal.{Refusal}
 use Rattle.theory_merges.specs.Merge.{count_of, after_first_byte, bad_count, left_over_of, too_many, merge_refusal}
@@ -101,7 +101,7 @@ pub long_enough : (k : ℕ) → ltb (length (replicate {A = ℕ} k 0)) k ≡ fal
 long_enough k = le-ltb (length (replicate {A = ℕ} k 0)) k (omega (arith, length-replicate {A = ℕ} k 0))
 
 -- A refusal is all that is printed.
-pub refused_text_lem : (a b : List ℕ) (F : ℕ) (x : Refusal) → merge_refusal a b F (replicate (length a + length b) 0) ≡ some x → printed a b F ≡ refusing x
+pub refused_text_lem : (a b : List ℕ) (F : ℕ) (x : Refusal) → merge_refusal a b F (replicate (length a + length b) 0) ≡ Some x → printed a b F ≡ refusing x
 unfolding printed
 refused_text_lem a b F x e = rw e
 

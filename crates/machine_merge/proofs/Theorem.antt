@@ -1,7 +1,7 @@
 -- What the machine does with every list of answers.
 -- Assumes nothing.
 use Rattle.std.specs.Prelude.{◌≡◌, ◌||◌, ◌∷◌, ◌++◌, ◌+◌, ◌≤◌, ◌<◌}
-use Rattle.laws.specs.Basics.{refl, sym, ◌∙◌, ap, subst, Bool, true, false, List, [], append-nil, Option, none, some, ℕ, zero, suc, arith, eqb, ltb, leb, length, take, replicate, length-append, eqb-false, ltb-true, ltb-false, le-leb, lt-leb, pick, by_bool}
+use Rattle.laws.specs.Basics.{refl, sym, ◌∙◌, ap, subst, Bool, true, false, List, [], append-nil, Option, None, Some, ℕ, zero, suc, arith, eqb, ltb, leb, length, take, replicate, length-append, eqb-false, ltb-true, ltb-false, le-leb, lt-leb, pick, by_bool}
 use lib.Seq.{take-take}
 use Rattle.laws.specs.Choice.{pick_same}
 use Rattle.model.specs.laws.Refusals.{by_refusal}
@@ -40,13 +40,13 @@ buffered_is file kept total h =
 -- The set that a word is.
 record SetOf (word : List ℕ) (set : ℕ) : Type 0 where
   whole : ℕ
-  known : decimal_in word ≡ some whole
+  known : decimal_in word ≡ Some whole
   right : set ≡ at_most (number_in word)
 
-known_by : (o : Option ℕ) → (stands_for o ≡ no_number → ⊥) → (whole : ℕ) × (o ≡ some whole)
+known_by : (o : Option ℕ) → (stands_for o ≡ no_number → ⊥) → (whole : ℕ) × (o ≡ Some whole)
 unfolding stands_for
-known_by none h = absurd (h refl)
-known_by (some whole) h = (whole, refl)
+known_by None h = absurd (h refl)
+known_by (Some whole) h = (whole, refl)
 
 set_known : (word : List ℕ) → eqb (number_in word) no_number ≡ false → SetOf word (at_most (number_in word))
 unfolding number_in
@@ -274,7 +274,7 @@ module _ (stage : Stage) (name kept : List ℕ) (total : ℕ) (w : List ℕ) (m 
   unfolding after_read_of read_on
   after_read most a =
       by_read (λ (x : Answer). Holds (after_read_of stage name kept total x) w (read_on m x)) unread most
-      (λ more some few. onward_holds more)
+      (λ more Some few. onward_holds more)
       (ended_holds stage h.file kept total w ended_met (still stage h.file h.during) h.keeps h.silent ended_met_lem)
       a
 

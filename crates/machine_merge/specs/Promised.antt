@@ -1,7 +1,7 @@
 -- What is promised of the program, over every list of answers of the system.
 -- Assumes nothing.
 use Rattle.std.specs.Prelude.{◌≡◌, ◌||◌, ◌∷◌, ◌++◌}
-use Rattle.laws.specs.Basics.{Bool, true, false, List, [], Option, none, some, ℕ, eqb, leb, length, pick}
+use Rattle.laws.specs.Basics.{Bool, true, false, List, [], Option, None, Some, ℕ, eqb, leb, length, pick}
 use Rattle.machines.specs.programs.Numbers.{decimal_in}
 use Rattle.machines.specs.Machines.{Request, Count, Argument, Open, Read, Write, Say, Fail, Stop, Answer, Number, Bytes, End, Done, Failed, Exchange, heard, stepped, asked, exchanges, state_after, written_of, brought}
 use Rattle.machine_merge.specs.{Buffered.most_counted, Printed.printed}
@@ -64,8 +64,8 @@ is_whole m = m.ended || whole_file m.files
 
 -- What is printed for two files and the whole number that the word is.
 unfoldable pub merge_of : List ℕ → List ℕ → Option ℕ → List ℕ
-merge_of first second none = []
-merge_of first second (some set) = (printed first second set).trace
+merge_of first second None = []
+merge_of first second (Some set) = (printed first second set).trace
 
 unfoldable pub merged_of : List (List ℕ) → Option ℕ → List ℕ
 merged_of [] set = []
@@ -79,8 +79,8 @@ trace_of m = pick (is_whole m) (merged_of m.files (decimal_in m.word)) []
 
 -- What is reported of two files that are not merged, and of words that are not two files and a set.
 unfoldable pub refusal_of : List ℕ → List ℕ → Option ℕ → List ℕ
-refusal_of first second none = []
-refusal_of first second (some set) = (printed first second set).refusal
+refusal_of first second None = []
+refusal_of first second (Some set) = (printed first second set).refusal
 
 unfoldable pub line_of : List (List ℕ) → Option ℕ → List ℕ
 line_of [] set = usage

@@ -11,7 +11,6 @@ use crate::marks::{LONGEST_NAME, LONGEST_WORD, MOST_COUNTED, Marks, SECOND_HALF}
 use machines::heard::Taken;
 use machines::programs::numbers::NO_NUMBER;
 use machines::{Answer, heard};
-use model::MergeAnswer;
 
 fn stop() -> Marks
     ensures { (input out : List ℕ) → Arrives result input out Stopped }
@@ -169,11 +168,11 @@ fn show<'a>(first: &'a [u8], second: &'a [u8], set: u32, out: &mut [u8]) -> Mark
 {
     let answer = library_halves::merge(first, second, set, out);
     match answer {
-        MergeAnswer::Refused(why) => {
+        Err(why) => {
             let size = machines::programs::text::write_refused(out, why);
             marks::at(marks::REPORTING, size)
         }
-        MergeAnswer::Merged(size) => marks::at(marks::WRITING, size),
+        Ok(size) => marks::at(marks::WRITING, size),
     }
 }
 

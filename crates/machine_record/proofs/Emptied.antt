@@ -1,7 +1,7 @@
 -- What is recorded in emptied buffers is what one long buffer holds.
 -- Assumes nothing.
 use Rattle.std.specs.Prelude.{◌≡◌, ◌∷◌, ◌++◌, ◌⊎◌, ◌+◌, ◌-◌, ◌≤◌}
-use Rattle.laws.specs.Basics.{refl, sym, ◌∙◌, ap, subst, false, List, [], append-nil, append_assoc, Option, none, some, inl, inr, ℕ, arith, ltb, length, take, drop, replicate, length-append, length-replicate, sets, length-take-le, le-ltb, ltb-false, by_bool}
+use Rattle.laws.specs.Basics.{refl, sym, ◌∙◌, ap, subst, false, List, [], append-nil, append_assoc, Option, None, Some, inl, inr, ℕ, arith, ltb, length, take, drop, replicate, length-append, length-replicate, sets, length-take-le, le-ltb, ltb-false, by_bool}
 use lib.Seq.{sets-eq, length-sets, take_at}
 use Rattle.model.specs.declared.{Event.Event, Refusal.Refusal, Run.Run}
 use Rattle.model.specs.declared.Event.TheVariants.{Checkpoint, Send, Deliver, Lose, Recover}
@@ -110,7 +110,7 @@ module _ (s : Run) (b : List ℕ) (p : ℕ) (c : List ℕ) (q : ℕ) (inside : p
 
 pub record_alike : (t u : Tape) → SameRoom t u → (o : Option Event) → SameLeft t u (recorded_in t o) (recorded_in u o)
 unfolding recorded_in
-record_alike t u w none = record {
+record_alike t u w None = record {
   run = w.run;
   reply = refl;
   bytes = [];
@@ -122,7 +122,7 @@ record_alike t u w none = record {
   buffer_other = refl;
   place_other = omega arith;
 }
-record_alike t u w (some e) =
+record_alike t u w (Some e) =
     let path : tape t.run u.buffer u.place ≡ u = λ j. record { run = w.run j; buffer = u.buffer; place = u.place } in
     subst (λ (v : Tape). SameLeft t v (recorded t (call_of e)) (recorded v (call_of e))) path
     (event_alike t.run t.buffer t.place u.buffer u.place w.inside w.inside_other w.room e)
@@ -177,8 +177,8 @@ module _ (g : Standing) (t : Tape) (w : StandsAt g t) where
 -- The calls of a record and of those after it.
 calls_after : (t : Tape) (o : Option Event) (l : List Call) → tape_after t (call_in o ++ l) ≡ tape_after (recorded_in t o).tape l
 unfolding call_in recorded_in tape_after
-calls_after t none l = refl
-calls_after t (some e) l = refl
+calls_after t None l = refl
+calls_after t (Some e) l = refl
 
 -- What the records of some bytes leave of a long buffer, and what emptied buffers leave of them.
 pub record Same (g : Standing) (t : Tape) (l : List ℕ) : Type 0 where

@@ -1,14 +1,15 @@
 -- A start in place through the recorder, in a buffer of no byte or one, and the start in a long buffer.
 -- Assumes nothing.
-use Rattle.std.specs.Prelude.{◌≡◌, ◌∷◌, ◌++◌, ◌+◌, ◌-◌, ◌≤◌}
-use Rattle.laws.specs.Basics.{refl, sym, ◌∙◌, ap, true, false, List, [], none, ℕ, min, arith, eqb, ltb, length, take, drop, length-append, length-replicate, length-drop, sets, length-take-le, eq-eqb, ne_eqb, lt-ltb, le-ltb, ltb-true, ltb-false, by_bool}
+use Rattle.std.specs.Prelude.{◌≡◌, ◌∷◌, ◌++◌, ◌+◌, ◌-◌, ◌≤◌, Err}
+use Rattle.laws.specs.Basics.{refl, sym, ◌∙◌, ap, true, false, List, [], None, ℕ, min, arith, eqb, ltb, length, take, drop, length-append, length-replicate, length-drop, sets, length-take-le, eq-eqb, ne_eqb, lt-ltb, le-ltb, ltb-true, ltb-false, by_bool}
 use Rattle.laws.specs.Truth.{never_both}
-use Rattle.model.specs.declared.{Refusal.Refusal, Refusal.TheVariants.BufferTooShort, StartAnswer.StartAnswer, StartAnswer.TheVariants.Refused}
+use Rattle.model.specs.Shapes.{StartAnswer}
+use Rattle.model.specs.declared.{Refusal.Refusal, Refusal.TheVariants.BufferTooShort}
 use Rattle.model.specs.{Words.ones, Steps.start_state, Refusals.start_refusal, laws.Refusals.by_refusal}
 use Rattle.whole_runs.specs.Outcomes.{Outcome, Report, start_report, start_outcome}
 use Rattle.whole_runs.proofs.whole.Reached.{refused_number}
 use Rattle.listing.specs.declared.Summary.{Summary}
-use Rattle.listing.specs.Summarised.{report_in}
+use Rattle.listing.specs.{Lines.number_said, Summarised.report_in}
 use Rattle.theory_recording.specs.Recording.{unwritten, appended, recording, recorded_start}
 use Rattle.words.specs.Layout.{run_of}
 use Rattle.library_recorder.specs.Recorded.{recorded_start_in}
@@ -34,11 +35,11 @@ outcome_in n left buffer e = rw (refusal_same n, outcome_same n) (by_refusal (st
 
 -- An accepted start.
 pub record Accepted (n left : ℕ) : Type 0 where
-  pub fine : start_refusal n ones ≡ none
+  pub fine : start_refusal n ones ≡ None
   pub some_left : 1 ≤ left
   pub run : (recorded_start n ones (lent left)).outcome.run ≡ start_state n ones
 
-refused_clash : {P : Type 0} (n left : ℕ) (x : Refusal) → eqb (start_number left n) 0 ≡ true → (recorded_start n ones (lent left)).outcome.answer ≡ Refused x → P
+refused_clash : {P : Type 0} (n left : ℕ) (x : Refusal) → eqb (start_number left n) 0 ≡ true → (recorded_start n ones (lent left)).outcome.answer ≡ Err x → P
 unfolding start_number start_report
 refused_clash n left x h e = never_both (eqb (start_number left n) 0) h (ap (λ (a : StartAnswer). eqb (start_report a).refused 0) e ∙ refused_number x)
 
@@ -63,7 +64,7 @@ one_set (a ∷ []) n h = refl
 one_set (a ∷ b ∷ l) n h = absurd (omega (arith, h))
 
 pub number_is : (many n left : ℕ) (buffer : List ℕ) (summary : Summary) (a : StartAnswer) → many ≡ 6464 → length buffer ≡ min left 1 → a ≡ (recorded_start_in many n ones buffer 0).outcome.answer → report_in summary ≡ start_report a
-    → summary.refused ≡ start_number left n
+    → number_said summary.refused ≡ start_number left n
 unfolding start_number report_in
 number_is many n left buffer summary a whole e is sum =
     ap (λ (r : Report). r.refused) (sum ∙ ap start_report (is ∙ ap (λ (k : ℕ). (recorded_start_in k n ones buffer 0).outcome.answer) whole ∙ ap (λ (o : Outcome StartAnswer). o.answer) (outcome_in n left buffer e)))

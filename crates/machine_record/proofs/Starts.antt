@@ -1,9 +1,10 @@
 -- The start of a recording, and Note 9 of what the program writes.
 -- Assumes nothing.
-use Rattle.std.specs.Prelude.{◌≡◌, ◌∷◌, ◌++◌, ◌+◌, ◌-◌, ◌*◌, ◌≤◌}
+use Rattle.std.specs.Prelude.{◌≡◌, ◌∷◌, ◌++◌, ◌+◌, ◌-◌, ◌*◌, ◌≤◌, Err, Ok}
 use Rattle.laws.specs.Basics.{refl, sym, ◌∙◌, ap, true, false, List, [], ℕ, arith, eqb, length, take, drop, length-replicate, length-drop}
 use lib.Seq.{take_at}
-use Rattle.model.specs.declared.{StartAnswer.StartAnswer, StartAnswer.TheVariants.Refused, StartAnswer.TheVariants.Started}
+use Prim.{tt}
+use Rattle.model.specs.Shapes.{StartAnswer}
 use Rattle.model.specs.{Words.ones, Steps.start_state}
 use Rattle.whole_runs.specs.{Outcomes.start_report, Listing.state_after_records}
 use Rattle.whole_runs.proofs.whole.Reached.{refused_number}
@@ -18,12 +19,12 @@ use Rattle.machine_record.proofs.Emptied.{same}
 abbrev pub first : ℕ → ℕ → Standing
 first size n = record { run = start_state n ones; left = size - 1; done = 0 }
 
-no_refusal : (a : StartAnswer) → eqb (start_report a).refused 0 ≡ true → a ≡ Started
+no_refusal : (a : StartAnswer) → eqb (start_report a).refused 0 ≡ true → a ≡ Ok tt
 unfolding start_report
-no_refusal (Refused x) h = let wrong = sym h ∙ refused_number x in cc
-no_refusal Started h = refl
+no_refusal (Err x) h = let wrong = sym h ∙ refused_number x in cc
+no_refusal (Ok tt) h = refl
 
-accepted : (size n : ℕ) → eqb (start_number size n) 0 ≡ true → (recorded_start n ones (lent size)).outcome.answer ≡ Started
+accepted : (size n : ℕ) → eqb (start_number size n) 0 ≡ true → (recorded_start n ones (lent size)).outcome.answer ≡ Ok tt
 unfolding start_number
 accepted size n h = no_refusal (recorded_start n ones (lent size)).outcome.answer h
 

@@ -1,13 +1,12 @@
 -- What the functions leave that take records.
 -- Assumes nothing.
 use Rattle.std.specs.Prelude.{◌≡◌, ◌∷◌, ◌+◌, ◌-◌, ◌≤◌}
-use Rattle.laws.specs.Basics.{refl, sym, ◌∙◌, ap, true, false, List, [], Option, none, some, ℕ, arith, ltb, length, take, length-replicate, sets, lt-ltb, le-ltb, ltb-true, ltb-false, by_bool}
+use Rattle.laws.specs.Basics.{refl, sym, ◌∙◌, ap, true, false, List, [], Option, None, Some, ℕ, arith, ltb, length, take, length-replicate, sets, lt-ltb, le-ltb, ltb-true, ltb-false, by_bool}
 use Rattle.model.specs.{declared.Event.Event, declared.Run.Run, Refusals.number}
 use Rattle.whole_runs.specs.{Outcomes.Report, Calls.Reply, Calls.answered}
 use Rattle.listing.specs.declared.Summary.{Summary}
-use Rattle.listing.specs.{Summarised.report_in, Printed.Printed}
+use Rattle.listing.specs.{Lines.number_said, Summarised.report_in, Printed.Printed}
 use Rattle.theory_recording.specs.Recording.{Recorded, Tape, taped}
-use Rattle.trace.specs.{declared.Decoded.Decoded, declared.Decoded.TheVariants.Malformed, declared.Decoded.TheVariants.StandsFor, Answers.event_read}
 use Rattle.machine_record.specs.declared.{calls.Played.Played, block.Taken.Taken}
 use Rattle.machine_record.specs.Recorded.{lent, in_front, recorded_in, line_for}
 use Rattle.machine_record.specs.Records.{Standing, emptied, taken, standing_next, bytes_of_def, line_of}
@@ -17,24 +16,23 @@ use Rattle.machine_record.proofs.Emptied.{SameLeft, record_alike, front}
 -- A call through the recorder, by what its contract says and what its answer is summed up to.
 pub plays : {A : Type 0} (report : A → Report) (s : Run) (buffer : List ℕ) (place : ℕ) (o : Option Event) (x : Recorded A) → recorded_in (tape s buffer place) o ≡ taped report x
     → (summary : Summary) {s' : Run} {b : List ℕ} {p : ℕ} {a : A} → s' ≡ x.outcome.run → a ≡ x.outcome.answer → b ≡ x.buffer → p ≡ x.place → report_in summary ≡ report a
-    → Plays s buffer place o s' b (record { refused = summary.refused; place = p })
+    → Plays s buffer place o s' b (record { refused = number_said summary.refused; place = p })
 unfolding taped report_in answered
 plays report s buffer place o x is summary run answer bytes next sum = record {
   left = (λ j. tape (run j) (bytes j) (next j)) ∙ ap (λ (y : _). y.tape) (sym is);
   number = ap (λ (r : Report). r.refused) (sum ∙ ap report answer) ∙ ap (λ (y : _). y.reply.report.refused) (sym is);
 }
 
-pub plays_malformed : (s : Run) (buffer : List ℕ) (place : ℕ) (d : Decoded) (o : Option Event) → d ≡ Malformed → event_read d ≡ o → Plays s buffer place o s buffer (record { refused = 14; place = place })
-unfolding recorded_in event_read number
+pub plays_malformed : (s : Run) (buffer : List ℕ) (place : ℕ) (d o : Option Event) → d ≡ None → d ≡ o → Plays s buffer place o s buffer (record { refused = 14; place = place })
+unfolding recorded_in number
 plays_malformed s buffer place d o e f =
-    let none_is : none ≡ o = sym (ap event_read e) ∙ f in
+    let none_is : None ≡ o = sym e ∙ f in
     rw (← none_is) (record { left = refl; number = refl })
 
-pub plays_event : (s : Run) (buffer : List ℕ) (place : ℕ) (d : Decoded) (x : Event) (o : Option Event) (s' : Run) (buffer' : List ℕ) (r : Played) → d ≡ StandsFor x → event_read d ≡ o
-    → Plays s buffer place (some x) s' buffer' r → Plays s buffer place o s' buffer' r
-unfolding event_read
+pub plays_event : (s : Run) (buffer : List ℕ) (place : ℕ) (d : Option Event) (x : Event) (o : Option Event) (s' : Run) (buffer' : List ℕ) (r : Played) → d ≡ Some x → d ≡ o
+    → Plays s buffer place (Some x) s' buffer' r → Plays s buffer place o s' buffer' r
 plays_event s buffer place d x o s' buffer' r e f w =
-    let some_is : some x ≡ o = sym (ap event_read e) ∙ f in
+    let some_is : Some x ≡ o = sym e ∙ f in
     rw (← some_is) w
 
 nowhere : (b x : List ℕ) (p q : ℕ) → length x ≡ 0 → sets b p x ≡ sets b q x

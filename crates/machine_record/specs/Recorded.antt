@@ -1,7 +1,7 @@
 -- What the recorder leaves of an input: each record's call goes through it, the start first, in one buffer of that many bytes (document 02, Note 9).
 -- Assumes nothing.
 use Rattle.std.specs.Prelude.{◌∷◌, ◌++◌, ◌+◌, ◌*◌}
-use Rattle.laws.specs.Basics.{List, [], Option, none, some, ℕ, suc, eqb, take, replicate, pick}
+use Rattle.laws.specs.Basics.{List, [], Option, None, Some, ℕ, suc, eqb, take, replicate, pick}
 use Rattle.model.specs.declared.{Event.Event, Refusal.TheVariants.MalformedRecord, Refusal.TheVariants.NoFirstByte, Refusal.TheVariants.LeftOverBytes}
 use Rattle.model.specs.{Refusals.number, Trace.decoded, Words.ones}
 use Rattle.whole_runs.specs.{Outcomes.refusing, Outcomes.start_report, Calls.Call, Listing.call_of, Listing.decimal, Listing.line_feed, Listing.most_records}
@@ -9,8 +9,8 @@ use Rattle.theory_recording.specs.Recording.{Tape, Taped, recorded_start, record
 
 -- The call that a record stands for. A record that is malformed is no call.
 unfoldable pub call_in : Option Event → List Call
-call_in none = []
-call_in (some e) = call_of e ∷ []
+call_in None = []
+call_in (Some e) = call_of e ∷ []
 
 -- The calls that stand in the records of a part of a trace, in their order. Left-over bytes are no record.
 unfoldable pub calls_in : List ℕ → List Call
@@ -47,8 +47,8 @@ recorded_trace size (n ∷ l) = pick (eqb (start_number size n) 0) (in_front (ta
 
 -- One record through the recorder: the tape after it, and its reply. "14: .. given before any other number for that record."
 unfoldable pub recorded_in : Tape → Option Event → Taped
-recorded_in t none = record { tape = t; reply = record { report = refusing MalformedRecord; rose = 0; deleted = []; line = [] } }
-recorded_in t (some e) = recorded t (call_of e)
+recorded_in t None = record { tape = t; reply = record { report = refusing MalformedRecord; rose = 0; deleted = []; line = [] } }
+recorded_in t (Some e) = recorded t (call_of e)
 
 -- "record: record ", byte by byte, and ": refused ".
 abbrev pub record_name : List ℕ

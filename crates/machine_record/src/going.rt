@@ -10,6 +10,7 @@ ghost use Rattle.machine_record.specs.Lent.{position_of, state_in, Arrives, inpu
 
 use crate::marks::Marks;
 use crate::{LONGEST_WORD, block, marks, text};
+use listing::Summary;
 use machines::heard::Taken;
 use machines::{Answer, heard};
 use model::PROCESSES;
@@ -138,8 +139,8 @@ fn start(words: &mut [u16], n: u8, left: u64, out: &mut [u8]) -> Marks
     let room = least(left);
     let started = library_recorder::start(words, n as usize, &block_counts, &mut out[..room], 0);
     let answer = started.answer;
-    let summary = listing::summaries::of_start(answer);
-    let refused = summary.refused;
+    let summary = Summary::from(answer);
+    let refused = summary.number();
     if refused != 0 {
         return end_refused(out, 0, refused as u64);
     }

@@ -1,7 +1,7 @@
 -- Where a replay stands after the bytes that it read: the records taken are the first of them, their lines are written, and the bytes held are the others.
 -- Assumes nothing.
 use Rattle.std.specs.Prelude.{◌≡◌, ◌&&◌, ◌∷◌, ◌++◌, ◌+◌, ◌*◌, ◌/◌, ◌≤◌, ◌<◌}
-use Rattle.laws.specs.Basics.{refl, sym, ◌∙◌, ap, Bool, true, false, List, [], append-nil, append_assoc, none, ℕ, arith, ltb, length, take, drop, length-append, length-drop, length-take-le, ltb-false, pick, by_bool}
+use Rattle.laws.specs.Basics.{refl, sym, ◌∙◌, ap, Bool, true, false, List, [], append-nil, append_assoc, None, ℕ, arith, ltb, length, take, drop, length-append, length-drop, length-take-le, ltb-false, pick, by_bool}
 use lib.ListN.{take-append-drop}
 use lib.Seq.{take-append-le, drop-append-le, take-add, drop-drop}
 use Rattle.model.specs.declared.Run.{Run}
@@ -14,7 +14,7 @@ pub record Going (read written : List ℕ) (b : Between) : Type 0 where
   pub n : ℕ
   pub rest : List ℕ
   pub is_read : read ≡ n ∷ rest
-  pub accepted : start_refusal n ones ≡ none
+  pub accepted : start_refusal n ones ≡ None
   pub taken : 4 * b.done ≤ length rest
   pub below : length rest ≤ 4 * most_records
   pub less : b.done < most_records
@@ -24,7 +24,7 @@ pub record Going (read written : List ℕ) (b : Between) : Type 0 where
   pub lines : written ≡ records b.all 0 (start_state n ones) (take (4 * b.done) rest)
 
 -- Nothing is taken yet.
-pub begun_going : (all : Bool) (n : ℕ) → start_refusal n ones ≡ none → Going (n ∷ []) [] (record { all = all; done = 0; run = start_state n ones; buffered = [] })
+pub begun_going : (all : Bool) (n : ℕ) → start_refusal n ones ≡ None → Going (n ∷ []) [] (record { all = all; done = 0; run = start_state n ones; buffered = [] })
 unfolding state_after_records goes_on_after_all records
 begun_going all n ok = record { n = n; rest = []; is_read = refl; accepted = ok; taken = omega arith; below = omega arith; less = omega arith; state = refl; bytes = refl; goes = refl; lines = refl }
 

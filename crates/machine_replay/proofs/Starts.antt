@@ -1,10 +1,12 @@
 -- The first byte: the start in place, and what was read.
 -- Assumes nothing.
-use Rattle.std.specs.Prelude.{◌≡◌, ◌++◌, ◌+◌, ◌-◌, ◌*◌, ◌≤◌}
-use Rattle.laws.specs.Basics.{refl, ◌∙◌, ap, false, List, none, some, ℕ, min, arith, leb, length, get_or, take, drop, length-take-le, leb-true, by_bool}
+use Rattle.std.specs.Prelude.{◌≡◌, ◌++◌, ◌+◌, ◌-◌, ◌*◌, ◌≤◌, Err, Ok}
+use Rattle.laws.specs.Basics.{refl, ◌∙◌, ap, false, List, None, Some, ℕ, min, arith, leb, length, get_or, take, drop, length-take-le, leb-true, by_bool}
 use lib.Seq.{take-add, get_or-take, get_or-drop}
 use Rattle.laws.specs.Truth.{and_no_right}
-use Rattle.model.specs.declared.{Run.Run, Refusal.Refusal, StartAnswer.StartAnswer}
+use Prim.{tt}
+use Rattle.model.specs.Shapes.{StartAnswer}
+use Rattle.model.specs.declared.{Run.Run, Refusal.Refusal}
 use Rattle.model.specs.{Words.ones, Refusals.start_refusal, Refusals.first_of, Steps.start_state, laws.Refusals.by_refusal}
 use Rattle.whole_runs.specs.{Outcomes.Outcome, Outcomes.start_outcome, Listing.most_records}
 use Rattle.words.specs.Layout.{state_size}
@@ -12,7 +14,6 @@ use Rattle.in_place.specs.Starting.{start_refusal_in, start_outcome_in, StartsTh
 use Rattle.in_place.proofs.Judging.{starts_the_same}
 use Rattle.machine_replay.specs.declared.place.Place.{Place}
 use Rattle.machine_replay.specs.{Replaying.most_to_read, Standing.between_in, Standing.holding}
-use Rattle.model.specs.declared.StartAnswer.TheVariants as start_answer
 
 module _ (many n : ℕ) (whole : many ≡ state_size) where
   same_start : start_outcome_in many n ones ≡ start_outcome n ones
@@ -25,19 +26,19 @@ module _ (many n : ℕ) (whole : many ≡ state_size) where
     answer_same : a ≡ (start_outcome n ones).answer
     answer_same = is-a ∙ ap (λ (o : Outcome StartAnswer). o.answer) same_start
 
-    pub start_refuses : (w : Refusal) → a ≡ start_answer.Refused w → start_refusal n ones ≡ some w
+    pub start_refuses : (w : Refusal) → a ≡ Err w → start_refusal n ones ≡ Some w
     unfolding start_outcome
     start_refuses w e = by_refusal (start_refusal n ones)
         (λ h. let started = rw h at answer_same in cc)
         (λ x h. let refused = rw h at answer_same in cc)
 
-    pub start_none : a ≡ start_answer.Started → start_refusal n ones ≡ none
+    pub start_none : a ≡ Ok tt → start_refusal n ones ≡ None
     unfolding start_outcome
     start_none e = by_refusal (start_refusal n ones)
         (λ h. h)
         (λ x h. let refused = rw h at answer_same in cc)
 
-    pub start_run : (run : Run) → run ≡ (start_outcome_in many n ones).run → a ≡ start_answer.Started → run ≡ start_state n ones
+    pub start_run : (run : Run) → run ≡ (start_outcome_in many n ones).run → a ≡ Ok tt → run ≡ start_state n ones
     unfolding start_outcome
     start_run run is-run e =
         let same = is-run ∙ ap (λ (o : Outcome StartAnswer). o.run) same_start in

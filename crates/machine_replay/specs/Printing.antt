@@ -1,7 +1,7 @@
 -- What the replay program asks to be written, over every list of answers of the system: the listing of what it read, as far as it read.
 -- Assumes nothing.
 use Rattle.std.specs.Prelude.{◌≡◌, ◌&&◌, ◌∷◌, ◌++◌, ◌+◌, ◌*◌, ◌/◌, ◌≤◌}
-use Rattle.laws.specs.Basics.{Bool, true, false, List, [], Option, none, some, ℕ, length, take}
+use Rattle.laws.specs.Basics.{Bool, true, false, List, [], Option, None, Some, ℕ, length, take}
 use Rattle.model.specs.declared.Refusal.{Refusal}
 use Rattle.model.specs.{Words.ones, Refusals.start_refusal, Steps.start_state}
 use Rattle.whole_runs.specs.Listing.{most_records, asks_for_all, goes_on_after_all, listing}
@@ -29,8 +29,8 @@ lines_of all (n ∷ l) = listing all (n ∷ take (4 * (length l / 4)) l)
 
 -- The trace stops the replay nowhere: neither the first byte nor a record does.
 unfoldable pub is_start : Option Refusal → Bool
-is_start none = true
-is_start (some why) = false
+is_start None = true
+is_start (Some why) = false
 
 unfoldable pub goes_on_after : Bool → List ℕ → Bool
 goes_on_after all [] = true

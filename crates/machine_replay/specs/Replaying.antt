@@ -1,7 +1,7 @@
 -- The replay program as a machine: what it asks the system for, and where each answer leads.
 -- Assumes nothing.
 use Rattle.std.specs.Prelude.{◌&&◌, ◌∷◌, ◌++◌, ◌+◌, ◌-◌, ◌*◌}
-use Rattle.laws.specs.Basics.{Bool, List, [], Option, none, some, ℕ, min, eqb, ltb, length, get_or, drop, pick}
+use Rattle.laws.specs.Basics.{Bool, List, [], Option, None, Some, ℕ, min, eqb, ltb, length, get_or, drop, pick}
 use Rattle.laws.specs.Tests.{same}
 use Rattle.model.specs.declared.{Run.Run, Refusal.Refusal, Refusal.TheVariants.NoFirstByte}
 use Rattle.model.specs.{Words.ones, Refusals.start_refusal, Steps.start_state}
@@ -77,8 +77,8 @@ onward room b = let o = block_outcome b.all b.done b.run b.buffered room in taki
 
 -- "The first byte is n." "A bad first byte prints record number 0 and the refusal and ends".
 unfoldable pub begun : Bool → ℕ → Option Refusal → State
-begun all n none = reading (record { all = all; done = 0; run = start_state n ones; buffered = [] })
-begun all n (some why) = ending (refusal_text 0 why)
+begun all n None = reading (record { all = all; done = 0; run = start_state n ones; buffered = [] })
+begun all n (Some why) = ending (refusal_text 0 why)
 
 unfoldable pub opened : Bool → Answer → State
 opened all (Bytes l) = let n = get_or l 0 0 in begun all n (start_refusal n ones)

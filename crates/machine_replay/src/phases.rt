@@ -58,11 +58,11 @@ fn begin_run(n: u8, all: bool, words: &mut [u16], input: &[u8], out: &mut [u8]) 
     let block_counts = [1u32; PROCESSES];
     let answer = in_place::start::start(words, n as usize, &block_counts);
     match answer {
-        StartAnswer::Refused(why) => {
+        Err(why) => {
             let size = listing::output::line::refuse(0, why, out);
             records::with_text(place::ENDING, size)
         }
-        StartAnswer::Started => plain(place::READING, all),
+        Ok(()) => plain(place::READING, all),
     }
 }
 

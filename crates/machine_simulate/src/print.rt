@@ -6,10 +6,10 @@ ghost use Rattle.listing.specs.Printed.{Printed};
 ghost use Rattle.machine_simulate.specs.Text.{longest_text, figures_text, result_text, row_text};
 
 use machines::programs::text::{write_figure, write_refused};
-use theory_recording::spacing::{TrialAnswer, TrialResult};
+use theory_recording::spacing::{NO_FIGURES, TrialFigures, TrialResult};
 
 // The five figures, one a line.
-fn write_figures(out: &mut [u8], r: TrialResult) -> usize
+fn write_figures(out: &mut [u8], r: TrialFigures) -> usize
     requires { longest_text ≤ length out.old }
     ensures { Printed out.old 0 (figures_text r) out.new result × (result ≤ longest_text) }
 {
@@ -30,10 +30,9 @@ pub fn write_result(out: &mut [u8], r: TrialResult) -> usize
     requires { longest_text ≤ length out.old }
     ensures { Printed out.old 0 (result_text r) out.new result × (result ≤ longest_text) }
 {
-    let answer = r.answer;
-    match answer {
-        TrialAnswer::Refused(why) => write_refused(out, why),
-        TrialAnswer::Tried => write_figures(out, r),
+    match r {
+        Err(why) => write_refused(out, why),
+        Ok(figures) => write_figures(out, figures),
     }
 }
 
@@ -51,11 +50,12 @@ pub fn write_row(out: &mut [u8], spacing: u32, r: TrialResult) -> usize
     requires { longest_text ≤ length out.old }
     ensures { Printed out.old 0 (row_text spacing r) out.new result × (result ≤ longest_text) }
 {
+    let f = r.unwrap_or(NO_FIGURES);
     let first = listing::write_number(out, 0, spacing as u64);
-    let one = write_field(out, first, r.deliveries as u64);
-    let two = write_field(out, one, r.forced as u64);
-    let three = write_field(out, two, r.most as u64);
-    let four = write_field(out, three, r.quotient as u64);
-    let five = write_field(out, four, r.remainder as u64);
+    let one = write_field(out, first, f.deliveries as u64);
+    let two = write_field(out, one, f.forced as u64);
+    let three = write_field(out, two, f.most as u64);
+    let four = write_field(out, three, f.quotient as u64);
+    let five = write_field(out, four, f.remainder as u64);
     listing::write_byte(out, five, b'\n')
 }

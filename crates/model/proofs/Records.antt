@@ -2,7 +2,7 @@
 -- A record goes to its word of 32 bits, to its three fields, to its event; each of these steps is undone by the step back.
 -- Assumes nothing.
 use Rattle.std.specs.Prelude.{◌≡◌, ◌&&◌, ◌∷◌, ◌/◌, ◌%◌, ◌≤◌, ◌<◌}
-use Rattle.laws.specs.Basics.{refl, sym, ◌∙◌, ap, true, false≢true, List, [], Option, none, some, ℕ, zero, suc, arith, eqb, ltb, length, eqb-true, lt-ltb, ltb-true, by_bool}
+use Rattle.laws.specs.Basics.{refl, sym, ◌∙◌, ap, true, false≢true, List, [], Option, None, Some, ℕ, zero, suc, arith, eqb, ltb, length, eqb-true, lt-ltb, ltb-true, by_bool}
 use Rattle.laws.specs.{Options.some_same, Options.none≢some, Truth.and_left, Truth.and_right, Tests.every}
 use Rattle.model.specs.declared.{Fields.Fields, Event.Event}
 use Rattle.model.specs.declared.Event.TheVariants.{Checkpoint, Send, Deliver, Lose, Recover}
@@ -16,7 +16,7 @@ same_parts : {k l p q a b : ℕ} → k ≡ l → p ≡ q → a ≡ b → parts k
 same_parts e f g = rw (e, f, g)
 
 -- The fields of an event stand for that event.
-event_of_fields : (e : Event) → event_of_def (fields_of e) ≡ some e
+event_of_fields : (e : Event) → event_of_def (fields_of e) ≡ Some e
 unfolding event_of_def fields_of if_zero_of
 event_of_fields (Checkpoint i) = refl
 event_of_fields (Send i j) = refl
@@ -25,19 +25,19 @@ event_of_fields (Lose m) = refl
 event_of_fields (Recover F) = refl
 
 -- What must be zero is zero where it stands for an event.
-if_zero_lem : (n : ℕ) (d e : Event) → if_zero_of n d ≡ some e → (n ≡ 0) × (d ≡ e)
+if_zero_lem : (n : ℕ) (d e : Event) → if_zero_of n d ≡ Some e → (n ≡ 0) × (d ≡ e)
 unfolding if_zero_of
 if_zero_lem zero d e h = (refl, cc)
 if_zero_lem (suc n) d e h = absurd (let z : ◌≡◌ {A = ℕ} 0 1 = cc in omega arith)
 
 -- A record of a kind whose process must be zero.
-process_zero : (r : Fields) (k : ℕ) (d e : Event) → fields_of d ≡ parts k 0 r.argument → eqb r.kind k ≡ true → if_zero_of r.process d ≡ some e → fields_of e ≡ r
+process_zero : (r : Fields) (k : ℕ) (d e : Event) → fields_of d ≡ parts k 0 r.argument → eqb r.kind k ≡ true → if_zero_of r.process d ≡ Some e → fields_of e ≡ r
 process_zero r k d e f same h =
     let w = if_zero_lem _ _ _ h in
     rw (← w.1) (f ∙ same_parts (sym (eqb-true _ _ same)) (sym w.0) refl)
 
 -- Fields that stand for an event are the fields of that event.
-fields_of_event : (r : Fields) (e : Event) → event_of_def r ≡ some e → fields_of e ≡ r
+fields_of_event : (r : Fields) (e : Event) → event_of_def r ≡ Some e → fields_of e ≡ r
 unfolding event_of_def fields_of
 fields_of_event r e h =
     by_bool (eqb r.kind 0)
@@ -113,12 +113,12 @@ unfolding fields
 fields_small bytes = rw (lt-ltb (word bytes / 33554432 % 16) 16 (omega arith), lt-ltb (word bytes % 33554432) 33554432 (omega arith))
 
 -- The event that a well-formed record stands for.
-the_event : (o : Option Event) → stands o ≡ true → (e : Event) × (o ≡ some e)
+the_event : (o : Option Event) → stands o ≡ true → (e : Event) × (o ≡ Some e)
 unfolding stands
-the_event none h = absurd (false≢true h)
-the_event (some e) h = (e, refl)
+the_event None h = absurd (false≢true h)
+the_event (Some e) h = (e, refl)
 
-one_event : (bytes : List ℕ) → well_formed bytes ≡ true → (e : Event) × (decoded bytes ≡ some e) × (fits e ≡ true) × (encoded e ≡ some bytes)
+one_event : (bytes : List ℕ) → well_formed bytes ≡ true → (e : Event) × (decoded bytes ≡ Some e) × (fits e ≡ true) × (encoded e ≡ Some bytes)
 unfolding well_formed decoded fits encoded is_record
 one_event bytes h =
     let r = and_left (is_record bytes) (stands (decoded bytes)) h in
@@ -127,9 +127,9 @@ one_event bytes h =
     let w = the_event (decoded bytes) (and_right (is_record bytes) (stands (decoded bytes)) h) in
     let same : fields_of w.0 ≡ fields bytes = fields_of_event (fields bytes) w.0 w.1 in
     let fit : fits w.0 ≡ true = rw same (fields_small bytes) in
-    (w.0, w.1, fit, rw fit (ap some (ap bytes_of_def (ap word_of_def same ∙ word_of_fields bytes) ∙ bytes_of_word bytes four small)))
+    (w.0, w.1, fit, rw fit (ap Some (ap bytes_of_def (ap word_of_def same ∙ word_of_fields bytes) ∙ bytes_of_word bytes four small)))
 
-one_record : (e : Event) → fits e ≡ true → (bytes : List ℕ) × (encoded e ≡ some bytes) × (is_record bytes ≡ true) × (well_formed bytes ≡ true) × (decoded bytes ≡ some e)
+one_record : (e : Event) → fits e ≡ true → (bytes : List ℕ) × (encoded e ≡ Some bytes) × (is_record bytes ≡ true) × (well_formed bytes ≡ true) × (decoded bytes ≡ Some e)
 unfolding well_formed decoded fits encoded word_of_def stands
 one_record e h =
     let p : (fields_of e).process < 16 = ltb-true (fields_of e).process 16 (and_left (ltb (fields_of e).process 16) (ltb (fields_of e).argument 33554432) h) in
@@ -137,7 +137,7 @@ one_record e h =
     let w : word_of_def (fields_of e) < 4294967296 = omega (arith, kind_small e) in
     let bytes = bytes_of_def (word_of_def (fields_of e)) in
     let four : is_record bytes ≡ true = four_bytes (word_of_def (fields_of e)) w in
-    let event : decoded bytes ≡ some e = rw (fields_of_word (fields_of e) bytes p a (word_of_bytes (word_of_def (fields_of e)) w)) (event_of_fields e) in
+    let event : decoded bytes ≡ Some e = rw (fields_of_word (fields_of e) bytes p a (word_of_bytes (word_of_def (fields_of e)) w)) (event_of_fields e) in
     (bytes, rw h, four, rw (four, event), event)
 
 no_second_record : (one other : List ℕ) → well_formed one ≡ true → well_formed other ≡ true → decoded one ≡ decoded other → one ≡ other

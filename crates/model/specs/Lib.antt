@@ -1,6 +1,7 @@
 pub mod Numbers
 pub mod Refusals
 pub mod Risen
+pub mod Shapes
 pub mod Sound
 pub mod Steps
 pub mod Trace

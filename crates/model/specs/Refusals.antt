@@ -1,7 +1,7 @@
 -- Document 01, "Who can cause which refusal": the numbers, and for each call its tests in the table's order.
 -- Assumes nothing.
 use Rattle.std.specs.Prelude.{◌&&◌, ◌||◌, ◌∷◌, ◌+◌, ◌*◌, ◌^◌}
-use Rattle.laws.specs.Basics.{Bool, true, false, not, List, [], Option, none, some, ℕ, eqb, ltb, leb, length, get_or, pick}
+use Rattle.laws.specs.Basics.{Bool, true, false, not, List, [], Option, None, Some, ℕ, eqb, ltb, leb, length, get_or, pick}
 use Rattle.laws.specs.Search.{any_below}
 use Rattle.model.specs.declared.{Message.Message, Run.Run, Refusal.Refusal}
 use Rattle.model.specs.declared.Refusal.TheVariants.{CountOutsideRange, UnsoundState, ListTooShort, NoSuchProcess, SenderIsReceiver, NoSuchFailedProcess, NotUnderWay, TooManyUnderWay, MessageNumbersUsed, IntervalsUsed, NoFirstByte, LeftOverBytes, MalformedRecord, BlockCountOutsideRange, BlocksUsed, TooManyRecords, UnfitNamedList, NotKept, CausallyOrdered, BufferTooShort, TrialOutsideRange, HalvesMismatch, NeitherReady, Denied}
@@ -42,8 +42,8 @@ pub record Rule : Type 0 where
 
 -- "Where several hold, the lowest number is given": each list below ascends by number.
 unfoldable pub first_of : List Rule → Option Refusal
-first_of [] = none
-first_of (r ∷ l) = pick r.holds (some r.gives) (first_of l)
+first_of [] = None
+first_of (r ∷ l) = pick r.holds (Some r.gives) (first_of l)
 
 -- "1: start with a count outside 1 to 16."
 -- Note 5: "15, at the start after 1, for a block count outside 1 to 65,535"; "those at n and above are neither judged nor stored".
@@ -97,16 +97,16 @@ send_refusal s i j = first_of (
 
 -- "8: message not under way."
 abbrev pub missing : {A : Type 0} → Option A → Bool
-missing none = true
-missing (some x) = false
+missing None = true
+missing (Some x) = false
 
 unfoldable pub forces_past : Run → Option Message → Bool
-forces_past s none = false
-forces_past s (some x) = forces (process s x.receiver) x.vector && at_last_interval s x.receiver
+forces_past s None = false
+forces_past s (Some x) = forces (process s x.receiver) x.vector && at_last_interval s x.receiver
 
 unfoldable pub forces_over : Run → Option Message → Bool
-forces_over s none = false
-forces_over s (some x) = forces (process s x.receiver) x.vector && past_blocks s x.receiver
+forces_over s None = false
+forces_over s (Some x) = forces (process s x.receiver) x.vector && past_blocks s x.receiver
 
 unfoldable pub deliver_refusal : Run → ℕ → List ℕ → Option Refusal
 deliver_refusal s m deleted = first_of (

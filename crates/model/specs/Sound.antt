@@ -1,9 +1,10 @@
 -- Document 01, "A sound state", clause by clause, and after it the clauses of Note 5.
 -- Assumes nothing.
-use Rattle.std.specs.Prelude.{◌&&◌, ◌∷◌, ◌+◌}
+use Rattle.std.specs.Prelude.{◌&&◌, ◌∷◌, ◌+◌, None, Some}
 use Rattle.laws.specs.Basics.{Bool, true, false, not, List, [], map, ℕ, suc, eqb, ltb, leb, get_or, drop, pick}
 use Rattle.laws.specs.{Lists.or_else, Lists.last_of, Search.all_below, Sums.sum_below, Tests.every, Tests.some_of}
-use Rattle.model.specs.declared.{Interval.Interval, Pin.Pin, Pin.TheVariants.Nothing, Pin.TheVariants.At, Checkpoint.Checkpoint, Message.Message}
+use Rattle.model.specs.Shapes.{Pin}
+use Rattle.model.specs.declared.{Interval.Interval, Checkpoint.Checkpoint, Message.Message}
 use Rattle.model.specs.declared.Run.{Run}
 use Rattle.model.specs.Words.{most_processes, most_under_way, most_messages, most_block_count, most_blocks, entry, last_stored_of, names, is_pinned, Process, blocks_of, no_checkpoint, block_count, process, own, under_way}
 
@@ -37,12 +38,12 @@ kept_sound s p =
     && ascending 0 (map (λ c. c.index.0) (process s p).kept)
     && every (λ c. eqb (entry c.vector p).0 c.index.0) (process s p).kept
     && eqb (or_else (last_of (process s p).kept) no_checkpoint).index.0 (last_stored_of (own s p)).0
-    && names (get_or (process s p).pins p Nothing) (last_stored_of (own s p))
+    && names (get_or (process s p).pins p None) (last_stored_of (own s p))
 
 -- "Every pin is none or names a kept one; every kept one is pinned."
 unfoldable pub pin_sound : List Checkpoint → Pin → Bool
-pin_sound kept Nothing = true
-pin_sound kept (At a) = some_of (λ c. names (At a) c.index) kept
+pin_sound kept None = true
+pin_sound kept (Some a) = some_of (λ c. names (Some a) c.index) kept
 
 unfoldable pub pins_sound : Run → ℕ → Bool
 pins_sound s p = every (pin_sound (process s p).kept) (process s p).pins && every (is_pinned (process s p).pins) (process s p).kept
@@ -68,8 +69,8 @@ unfoldable pub unused_message : Message → Bool
 unused_message x = eqb x.number 0 && eqb x.sender 0 && eqb x.receiver 0 && zero_from 0 x.vector
 
 unfoldable pub is_nothing_of : Pin → Bool
-is_nothing_of Nothing = true
-is_nothing_of (At a) = false
+is_nothing_of None = true
+is_nothing_of (Some a) = false
 
 -- "unused pins, in rows or columns at n and above, are none": the pins of a row from a place on.
 unfoldable pub nothing_from : ℕ → List Pin → Bool

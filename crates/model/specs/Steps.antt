@@ -1,10 +1,11 @@
 -- Document 01, "Steps": what each accepted call does. Each definition stands under the sentence that it says.
 -- Assumes nothing.
 use Rattle.std.specs.Prelude.{◌&&◌, ◌||◌, ◌∷◌, ◌++◌, ◌+◌}
-use Rattle.laws.specs.Basics.{Bool, true, false, not, List, [], map, Option, none, some, ℕ, zero, suc, eqb, ltb, leb, get_or, set, pick}
+use Rattle.laws.specs.Basics.{Bool, true, false, not, List, [], map, Option, None, Some, ℕ, zero, suc, eqb, ltb, leb, get_or, set, pick}
 use Rattle.laws.specs.{Bits.bits_of, Lists.select, Lists.or_else, Lists.last_of, Lists.table, Lists.gather, Search.all_below, Search.any_below, Sums.sum_below}
 use Rattle.laws.specs.Tests.{count_below}
-use Rattle.model.specs.declared.{Interval.Interval, CheckpointIndex.CheckpointIndex, Pin.Pin, Pin.TheVariants.Nothing, Pin.TheVariants.At, Disk.Disk}
+use Rattle.model.specs.Shapes.{Pin}
+use Rattle.model.specs.declared.{Interval.Interval, CheckpointIndex.CheckpointIndex, Disk.Disk}
 use Rattle.model.specs.declared.{Checkpoint.Checkpoint, Message.Message, Run.Run}
 use Rattle.model.specs.Words.{most_processes, initial, basic, forced, entry, below, live_index_of, is_pinned, Process, live, blocks_of, zero_vector, no_pins_of, block_count, blank, process, with_process, own, under_way, with_messages, with_disk, failed}
 
@@ -43,7 +44,7 @@ checkpoint_zero count = record { index = record { 0 = 0 }; vector = zero_vector;
 unfoldable pub started : List ℕ → ℕ → Process
 started block_counts p = record {
   vector = set zero_vector p (record { 0 = 1 });
-  pins = set no_pins_of p (At (record { 0 = 0 }));
+  pins = set no_pins_of p (Some (record { 0 = 0 }));
   mark = false;
   kept = checkpoint_zero (get_or block_counts p 0) ∷ [];
 }
@@ -67,7 +68,7 @@ storing cause i P = record { index = live_index_of (entry P.vector i); vector = 
 unfoldable pub checkpointed : ℕ → ℕ → Process → Process
 checkpointed cause i P = record {
   vector = advanced i P.vector;
-  pins = set P.pins i (At (live_index_of (entry P.vector i)));
+  pins = set P.pins i (Some (live_index_of (entry P.vector i)));
   mark = false;
   kept = P.kept ++ (storing cause i P ∷ []);
 }
@@ -114,7 +115,7 @@ unfoldable pub taken_vector : List Interval → List Interval → List Interval
 taken_vector own carried = table most_processes (taken_entry own carried)
 
 unfoldable pub taken_pin : ℕ → List Interval → List Interval → List Pin → ℕ → Pin
-taken_pin i own carried pins f = pick (below (entry own f) (entry carried f)) (get_or pins i Nothing) (get_or pins f Nothing)
+taken_pin i own carried pins f = pick (below (entry own f) (entry carried f)) (get_or pins i None) (get_or pins f None)
 
 unfoldable pub taken_pins : ℕ → List Interval → List Interval → List Pin → List Pin
 taken_pins i own carried pins = table most_processes (taken_pin i own carried pins)
@@ -190,8 +191,8 @@ own_after s F f = entry (vector_after s F f) f
 
 -- "names the latest checkpoint with entry f below own(f) among those kept before the call and not lost, none if there is none"
 unfoldable pub latest_pin : Option Checkpoint → Pin
-latest_pin none = Nothing
-latest_pin (some c) = At c.index
+latest_pin None = None
+latest_pin (Some c) = Some c.index
 
 unfoldable pub moved_pin : Run → ℕ → ℕ → ℕ → Pin
 moved_pin s F p f = latest_pin (last_of (select (λ c. below (entry c.vector f) (own_after s F f)) (not_lost s F p)))
@@ -200,8 +201,8 @@ moved_pin s F p f = latest_pin (last_of (select (λ c. below (entry c.vector f) 
 unfoldable pub pin_after : Run → ℕ → ℕ → ℕ → Pin
 pin_after s F p f =
     pick (eqb (entry (vector_after s F p) f).0 (own_after s F f).0)
-    (pick (rolled_back s F p) (moved_pin s F p f) (get_or (process s p).pins f Nothing))
-    Nothing
+    (pick (rolled_back s F p) (moved_pin s F p f) (get_or (process s p).pins f None))
+    None
 
 unfoldable pub pins_after : Run → ℕ → ℕ → List Pin
 pins_after s F p = table most_processes (pin_after s F p)

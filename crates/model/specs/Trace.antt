@@ -1,7 +1,7 @@
 -- Document 01, "The trace": records, events, and the two ways between them.
 -- Assumes nothing.
 use Rattle.std.specs.Prelude.{◌≡◌, ◌&&◌, ◌∷◌, ◌+◌, ◌*◌, ◌/◌, ◌%◌}
-use Rattle.laws.specs.Basics.{Bool, true, false, List, [], Option, none, some, ℕ, zero, suc, eqb, ltb, length, pick}
+use Rattle.laws.specs.Basics.{Bool, true, false, List, [], Option, None, Some, ℕ, zero, suc, eqb, ltb, length, pick}
 use Rattle.laws.specs.Tests.{every}
 use Rattle.model.specs.declared.{Fields.Fields, Event.Event}
 use Rattle.model.specs.declared.Event.TheVariants.{Checkpoint, Send, Deliver, Lose, Recover}
@@ -21,16 +21,16 @@ fields bytes = record { kind = word bytes / 536870912; process = word bytes / 33
 -- "Kinds: 0 checkpoint (argument zero); 1 send (argument is the receiver); 2 deliver and 3 lose (process zero, argument is the message number);
 -- 4 recover (process zero, argument is the failed set); 5 to 7 unused." None: refusal 14, "unused kind, or a field that must be zero is not".
 unfoldable pub if_zero_of : {A : Type 0} → ℕ → A → Option A
-if_zero_of zero e = some e
-if_zero_of (suc k) e = none
+if_zero_of zero e = Some e
+if_zero_of (suc k) e = None
 
 unfoldable pub event_of_def : Fields → Option Event
 event_of_def r = pick (eqb r.kind 0) (if_zero_of r.argument (Checkpoint r.process))
-    (pick (eqb r.kind 1) (some (Send r.process r.argument))
+    (pick (eqb r.kind 1) (Some (Send r.process r.argument))
     (pick (eqb r.kind 2) (if_zero_of r.process (Deliver r.argument))
     (pick (eqb r.kind 3) (if_zero_of r.process (Lose r.argument))
     (pick (eqb r.kind 4) (if_zero_of r.process (Recover r.argument))
-    none))))
+    None))))
 
 -- The event that a record stands for.
 unfoldable pub decoded : List ℕ → Option Event
@@ -42,8 +42,8 @@ is_record bytes = eqb (length bytes) 4 && every (λ b. ltb b 256) bytes
 
 -- A record is well-formed if it stands for an event.
 unfoldable pub stands : Option Event → Bool
-stands none = false
-stands (some e) = true
+stands None = false
+stands (Some e) = true
 
 unfoldable pub well_formed : List ℕ → Bool
 well_formed bytes = is_record bytes && stands (decoded bytes)
@@ -68,13 +68,13 @@ bytes_of_def w = w / 16777216 ∷ w / 65536 % 256 ∷ w / 256 % 256 ∷ w % 256 
 
 -- The record of an event; none if it does not fit the fields.
 unfoldable pub encoded : Event → Option (List ℕ)
-encoded e = pick (fits e) (some (bytes_of_def (word_of_def (fields_of e)))) none
+encoded e = pick (fits e) (Some (bytes_of_def (word_of_def (fields_of e)))) None
 
 -- "every well-formed record stands for one event, and every event that fits the fields has one record"
 pub record RecordsAreEvents : Type 0 where
   -- the event of a well-formed record fits the fields, and the record is its record
-  pub one_event : (bytes : List ℕ) → well_formed bytes ≡ true → (e : Event) × (decoded bytes ≡ some e) × (fits e ≡ true) × (encoded e ≡ some bytes)
+  pub one_event : (bytes : List ℕ) → well_formed bytes ≡ true → (e : Event) × (decoded bytes ≡ Some e) × (fits e ≡ true) × (encoded e ≡ Some bytes)
   -- the record of an event that fits the fields is four bytes, well-formed, and stands for that event
-  pub one_record : (e : Event) → fits e ≡ true → (bytes : List ℕ) × (encoded e ≡ some bytes) × (is_record bytes ≡ true) × (well_formed bytes ≡ true) × (decoded bytes ≡ some e)
+  pub one_record : (e : Event) → fits e ≡ true → (bytes : List ℕ) × (encoded e ≡ Some bytes) × (is_record bytes ≡ true) × (well_formed bytes ≡ true) × (decoded bytes ≡ Some e)
   -- two well-formed records that stand for the same event are the same bytes
   pub no_second_record : (one other : List ℕ) → well_formed one ≡ true → well_formed other ≡ true → decoded one ≡ decoded other → one ≡ other

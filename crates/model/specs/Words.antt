@@ -1,9 +1,10 @@
 -- Document 01, "What the library covers" and "Words": limits, vectors, pins, kept checkpoints, the part of a state that is one process's.
 -- Assumes nothing.
-use Rattle.std.specs.Prelude.{◌∷◌, ◌+◌, ◌-◌}
+use Rattle.std.specs.Prelude.{◌∷◌, ◌+◌, ◌-◌, None, Some}
 use Rattle.laws.specs.Basics.{Bool, false, List, [], ℕ, eqb, ltb, length, get_or, take, set, replicate}
 use Rattle.laws.specs.{Bits.bit, Lists.placed, Tests.some_of}
-use Rattle.model.specs.declared.{Interval.Interval, CheckpointIndex.CheckpointIndex, Pin.Pin, Pin.TheVariants.Nothing, Pin.TheVariants.At, Disk.Disk}
+use Rattle.model.specs.Shapes.{Pin}
+use Rattle.model.specs.declared.{Interval.Interval, CheckpointIndex.CheckpointIndex, Disk.Disk}
 use Rattle.model.specs.declared.{Checkpoint.Checkpoint, Message.Message, Run.Run}
 
 -- "A run has n processes, 1 to 16, numbered from 0."
@@ -73,8 +74,8 @@ comes_before a f v = ltb a.0 (entry v f).0
 
 -- "A pin of i for f names one kept checkpoint of i, or none."
 abbrev pub names : Pin → CheckpointIndex → Bool
-names Nothing a = false
-names (At b) a = eqb b.0 a.0
+names None a = false
+names (Some b) a = eqb b.0 a.0
 
 -- "A checkpoint is kept exactly while a pin names it."
 unfoldable pub is_pinned : List Pin → Checkpoint → Bool
@@ -101,7 +102,7 @@ abbrev pub zero_vector : List Interval
 zero_vector = replicate most_processes (record { 0 = 0 })
 
 abbrev pub no_pins_of : List Pin
-no_pins_of = replicate most_processes Nothing
+no_pins_of = replicate most_processes None
 
 abbrev pub no_checkpoint : Checkpoint
 no_checkpoint = record { index = record { 0 = 0 }; vector = zero_vector; cause = 0; blocks = 0 }

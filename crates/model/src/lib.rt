@@ -36,11 +36,7 @@ pub struct Interval(pub u16);
 pub struct CheckpointIndex(pub u16);
 
 // A pin (document 01's word): it names one kept checkpoint of its process, or none.
-#[derive(Clone, Copy)]
-pub enum Pin {
-    Nothing,
-    At(CheckpointIndex),
-}
+pub type Pin = Option<CheckpointIndex>;
 
 // A stored checkpoint: its index, the dependency vector that it was stored with, its cause and its process's block count (Note 5).
 #[derive(Clone, Copy)]
@@ -109,15 +105,15 @@ pub struct Run {
     pub disk: Disk,
 }
 
-// Why a call or a record is refused. specs/Refusals gives each its number, in this order. 6 is free since Note 4; 15 and above are document 02's.
+// Why a call or a record is refused. specs/Refusals gives each its number, which is its discriminant. 6 is free since Note 4; 15 and above are document 02's.
 #[derive(Clone, Copy)]
 pub enum Refusal {
-    CountOutsideRange,
+    CountOutsideRange = 1,
     UnsoundState,
     ListTooShort,
     NoSuchProcess,
     SenderIsReceiver,
-    NoSuchFailedProcess,
+    NoSuchFailedProcess = 7,
     NotUnderWay,
     TooManyUnderWay,
     MessageNumbersUsed,
@@ -138,60 +134,46 @@ pub enum Refusal {
     Denied,
 }
 
+// What an accepted checkpoint answers: its index, and how many were deleted.
 #[derive(Clone, Copy)]
-pub enum StartAnswer {
-    Refused(Refusal),
-    Started,
+pub struct Stored {
+    pub index: CheckpointIndex,
+    pub deleted: usize,
 }
 
-// Stored: the checkpoint's index, and how many were deleted.
+// What an accepted delivery answers: the index of the checkpoint that it forced, if it forced one, and how many were deleted.
 #[derive(Clone, Copy)]
-pub enum CheckpointAnswer {
-    Refused(Refusal),
-    Stored(CheckpointIndex, usize),
+pub struct Delivery {
+    pub forced: Option<CheckpointIndex>,
+    pub deleted: usize,
 }
 
-// Sent: the message's number.
+// What an accepted recovery answers: how many processes rolled back, and how many checkpoints were deleted.
 #[derive(Clone, Copy)]
-pub enum SendAnswer {
-    Refused(Refusal),
-    Sent(u32),
+pub struct Recovery {
+    pub rolled_back: usize,
+    pub deleted: usize,
 }
 
-// Received: how many checkpoints were deleted. Forced: the same after the index of the forced checkpoint.
-#[derive(Clone, Copy)]
-pub enum DeliverAnswer {
-    Refused(Refusal),
-    Received(usize),
-    Forced(CheckpointIndex, usize),
-}
+// The answers: what the accepted call answers, or why it is refused.
+pub type StartAnswer = Result<(), Refusal>;
 
-#[derive(Clone, Copy)]
-pub enum LoseAnswer {
-    Refused(Refusal),
-    Lost,
-}
+pub type CheckpointAnswer = Result<Stored, Refusal>;
+
+// The message's number.
+pub type SendAnswer = Result<u32, Refusal>;
+
+pub type DeliverAnswer = Result<Delivery, Refusal>;
+
+pub type LoseAnswer = Result<(), Refusal>;
 
 // The answer of a call that writes a line and changes no state: the line for a failed set, and the earliest line through named checkpoints.
-#[derive(Clone, Copy)]
-pub enum LineAnswer {
-    Refused(Refusal),
-    Written,
-}
+pub type LineAnswer = Result<(), Refusal>;
 
-// Recovered: how many processes rolled back, and how many checkpoints were deleted.
-#[derive(Clone, Copy)]
-pub enum RecoverAnswer {
-    Refused(Refusal),
-    Recovered(usize, usize),
-}
+pub type RecoverAnswer = Result<Recovery, Refusal>;
 
-// Merged: how many bytes the merged trace has.
-#[derive(Clone, Copy)]
-pub enum MergeAnswer {
-    Refused(Refusal),
-    Merged(usize),
-}
+// How many bytes the merged trace has.
+pub type MergeAnswer = Result<usize, Refusal>;
 
 // The three fields of a record of a trace: 3, 4 and 25 bits.
 #[derive(Clone, Copy)]

@@ -2,7 +2,7 @@
 -- Process i, which never knows more than g of f, sees the same.
 -- Assumes nothing.
 use Rattle.std.specs.Prelude.{◌≡◌, ◌&&◌, ◌∷◌, ◌++◌, ◌⊎◌, ◌+◌, ◌≤◌, ◌<◌}
-use Rattle.laws.specs.Basics.{refl, sym, ◌∙◌, ap, subst, true, false, List, [], none, inl, inr, ℕ, suc, arith, eqb, leb, length, ne_eqb, le-leb, leb-true, leb-false, pick, by_bool}
+use Rattle.laws.specs.Basics.{refl, sym, ◌∙◌, ap, subst, true, false, List, [], None, inl, inr, ℕ, suc, arith, eqb, leb, length, ne_eqb, le-leb, leb-true, leb-false, pick, by_bool}
 use Rattle.laws.specs.{Counting.count_mono, Tests.count_below, Truth.never_both, Truth.and_left}
 use Rattle.model.specs.Words.{basic, most_processes, most_under_way, most_interval, most_blocks}
 use Rattle.model.specs.declared.Named.{Named}
@@ -29,7 +29,7 @@ unfoldable receipt_of : Ideal → ℕ → List Seen
 receipt_of r m = pick (forces r m) (forced ∷ []) [] ++ (got (r.sender m) (vector_of r.n (r.carried m)) ∷ [])
 
 -- What process i sees of an accepted delivery.
-seen_deliver : (r : Ideal) → Inv r → r.n ≤ most_processes → (i m : ℕ) (deleted : List ℕ) → r.transit m ≡ true → deliver_refusal (state_of r) m deleted ≡ none
+seen_deliver : (r : Ideal) → Inv r → r.n ≤ most_processes → (i m : ℕ) (deleted : List ℕ) → r.transit m ≡ true → deliver_refusal (state_of r) m deleted ≡ None
     → seen_of i (state_of r) (deliver m deleted) ≡ pick (eqb (r.receiver m) i) (receipt_of r m) []
 unfolding seen_of receipt_of message_of call answered deliver_outcome deliver_answer deliver_report forced_in
 seen_deliver r v few i m deleted under e =
@@ -44,7 +44,7 @@ module _ (i f g : ℕ) where
   -- Call c is taken over, or another in its stead, where r is the run and r' the sub-run.
   pub record Taken (r r' : Ideal) (c : Call) : Type 0 where
     pub instead : Call
-    pub accepted : refusal (state_of r') instead ≡ none
+    pub accepted : refusal (state_of r') instead ≡ None
     pub subrun : SubRun f g (stepped r c) (stepped r' instead)
     pub no_recovery : is_recovery instead ≡ false
     pub same : seen_of i (state_of r') instead ≡ seen_of i (state_of r) c
@@ -79,7 +79,7 @@ module _ (i f g : ℕ) where
     }
 
     -- Checkpoint at p.
-    next_checkpoint : (p : ℕ) (deleted : List ℕ) → checkpoint_refusal (state_of r) p deleted ≡ none → known_of (checkpointed (because basic r) p) i f ≤ g → Next r r' (checkpoint p deleted)
+    next_checkpoint : (p : ℕ) (deleted : List ℕ) → checkpoint_refusal (state_of r) p deleted ≡ None → known_of (checkpointed (because basic r) p) i f ≤ g → Next r r' (checkpoint p deleted)
     unfolding stepped refusal is_recovery seen_of
     next_checkpoint p deleted e bound =
         let w = checkpoint_run r v fit p deleted e in
@@ -121,7 +121,7 @@ module _ (i f g : ℕ) where
         omega (arith, less, messages_count r, messages_count r', c.messages.count)
 
     -- A send from p to q.
-    next_send : (p q : ℕ) → send_refusal (state_of r) p q ≡ none → known_of (sending r p q) i f ≤ g → Next r r' (send p q)
+    next_send : (p q : ℕ) → send_refusal (state_of r) p q ≡ None → known_of (sending r p q) i f ≤ g → Next r r' (send p q)
     unfolding stepped refusal is_recovery seen_of sending
     next_send p q e bound =
         let w = send_run r v fit p q e in
@@ -162,7 +162,7 @@ module _ (i f g : ℕ) where
         (λ d. inl (make c r' (λ p. refl) refl refl (messages_left f g r r' r₁ m c.messages d gone)))
 
     -- Lose m.
-    next_lose : (m : ℕ) → lose_refusal (state_of r) m ≡ none → Next r r' (lose m)
+    next_lose : (m : ℕ) → lose_refusal (state_of r) m ≡ None → Next r r' (lose m)
     unfolding stepped refusal is_recovery seen_of lost
     next_lose m e =
         let under = (lose_run r v fit m e).0 in
@@ -175,7 +175,7 @@ module _ (i f g : ℕ) where
         ]
 
     -- Deliver m.
-    module _ (m : ℕ) (deleted : List ℕ) (e : deliver_refusal (state_of r) m deleted ≡ none) (bound : known_of (delivered (because words.forced r) m) i f ≤ g) where
+    module _ (m : ℕ) (deleted : List ℕ) (e : deliver_refusal (state_of r) m deleted ≡ None) (bound : known_of (delivered (because words.forced r) m) i f ≤ g) where
       under : r.transit m ≡ true
       under = (deliver_run r v fit m deleted e).0
 
@@ -249,7 +249,7 @@ module _ (i f g : ℕ) where
         step' : StepAt r' (delivered (because words.forced r') (c.messages.number m)) (r.receiver m)
         step' = subst (StepAt r' r₁') counterpart.receiver (at_because r' r₁' words.forced (r'.receiver k) (delivered_at a' k))
 
-        admitted : deliver_refusal (state_of r') (c.messages.number m) deleted ≡ none
+        admitted : deliver_refusal (state_of r') (c.messages.number m) deleted ≡ None
         admitted = deliver_admitted r' v' fit' (c.messages.number m) deleted counterpart.under (rw c.size (deliver_run r v fit m deleted e).2) early blocks
 
         seen_too : seen_of i (state_of r') (deliver (c.messages.number m) deleted) ≡ seen_of i (state_of r) (deliver m deleted)
@@ -287,7 +287,7 @@ module _ (i f g : ℕ) where
     next_earliest l lent = inl (c, refl)
 
     -- Each accepted call but a recovery.
-    pub next : (a : Call) → refusal (state_of r) a ≡ none → is_recovery a ≡ false → known_of (stepped r a) i f ≤ g → Next r r' a
+    pub next : (a : Call) → refusal (state_of r) a ≡ None → is_recovery a ≡ false → known_of (stepped r a) i f ≤ g → Next r r' a
     unfolding refusal
     next (checkpoint p deleted) e q bound = next_checkpoint p deleted e (unfold stepped in bound)
     next (send p q) e d bound = next_send p q e (unfold stepped in bound)

@@ -1,7 +1,7 @@
 -- Note 12, proved: a merge that comes to its end keeps both halves' orders, and each record stands in the half of its process.
 -- Assumes nothing.
-use Rattle.std.specs.Prelude.{◌≡◌, ◌&&◌, ◌||◌, ◌∷◌, ◌++◌, ◌⊎◌, ◌+◌, ◌/◌, ◌%◌, ◌≤◌, ◌<◌}
-use Rattle.laws.specs.Basics.{refl, sym, ◌∙◌, ap, fun_ext, Bool, true, false, not, List, [], map, append_assoc, Option, none, some, inl, inr, ℕ, zero, suc, arith, eqb, leb, length, leb-true, not-true, not-false, by_bool}
+use Rattle.std.specs.Prelude.{◌≡◌, ◌||◌, ◌∷◌, ◌++◌, ◌⊎◌, ◌+◌}
+use Rattle.laws.specs.Basics.{refl, sym, ◌∙◌, ap, fun_ext, Bool, true, false, not, List, [], map, append_assoc, Option, None, Some, inl, inr, ℕ, zero, suc, arith, eqb, leb, length, leb-true, not-true, not-false, by_bool}
 use Rattle.laws.specs.{Tests.every, Truth.and_both}
 use Rattle.model.specs.declared.{Fields.Fields, Refusal.Refusal}
 use Rattle.model.specs.{Words.in_set, Trace.if_zero_of, laws.Refusals.no_rule}
@@ -11,7 +11,7 @@ use Rattle.theory_merges.specs.Merge.{argument_sender, argument_count, half_even
 use Rattle.theory_merges.proofs.{Lists.number_out, Lists.reversed_append, Lists.receiver_still, Orders.same_receiver}
 
 -- What a record of a half stands for.
-zero_out : (k : ℕ) (x y : HalfEvent) → if_zero_of k x ≡ some y → x ≡ y
+zero_out : (k : ℕ) (x y : HalfEvent) → if_zero_of k x ≡ Some y → x ≡ y
 unfolding if_zero_of
 zero_out zero x y e = cc
 zero_out (suc k) x y e = absurd (let z : ◌≡◌ {A = ℕ} 0 1 = cc in omega arith)
@@ -21,7 +21,7 @@ ready_sent : (taken : List HalfEvent) (r : Fields) → (eqb r.kind 2 || eqb r.ki
 unfolding is_ready
 ready_sent taken r e ready = rw e at ready
 
-half_ready : (taken : List HalfEvent) (r : Fields) (x : HalfEvent) → half_event_of r ≡ some x → is_ready taken r ≡ true → was_sent taken x ≡ true
+half_ready : (taken : List HalfEvent) (r : Fields) (x : HalfEvent) → half_event_of r ≡ Some x → is_ready taken r ≡ true → was_sent taken x ≡ true
 unfolding half_event_of was_sent
 half_ready taken r x e ready = by_bool (eqb r.kind 0)
     (λ a. let q = zero_out r.argument (checkpoint_at r.process) x (rw a at e) in rw (← q))
@@ -35,10 +35,10 @@ half_ready taken r x e ready = by_bool (eqb r.kind 0)
     rw (← q) (ready_sent taken r (rw (c, d)) ready))
     (λ d. absurd (clash x (rw (a, b, c, d) at e))))))
   where
-    one : (x y : HalfEvent) → ◌≡◌ {A = Option HalfEvent} (some x) (some y) → x ≡ y
+    one : (x y : HalfEvent) → ◌≡◌ {A = Option HalfEvent} (Some x) (Some y) → x ≡ y
     one x y e = cc
 
-    clash : (x : HalfEvent) → ◌≡◌ {A = Option HalfEvent} none (some x) → ⊥
+    clash : (x : HalfEvent) → ◌≡◌ {A = Option HalfEvent} None (Some x) → ⊥
     clash x e = let z : ◌≡◌ {A = ℕ} 0 1 = cc in omega arith
 
 -- The process of a record that was ready is the same whatever is taken later.
@@ -62,15 +62,15 @@ module _ (n set : ℕ) where
   next_out taken T next (next_is side r a b) e = (side, r, a, b, refl, e)
 
   pub record_out : (taken : List HalfEvent) (T : List HalfEvent) (side : Bool) (next : HalfEvent → Taken) (o : Option HalfEvent) → on_record n set taken side next o ≡ took T
-      → (x : HalfEvent) × (o ≡ some x) × (record_refusal n set side taken x ≡ none) × (next x ≡ took T)
+      → (x : HalfEvent) × (o ≡ Some x) × (record_refusal n set side taken x ≡ None) × (next x ≡ took T)
   unfolding on_record
-  record_out taken T side next none e = absurd (not_stopped _ T e)
-  record_out taken T side next (some x) e = go (record_refusal n set side taken x) refl e
+  record_out taken T side next None e = absurd (not_stopped _ T e)
+  record_out taken T side next (Some x) e = go (record_refusal n set side taken x) refl e
     where
       go : (o : Option Refusal) → record_refusal n set side taken x ≡ o → judged o stopped (next x) ≡ took T
-          → (y : HalfEvent) × (◌≡◌ {A = Option HalfEvent} (some x) (some y)) × (record_refusal n set side taken y ≡ none) × (next y ≡ took T)
-      go none q d = (x, refl, q, d)
-      go (some r) q d = absurd (not_stopped r T d)
+          → (y : HalfEvent) × (◌≡◌ {A = Option HalfEvent} (Some x) (Some y)) × (record_refusal n set side taken y ≡ None) × (next y ≡ took T)
+      go None q d = (x, refl, q, d)
+      go (Some r) q d = absurd (not_stopped r T d)
 
   -- Which half a chosen record was the next of, and that it was ready.
   From : List HalfEvent → List Fields → List Fields → Bool → Fields → List Fields → List Fields → Type 0
@@ -109,8 +109,8 @@ module _ (n set : ℕ) where
     pub one : List HalfEvent
     pub other : List HalfEvent
     pub order : List HalfEvent
-    pub first_events : map half_event_of first ≡ map some one
-    pub second_events : map half_event_of second ≡ map some other
+    pub first_events : map half_event_of first ≡ map Some one
+    pub second_events : map half_event_of second ≡ map Some other
     pub keeps : KeepsBoth one other order
     pub sends : sends_first taken order ≡ true
     pub all : T ≡ newest_first taken order
@@ -127,11 +127,11 @@ module _ (n set : ℕ) where
   rest_none T taken first second e d q = rw (e, d) (record { one = []; other = []; order = []; first_events = refl; second_events = refl; keeps = (refl, refl); sends = refl; all = cc; mine = refl; theirs = refl })
 
   -- A record in the half of its process.
-  in_half_lem : (side : Bool) (taken : List HalfEvent) (x : HalfEvent) → record_refusal n set side taken x ≡ none → in_half_of set side (happens_at (receiver_of taken) x) ≡ true
+  in_half_lem : (side : Bool) (taken : List HalfEvent) (x : HalfEvent) → record_refusal n set side taken x ≡ None → in_half_of set side (happens_at (receiver_of taken) x) ≡ true
   unfolding record_refusal
   in_half_lem side taken x e = not-false _ (no_rule _ e 2)
 
-  rest_first : (T taken : List HalfEvent) (r : Fields) (x : HalfEvent) (a b : List Fields) → half_event_of r ≡ some x → was_sent taken x ≡ true → in_set set (happens_at (receiver_of T) x) ≡ true
+  rest_first : (T taken : List HalfEvent) (r : Fields) (x : HalfEvent) (a b : List Fields) → half_event_of r ≡ Some x → was_sent taken x ≡ true → in_set set (happens_at (receiver_of T) x) ≡ true
       → Rest T (x ∷ taken) a b → Rest T taken (r ∷ a) b
   unfolding KeepsBoth sends_first newest_first every
   rest_first T taken r x a b e sent q w = record {
@@ -147,7 +147,7 @@ module _ (n set : ℕ) where
     theirs = w.theirs;
   }
 
-  rest_second : (T taken : List HalfEvent) (r : Fields) (x : HalfEvent) (a b : List Fields) → half_event_of r ≡ some x → was_sent taken x ≡ true → in_set set (happens_at (receiver_of T) x) ≡ false
+  rest_second : (T taken : List HalfEvent) (r : Fields) (x : HalfEvent) (a b : List Fields) → half_event_of r ≡ Some x → was_sent taken x ≡ true → in_set set (happens_at (receiver_of T) x) ≡ false
       → Rest T (x ∷ taken) a b → Rest T taken a (r ∷ b)
   unfolding KeepsBoth sends_first newest_first every
   rest_second T taken r x a b e sent q w = record {
@@ -164,7 +164,7 @@ module _ (n set : ℕ) where
   }
 
   -- The process of a record, by the end and when it was taken.
-  at_end_lem : (T taken : List HalfEvent) (r : Fields) (x : HalfEvent) (order : List HalfEvent) → half_event_of r ≡ some x → is_ready taken r ≡ true → T ≡ newest_first (x ∷ taken) order
+  at_end_lem : (T taken : List HalfEvent) (r : Fields) (x : HalfEvent) (order : List HalfEvent) → half_event_of r ≡ Some x → is_ready taken r ≡ true → T ≡ newest_first (x ∷ taken) order
       → happens_at (receiver_of T) x ≡ happens_at (receiver_of taken) x
   at_end_lem T taken r x order e ready all =
       let more : T ≡ (newest_first [] order ++ (x ∷ [])) ++ taken = all ∙ reversed_append (x ∷ taken) order ∙ sym (append_assoc (newest_first [] order) (x ∷ []) taken) in
@@ -179,7 +179,7 @@ module _ (n set : ℕ) where
   ]
 
   taken_one : (T taken : List HalfEvent) (first second : List Fields) (side : Bool) (r : Fields) (a b : List Fields) (x : HalfEvent) → From taken first second side r a b
-      → half_event_of r ≡ some x → record_refusal n set side taken x ≡ none → Rest T (x ∷ taken) a b → Rest T taken first second
+      → half_event_of r ≡ Some x → record_refusal n set side taken x ≡ None → Rest T (x ∷ taken) a b → Rest T taken first second
   unfolding From in_half_of
   taken_one T taken first second side r a b x u e ok w =
       let at : happens_at (receiver_of T) x ≡ happens_at (receiver_of taken) x = at_end_lem T taken r x w.order e u.0 w.all in

@@ -1,5 +1,5 @@
 -- Note 12: lists of records taken, newest first: the numbers of their messages, the part before a send, the records of one process.
-use Rattle.std.specs.Prelude.{◌≡◌, ◌&&◌, ◌||◌, ◌∷◌, ◌++◌, ◌⊎◌, ◌≤◌, ◌<◌}
+use Rattle.std.specs.Prelude.{◌≡◌, ◌&&◌, ◌∷◌, ◌++◌, ◌≤◌}
 use Rattle.laws.specs.Basics.{refl, sym, ◌∙◌, ap, Bool, true, false, not, List, [], append_assoc, inl, inr, ℕ, suc, arith, eqb, eq-eqb, ne_eqb, eqb-true, pick, by_bool}
 use Rattle.laws.specs.{Lists.select, Select.select_append, Tests.every, Truth.never_both, Truth.and_left, Truth.and_right, Truth.and_no_right}
 use Rattle.theory_merges.specs.Halves.{HalfEvent, checkpoint_at, send_to, deliver_of, lose_of, is_send, send_by, how_many, is_send_number, message_number, receives, receiver_of, newest_first, happens_at, KeepsBoth}

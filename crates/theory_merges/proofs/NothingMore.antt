@@ -3,7 +3,7 @@
 -- process knows.
 -- Assumes nothing.
 use Rattle.std.specs.Prelude.{◌≡◌, ◌&&◌, ◌∷◌, ◌≤◌, ◌<◌}
-use Rattle.laws.specs.Basics.{refl, sym, ◌∙◌, ap, Bool, true, false, not, List, [], none, some, inl, inr, ℕ, suc, arith, leb, eq-eqb, leb-true, leb-false, pick, by_bool}
+use Rattle.laws.specs.Basics.{refl, sym, ◌∙◌, ap, Bool, true, false, not, List, [], None, Some, inl, inr, ℕ, suc, arith, leb, eq-eqb, leb-true, leb-false, pick, by_bool}
 use Rattle.laws.specs.Truth.{never_both, and_left, and_right}
 use Rattle.model.specs.declared.{Run.Run, Refusal.Refusal}
 use Rattle.model.specs.{Words.basic, Words.forced, laws.Refusals.by_refusal}
@@ -20,11 +20,11 @@ use Rattle.theory_merges.proofs.Follow.{next}
 use Rattle.whole_runs.proofs.WholeRuns.{start_reached, accepted_reached, calls_reached}
 
 -- Whether a call is accepted, by its refusal.
-pub accepted_in : (s : Run) (c : Call) → refusal s c ≡ none → is_accepted s c ≡ true
+pub accepted_in : (s : Run) (c : Call) → refusal s c ≡ None → is_accepted s c ≡ true
 unfolding is_accepted
 accepted_in s c e = eq-eqb (call s c).reply.report.refused 0 (accepted_report s c e)
 
-pub refused_in : (s : Run) (c : Call) (x : Refusal) → refusal s c ≡ some x → is_accepted s c ≡ false
+pub refused_in : (s : Run) (c : Call) (x : Refusal) → refusal s c ≡ Some x → is_accepted s c ≡ false
 unfolding is_accepted
 refused_in s c x e = rw (refused_report s c x e) (refused_number x)
 
@@ -50,7 +50,7 @@ step_rises r v (recover F deleted lent) under q p f = never_both true refl q
 step_rises r v (line F lent) under q p f = omega arith
 step_rises r v (earliest l lent) under q p f = omega arith
 
-delivers : (n : ℕ) (s : Run) (h : Surviving) (r : Ideal) → Reached n s h r → (c : Call) → refusal (state_of r) c ≡ none → (m : ℕ) (deleted : List ℕ) → c ≡ deliver m deleted → r.transit m ≡ true
+delivers : (n : ℕ) (s : Run) (h : Surviving) (r : Ideal) → Reached n s h r → (c : Call) → refusal (state_of r) c ≡ None → (m : ℕ) (deleted : List ℕ) → c ≡ deliver m deleted → r.transit m ≡ true
 unfolding refusal
 delivers n s h r v c e m deleted q = (deliver_run r v.inv v.limits m deleted (rw q at e)).0
 
@@ -92,7 +92,7 @@ module _ (n i f g : ℕ) (hf : f < n) where
 
     -- A first call that the other run takes over, or another in its stead.
     take_over : (c' : Call) → is_accepted s c ≡ true → is_accepted s' c' ≡ true → is_recovery c' ≡ false → seen_of i s' c' ≡ seen_of i s c
-        → refusal (state_of r) c ≡ none → refusal (state_of r') c' ≡ none
+        → refusal (state_of r) c ≡ None → refusal (state_of r') c' ≡ None
         → Followed (call s c).run (call s' c').run (stepped r c) (stepped r' c') calls → Followed s s' r r' (c ∷ calls)
     unfolding seen run_after unless_refused all_accepted unrecovered
     take_over c' a a' q shown e e' w = record {
@@ -109,11 +109,11 @@ module _ (n i f g : ℕ) (hf : f < n) where
   follow_none s s' r r' c = record { others = []; accepted = refl; no_recovery = refl; same = refl; subrun = c }
 
   -- The run after a first call that is refused, and after one that is accepted.
-  after_refused : (r : Ideal) (c : Call) (x : Refusal) → refusal (state_of r) c ≡ some x → unless_refused (refusal (state_of r) c) r (stepped r c) ≡ r
+  after_refused : (r : Ideal) (c : Call) (x : Refusal) → refusal (state_of r) c ≡ Some x → unless_refused (refusal (state_of r) c) r (stepped r c) ≡ r
   unfolding unless_refused
   after_refused r c x e = rw e
 
-  after_accepted : (r : Ideal) (c : Call) → refusal (state_of r) c ≡ none → unless_refused (refusal (state_of r) c) r (stepped r c) ≡ stepped r c
+  after_accepted : (r : Ideal) (c : Call) → refusal (state_of r) c ≡ None → unless_refused (refusal (state_of r) c) r (stepped r c) ≡ stepped r c
   unfolding unless_refused
   after_accepted r c e = rw e
 
@@ -139,12 +139,12 @@ module _ (n i f g : ℕ) (hf : f < n) where
             v₁ (accepted_reached n s' h' r' v' z.instead z.accepted) z.subrun no-recovery₁ bound₁)
       ])
       (λ x e.
-      let no : refusal s a ≡ some x = rw v.state e in
+      let no : refusal s a ≡ Some x = rw v.state e in
       skip s s' r r' a calls false (refused_in s a x no) refl r (after_refused r a x e)
       (follow calls (call s a).run s' (after n h (exchange s a)) h' r r' (refused_reached n s h r a x no v) v' c (rest_unrecovered s a calls no_recovery) (bound_on r r a calls (after_refused r a x e) bound)))
 
 -- The end of the other run: f is in interval g, and i's states are what they were.
-module _ (i f k : ℕ) (R R' : Ideal) (v : Inv R) (hi : i < R.n) (hf : f < R.n) (e : R.pin i f ≡ some k) (c : SubRun f (known_of R i f) R R') where
+module _ (i f k : ℕ) (R R' : Ideal) (v : Inv R) (hi : i < R.n) (hf : f < R.n) (e : R.pin i f ≡ Some k) (c : SubRun f (known_of R i f) R R') where
   part : local_of R' i ≡ local_of R i
   part = c.whole i hi (omega arith)
 

@@ -1,7 +1,7 @@
 -- Note 12, proved: any two orders of two halves in which every record is accepted end with the same vectors, pins and kept checkpoints.
 -- Assumes nothing.
-use Rattle.std.specs.Prelude.{◌≡◌, ◌&&◌, ◌∷◌, ◌++◌, ◌⊎◌, ◌+◌, ◌≤◌, ◌<◌}
-use Rattle.laws.specs.Basics.{refl, sym, ◌∙◌, ap, subst, Bool, true, false, not, List, [], none, ℕ, suc, arith, eqb, length, eqb-true, by_bool}
+use Rattle.std.specs.Prelude.{◌≡◌, ◌∷◌, ◌++◌, ◌+◌}
+use Rattle.laws.specs.Basics.{refl, sym, ◌∙◌, ap, subst, Bool, true, false, not, List, [], None, ℕ, suc, arith, eqb, length, eqb-true, by_bool}
 use Rattle.laws.specs.{Lists.select, Tests.every, Truth.never_both, Truth.and_left, Truth.and_right, Truth.and_both}
 use Rattle.model.specs.declared.Run.{Run}
 use Rattle.model.specs.{Words.in_set, Words.with_messages, Words.with_disk, Words.blank, Steps.with_processes, laws.Refusals.by_refusal}
@@ -23,7 +23,7 @@ module _ (n : ℕ) (block_counts : List ℕ) (to : ℕ → ℕ → ℕ) (records
   -- One accepted record.
   one_record : (taken l : List HalfEvent) (x : HalfEvent) (s : Run) (h : Surviving) (r : Ideal) → Reached n s h r → Follows n block_counts to records taken r
       → ((p : ℕ) → records p ≡ own to p (newest_first (x ∷ taken) l)) → ((s c : ℕ) → to s c ≡ receiver_of (newest_first (x ∷ taken) l) s c)
-      → refusal (state_of r) (call_of (plain_event taken x)) ≡ none → Follows n block_counts to records (x ∷ taken) (stepped r (call_of (plain_event taken x)))
+      → refusal (state_of r) (call_of (plain_event taken x)) ≡ None → Follows n block_counts to records (x ∷ taken) (stepped r (call_of (plain_event taken x)))
   unfolding plain_event call_of stepped refusal
   one_record taken l (checkpoint_at p) s h r v w rec rcv e = follows_checkpoint n block_counts to records taken r w p
   one_record taken l (lose_of q c) s h r v w rec rcv e = follows_lose n block_counts to records taken r w q c (message_number taken q c)

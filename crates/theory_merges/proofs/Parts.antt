@@ -1,6 +1,6 @@
 -- Note 12: what a process is after its own records is the same in every order: its part of the run is a function of its records, in which a delivered message
 -- carries what its sender's records before the send make of the sender. How far back messages go is bounded by the number of records.
-use Rattle.std.specs.Prelude.{◌≡◌, ◌∷◌, ◌++◌, ◌⊎◌, ◌≤◌, ◌<◌}
+use Rattle.std.specs.Prelude.{◌≡◌, ◌∷◌, ◌++◌, ◌⊎◌, ◌≤◌}
 use Rattle.laws.specs.Basics.{refl, sym, ◌∙◌, ap, subst, Bool, false, List, [], inl, inr, ℕ, zero, suc, arith, length, eq-eqb, ne_eqb, pick, by_bool, by_eq}
 use Rattle.laws.specs.Update.{upd, upd_same, upd_other}
 use Rattle.model.specs.Words.{basic, forced}

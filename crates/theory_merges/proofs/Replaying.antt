@@ -1,7 +1,7 @@
 -- Note 12, proved: the bytes of a merge are a plain trace, and replaying them is the run of the merged calls.
 -- Assumes nothing.
-use Rattle.std.specs.Prelude.{◌≡◌, ◌∷◌, ◌++◌, ◌+◌, ◌*◌, ◌/◌, ◌≤◌, ◌<◌}
-use Rattle.laws.specs.Basics.{refl, sym, ◌∙◌, ap, Bool, true, false, List, [], append-nil, append_assoc, Option, none, some, ℕ, zero, suc, arith, eqb, leb, length, length-append, eqb-false, lt-ltb, ltb-false, leb-true, leb-false, not-false, by_bool}
+use Rattle.std.specs.Prelude.{◌≡◌, ◌∷◌, ◌++◌, ◌+◌, ◌*◌, ◌/◌, ◌≤◌, ◌<◌, Err}
+use Rattle.laws.specs.Basics.{refl, sym, ◌∙◌, ap, Bool, true, false, List, [], append-nil, append_assoc, Option, None, Some, ℕ, zero, suc, arith, eqb, leb, length, length-append, eqb-false, lt-ltb, ltb-false, leb-true, leb-false, not-false, by_bool}
 use Rattle.laws.specs.{Options.some_same, Truth.and_right, Truth.or_none}
 use Rattle.model.specs.declared.{Fields.Fields, Refusal.Refusal, Run.Run, Event.Event}
 use Rattle.model.specs.{Words.most_processes, laws.Refusals.no_rule, laws.Refusals.number_range}
@@ -12,7 +12,6 @@ use Rattle.theory_merges.specs.Merge.{half_event_of, next_record, out_of_run, re
 use Rattle.theory_merges.proofs.Keeping.{next_out, record_out, merge_keeps}
 use Rattle.model.proofs.Records.{records_are_events}
 use Rattle.whole_runs.proofs.{Blocks.states_by_block, Blocks.one_state, WholeRuns.after_one}
-use Rattle.model.specs.declared.MergeAnswer.TheVariants as merge-answer
 
 -- A run-wide number is at most the count of the records taken.
 sends_few : (l : List HalfEvent) → how_many is_send l ≤ length l
@@ -43,7 +42,7 @@ Fitting [] = 0 ≤ 0
 Fitting (x ∷ l) = (fits (plain_event l x) ≡ true) × Fitting l
 
 module _ (n set : ℕ) (b : n ≤ most_processes) where
-  in_run : (side : Bool) (taken : List HalfEvent) (x : HalfEvent) → record_refusal n set side taken x ≡ none → out_of_run n x ≡ false
+  in_run : (side : Bool) (taken : List HalfEvent) (x : HalfEvent) → record_refusal n set side taken x ≡ None → out_of_run n x ≡ false
   unfolding record_refusal
   in_run side taken x e = no_rule _ e 0
 
@@ -56,7 +55,7 @@ module _ (n set : ℕ) (b : n ≤ most_processes) where
       all_fit k T (w.0 ∷ taken) z.2 z.3 (omega (arith, h)) w.3 (plain_fits n taken w.0 b (omega arith) (in_run z.0 taken w.0 w.2), f)
 
 -- The four bytes of an event that fits stand for it.
-stands_for : (e : Event) → fits e ≡ true → decoded (bytes_of_def (word_of_def (fields_of e))) ≡ some e
+stands_for : (e : Event) → fits e ≡ true → decoded (bytes_of_def (word_of_def (fields_of e))) ≡ Some e
 unfolding encoded
 stands_for e h =
     let w = records_are_events.one_record e h in
@@ -78,7 +77,7 @@ calls_of : List HalfEvent → List Call
 calls_of [] = []
 calls_of (x ∷ l) = calls_of l ++ (call_of (plain_event l x) ∷ [])
 
-performed : (t : Run) (e : Event) (r : List ℕ) → decoded r ≡ some e → (perform t (decoded r)).run ≡ (call t (call_of e)).run
+performed : (t : Run) (e : Event) (r : List ℕ) → decoded r ≡ Some e → (perform t (decoded r)).run ≡ (call t (call_of e)).run
 unfolding perform
 performed t e r d = rw d
 
@@ -135,7 +134,7 @@ pub record Fine (first second buffer : List ℕ) : Type 0 where
   pub few_first : length (after_first_byte first) / 4 ≤ 4096
   pub few_second : length (after_first_byte second) / 4 ≤ 4096
 
-pub fine : (first second : List ℕ) (F : ℕ) (buffer : List ℕ) → merge_refusal first second F buffer ≡ none → Fine first second buffer
+pub fine : (first second : List ℕ) (F : ℕ) (buffer : List ℕ) → merge_refusal first second F buffer ≡ None → Fine first second buffer
 unfolding merge_refusal
 fine first second F buffer e =
     let fails = no_rule _ e in
@@ -161,22 +160,22 @@ module _ (first second : List ℕ) (F : ℕ) (buffer : List ℕ) where
   whole = take_from (length A + length B) (count_of first) F [] A B
 
   -- A merge that is not refused.
-  not_refused : (r : Refusal) → (merge_report (merge-answer.Refused r)).refused ≡ 0 → ⊥
+  not_refused : (r : Refusal) → (merge_report (Err r)).refused ≡ 0 → ⊥
   unfolding merge_report
   not_refused r e = omega (arith, e, (number_range r).0)
 
-  no_number : (o : Option Refusal) → merge_refusal first second F buffer ≡ o → (merge_report (merge_outcome first second F buffer).answer).refused ≡ 0 → o ≡ none
+  no_number : (o : Option Refusal) → merge_refusal first second F buffer ≡ o → (merge_report (merge_outcome first second F buffer).answer).refused ≡ 0 → o ≡ None
   unfolding merge_outcome
-  no_number none e q = refl
-  no_number (some r) e q = absurd (not_refused r (rw e at q))
+  no_number None e q = refl
+  no_number (Some r) e q = absurd (not_refused r (rw e at q))
 
   all_taken : (m : Taken) → (merge_report (finished (count_of first) buffer m).answer).refused ≡ 0
-      → (taken : List HalfEvent) × (m ≡ took taken) × ((merge_report (finished (count_of first) buffer m).answer).value ≡ some (1 + length (plain_bytes taken)))
+      → (taken : List HalfEvent) × (m ≡ took taken) × ((merge_report (finished (count_of first) buffer m).answer).value ≡ Some (1 + length (plain_bytes taken)))
   unfolding finished merge_report
   all_taken (stopped r) q = absurd (omega (arith, q, (number_range r).0))
   all_taken (took taken) q = (taken, refl, refl)
 
-  outcome_is : merge_refusal first second F buffer ≡ none → merge_outcome first second F buffer ≡ finished (count_of first) buffer whole
+  outcome_is : merge_refusal first second F buffer ≡ None → merge_outcome first second F buffer ≡ finished (count_of first) buffer whole
   unfolding merge_outcome
   outcome_is e = rw e
 
@@ -201,7 +200,7 @@ module _ (first second : List ℕ) (F : ℕ) (buffer : List ℕ) where
         k.5,
         k.6,
         k.7,
-        ap (λ (u : MergeOutcome). (merge_report u.answer).value) o ∙ t.2 ∙ ap some long,
+        ap (λ (u : MergeOutcome). (merge_report u.answer).value) o ∙ t.2 ∙ ap Some long,
         ap (λ (u : MergeOutcome). u.buffer) (o ∙ ap (finished (count_of first) buffer) m),
         r.1,
       )

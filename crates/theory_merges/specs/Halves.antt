@@ -1,7 +1,7 @@
 -- Document 02, Note 12, "Two halves of one run": the records of two halves, orders of them, and what any two orders have in common. Merge has the merge.
 -- Assumes nothing.
 use Rattle.std.specs.Prelude.{◌≡◌, ◌&&◌, ◌∷◌, ◌++◌, ◌⊎◌}
-use Rattle.laws.specs.Basics.{Bool, true, false, not, List, [], none, ℕ, suc, eqb, leb, pick}
+use Rattle.laws.specs.Basics.{Bool, true, false, not, List, [], None, ℕ, suc, eqb, leb, pick}
 use Rattle.laws.specs.Tests.{every}
 use Rattle.model.specs.declared.{Run.Run, Event.Event}
 use Rattle.model.specs.declared.Event.TheVariants.{Checkpoint, Send, Deliver, Lose}
@@ -120,7 +120,7 @@ pub record SameProcesses (s t : Run) : Type 0 where
 -- "Any two orders that keep both halves and send before delivering, if every record is accepted in both, end with equal vectors, pins and kept
 -- checkpoints", whatever block counts the start was given. That they send before delivering need not be asked for: a message that was not sent has the number 0 here, and its delivery is refused.
 unfoldable pub OrdersAgree : Type 0
-OrdersAgree = (n : ℕ) (block_counts : List ℕ) → start_refusal n block_counts ≡ none → (set : ℕ) (first second one other : List HalfEvent)
+OrdersAgree = (n : ℕ) (block_counts : List ℕ) → start_refusal n block_counts ≡ None → (set : ℕ) (first second one other : List HalfEvent)
     → SplitBy set first second → KeepsBoth first second one → KeepsBoth first second other
     → all_accepted (start_outcome n block_counts).run (calls_from [] one) ≡ true → all_accepted (start_outcome n block_counts).run (calls_from [] other) ≡ true
     → SameProcesses (state_after (start_outcome n block_counts).run (calls_from [] one)) (state_after (start_outcome n block_counts).run (calls_from [] other))

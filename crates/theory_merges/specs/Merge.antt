@@ -1,14 +1,14 @@
 -- Document 02, Note 12, "Two halves of one run": the merge of two halves.
 -- Assumes nothing.
-use Rattle.std.specs.Prelude.{◌≡◌, ◌&&◌, ◌||◌, ◌∷◌, ◌++◌, ◌+◌, ◌*◌, ◌/◌, ◌%◌, ◌^◌, ◌≤◌, ◌<◌}
-use Rattle.laws.specs.Basics.{Bool, true, false, not, List, [], map, Option, none, some, ℕ, zero, suc, eqb, ltb, leb, length, pick}
-use Rattle.model.specs.declared.{Run.Run, Fields.Fields, Refusal.Refusal, MergeAnswer.MergeAnswer}
+use Rattle.std.specs.Prelude.{◌≡◌, ◌&&◌, ◌||◌, ◌∷◌, ◌++◌, ◌+◌, ◌*◌, ◌/◌, ◌%◌, ◌^◌, ◌≤◌, ◌<◌, Err, Ok}
+use Rattle.laws.specs.Basics.{Bool, true, false, not, List, [], map, Option, None, Some, ℕ, zero, suc, eqb, ltb, leb, length, pick}
+use Rattle.model.specs.Shapes.{MergeAnswer}
+use Rattle.model.specs.declared.{Run.Run, Fields.Fields, Refusal.Refusal}
 use Rattle.model.specs.declared.Refusal.TheVariants.{CountOutsideRange, ListTooShort, NoSuchProcess, SenderIsReceiver, NoSuchFailedProcess, NoFirstByte, LeftOverBytes, MalformedRecord, TooManyRecords, HalvesMismatch, NeitherReady}
 use Rattle.model.specs.{Words.most_processes, Words.in_set, Refusals.first_of, Trace.fields, Trace.if_zero_of, Trace.fields_of, Trace.word_of_def, Trace.bytes_of_def}
 use Rattle.whole_runs.specs.{Outcomes.judged, Outcomes.written, Outcomes.Report, Outcomes.refusing, Outcomes.accepting, Calls.state_after}
 use Rattle.whole_runs.specs.Listing.{state_after_records}
 use Rattle.theory_merges.specs.Halves.{HalfEvent, checkpoint_at, send_to, deliver_of, lose_of, message_number, receiver_of, plain_event, calls_from, newest_first, KeepsBoth, sends_first, happens_at, SplitBy}
-use Rattle.model.specs.declared.MergeAnswer.TheVariants as merge-answer
 
 -- "the argument names a message by 4 bits of sender, then 21 bits of that sender's running count": 2,097,152 is 2 to the power 21.
 abbrev pub argument_sender : Fields → ℕ
@@ -20,10 +20,10 @@ argument_count r = r.argument % 2097152
 -- "In a half, kinds 0 to 3 occur, and in deliver and lose the process is zero". None: refusal 14, "(kind 4 too)".
 unfoldable pub half_event_of : Fields → Option HalfEvent
 half_event_of r = pick (eqb r.kind 0) (if_zero_of r.argument (checkpoint_at r.process))
-    (pick (eqb r.kind 1) (some (send_to r.process r.argument))
+    (pick (eqb r.kind 1) (Some (send_to r.process r.argument))
     (pick (eqb r.kind 2) (if_zero_of r.process (deliver_of (argument_sender r) (argument_count r)))
     (pick (eqb r.kind 3) (if_zero_of r.process (lose_of (argument_sender r) (argument_count r)))
-    none)))
+    None)))
 
 -- "A delivery or loss is ready once its message was sent, any other record always." By kind and argument alone: whether the record is well-formed is
 -- judged as it is taken.
@@ -78,8 +78,8 @@ pub data Taken : Type 0 where
 
 -- One record, and what follows it.
 unfoldable pub on_record : ℕ → ℕ → List HalfEvent → Bool → (HalfEvent → Taken) → Option HalfEvent → Taken
-on_record n set taken ofFirst next none = stopped MalformedRecord
-on_record n set taken ofFirst next (some x) = judged (record_refusal n set ofFirst taken x) stopped (next x)
+on_record n set taken ofFirst next None = stopped MalformedRecord
+on_record n set taken ofFirst next (Some x) = judged (record_refusal n set ofFirst taken x) stopped (next x)
 
 -- "24 when records are left and neither half is ready."
 unfoldable pub on_next : ℕ → ℕ → List HalfEvent → (HalfEvent → List Fields → List Fields → Taken) → Next → Taken
@@ -152,25 +152,25 @@ pub record MergeOutcome : Type 0 where
   pub buffer : List ℕ
 
 unfoldable pub finished : ℕ → List ℕ → Taken → MergeOutcome
-finished n buffer (stopped r) = record { answer = merge-answer.Refused r; buffer = buffer }
-finished n buffer (took taken) = record { answer = merge-answer.Merged (1 + length (plain_bytes taken)); buffer = written buffer (n ∷ plain_bytes taken) }
+finished n buffer (stopped r) = record { answer = Err r; buffer = buffer }
+finished n buffer (took taken) = record { answer = Ok (1 + length (plain_bytes taken)); buffer = written buffer (n ∷ plain_bytes taken) }
 
 -- "the rest of the buffer is unchanged"; with a refusal all of it is.
 unfoldable pub merge_outcome : List ℕ → List ℕ → ℕ → List ℕ → MergeOutcome
 merge_outcome first second set buffer = judged (merge_refusal first second set buffer)
-    (λ r. record { answer = merge-answer.Refused r; buffer = buffer })
+    (λ r. record { answer = Err r; buffer = buffer })
     (finished (count_of first) buffer (take_all first second set))
 
 -- The number and the value of each answer.
 unfoldable pub merge_report : MergeAnswer → Report
-merge_report (merge-answer.Refused r) = refusing r
-merge_report (merge-answer.Merged bytes) = accepting (some bytes) 0
+merge_report (Err r) = refusing r
+merge_report (Ok bytes) = accepting (Some bytes) 0
 
 -- "it keeps both halves' orders": where a merge takes all records, both halves are well-formed, each record stands in the half of its process, and the
 -- order in which they were taken keeps both halves and sends before delivering. So `OrdersAgree` speaks of it.
 unfoldable pub MergeKeeps : Type 0
 MergeKeeps = (n set : ℕ) (first second : List Fields) (taken : List HalfEvent) → take_from (length first + length second) n set [] first second ≡ took taken
-    → (one other order : List HalfEvent) × (map half_event_of first ≡ map some one) × (map half_event_of second ≡ map some other)
+    → (one other order : List HalfEvent) × (map half_event_of first ≡ map Some one) × (map half_event_of second ≡ map Some other)
     × KeepsBoth one other order × (sends_first [] order ≡ true) × SplitBy set one other × (taken ≡ newest_first [] order)
 
 -- "The result is a plain trace": each record taken is four bytes of it, and replaying them is the run of the merged calls. An argument has 25 bits, so
@@ -185,8 +185,8 @@ MergeReplays = (n set : ℕ) (first second : List Fields) (order : List HalfEven
 -- a replay of them is. No limit of a run is judged: a replay of the result may meet 9.
 unfoldable pub MergePromise : List ℕ → List ℕ → ℕ → List ℕ → Type 0
 MergePromise first second set buffer = (merge_report (merge_outcome first second set buffer).answer).refused ≡ 0
-    → (one other order : List HalfEvent) × (map half_event_of (fields_in (after_first_byte first)) ≡ map some one) × (map half_event_of (fields_in (after_first_byte second)) ≡ map some other)
+    → (one other order : List HalfEvent) × (map half_event_of (fields_in (after_first_byte first)) ≡ map Some one) × (map half_event_of (fields_in (after_first_byte second)) ≡ map Some other)
     × KeepsBoth one other order × (sends_first [] order ≡ true) × SplitBy set one other
-    × ((merge_report (merge_outcome first second set buffer).answer).value ≡ some (1 + 4 * length order))
+    × ((merge_report (merge_outcome first second set buffer).answer).value ≡ Some (1 + 4 * length order))
     × ((merge_outcome first second set buffer).buffer ≡ written buffer (count_of first ∷ plain_bytes (newest_first [] order)))
     × ((s : Run) → state_after_records s (plain_bytes (newest_first [] order)) ≡ state_after s (calls_from [] order))

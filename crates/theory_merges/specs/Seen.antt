@@ -1,7 +1,7 @@
 -- Note 14, "Nothing more could go": what a process sees of a run, and that no rule that goes by it could delete more. proofs/NothingMore has the theorems.
 -- Assumes nothing.
 use Rattle.std.specs.Prelude.{◌≡◌, ◌&&◌, ◌∷◌, ◌++◌, ◌^◌, ◌<◌}
-use Rattle.laws.specs.Basics.{Bool, true, false, not, List, [], Option, none, some, ℕ, eqb, replicate, pick}
+use Rattle.laws.specs.Basics.{Bool, true, false, not, List, [], Option, None, Some, ℕ, eqb, replicate, pick}
 use Rattle.model.specs.declared.{Interval.Interval, Run.Run}
 use Rattle.model.specs.{Words.ones, Refusals.start_refusal}
 use Rattle.whole_runs.specs.{Outcomes.message, Outcomes.start_outcome, Survival.surviving, Best.InBestLine}
@@ -20,8 +20,8 @@ pub data Seen : Type 0 where
 
 -- "the next checkpoint, if the answer names a forced one"
 unfoldable pub forced_in : Option ℕ → List Seen
-forced_in none = []
-forced_in (some index) = forced ∷ []
+forced_in None = []
+forced_in (Some index) = forced ∷ []
 
 -- What process i sees of an accepted call on the state s. A message comes with its sender and its vector, which no answer repeats: they are those of the message
 -- under way. Nobody sees that a message was lost or that somebody asked for a line; the runs of this note have no recovery.
@@ -104,7 +104,7 @@ pub record MayBeNeeded (n : ℕ) (block_counts : List ℕ) (calls : List Call) (
 
 -- Note 14: "in runs without recovery or sweep: for each kept checkpoint of a process there is a run ..". Kept by the pairs handed out.
 unfoldable pub NothingMoreCouldGo : Type 0
-NothingMoreCouldGo = (n : ℕ) (block_counts : List ℕ) → start_refusal n block_counts ≡ none → (calls : List Call) → unrecovered (start_outcome n block_counts).run calls ≡ true
+NothingMoreCouldGo = (n : ℕ) (block_counts : List ℕ) → start_refusal n block_counts ≡ None → (calls : List Call) → unrecovered (start_outcome n block_counts).run calls ≡ true
     → (i k : ℕ) → i < n → (surviving n block_counts (transcript (start_outcome n block_counts).run calls)).kept i k ≡ true → MayBeNeeded n block_counts calls i k
 
 -- "A site asked whether a cleverer rule could delete more without extra messages." A rule says which checkpoints a process keeps: by the process, by what it has
@@ -120,6 +120,6 @@ SafeRule n block_counts rule = (calls : List Call) → all_accepted (start_outco
 
 -- "Show that it could not": a safe rule keeps all that the library keeps.
 unfoldable pub NoRuleDeletesMore : Type 0
-NoRuleDeletesMore = (n : ℕ) (block_counts : List ℕ) → start_refusal n block_counts ≡ none → (rule : KeepingRule) → SafeRule n block_counts rule
+NoRuleDeletesMore = (n : ℕ) (block_counts : List ℕ) → start_refusal n block_counts ≡ None → (rule : KeepingRule) → SafeRule n block_counts rule
     → (calls : List Call) → unrecovered (start_outcome n block_counts).run calls ≡ true
     → (i k : ℕ) → i < n → (surviving n block_counts (transcript (start_outcome n block_counts).run calls)).kept i k ≡ true → rule i (seen i (start_outcome n block_counts).run calls) k ≡ true

@@ -1,25 +1,25 @@
 -- One more event at the end of one list: what stands where then.
 -- Assumes nothing.
 use Rattle.std.specs.Prelude.{◌≡◌, ◌∷◌, ◌++◌, ◌⊎◌, ◌≤◌}
-use Rattle.laws.specs.Basics.{refl, ◌∙◌, ap, List, [], some, inl, inr, ℕ, zero, suc, arith, length, by_eq}
+use Rattle.laws.specs.Basics.{refl, ◌∙◌, ap, List, [], Some, inl, inr, ℕ, zero, suc, arith, length, by_eq}
 use Rattle.laws.specs.{Options.none≢some, Update.upd_same, Update.upd_other}
 use Rattle.histories.specs.History.{HistoryEvent, stored, sent, received, Lists, checkpoints}
 use Rattle.whole_runs.specs.Survival.{added}
 use Rattle.theory_patterns.specs.Paths.{event_at, interval, place_of}
 
 -- In one list.
-old_at : (l : List HistoryEvent) (x : HistoryEvent) (i : ℕ) (e : HistoryEvent) → event_at l i ≡ some e → event_at (l ++ (x ∷ [])) i ≡ some e
+old_at : (l : List HistoryEvent) (x : HistoryEvent) (i : ℕ) (e : HistoryEvent) → event_at l i ≡ Some e → event_at (l ++ (x ∷ [])) i ≡ Some e
 unfolding event_at
 old_at [] x i e h = absurd (none≢some h)
 old_at (y ∷ l) x zero e h = h
 old_at (y ∷ l) x (suc i) e h = old_at l x i e h
 
-new_at : (l : List HistoryEvent) (x : HistoryEvent) → event_at (l ++ (x ∷ [])) (length l) ≡ some x
+new_at : (l : List HistoryEvent) (x : HistoryEvent) → event_at (l ++ (x ∷ [])) (length l) ≡ Some x
 unfolding event_at
 new_at [] x = refl
 new_at (y ∷ l) x = new_at l x
 
-cases_at : (l : List HistoryEvent) (x : HistoryEvent) (i : ℕ) (e : HistoryEvent) → event_at (l ++ (x ∷ [])) i ≡ some e → (event_at l i ≡ some e) ⊎ ((i ≡ length l) × (x ≡ e))
+cases_at : (l : List HistoryEvent) (x : HistoryEvent) (i : ℕ) (e : HistoryEvent) → event_at (l ++ (x ∷ [])) i ≡ Some e → (event_at l i ≡ Some e) ⊎ ((i ≡ length l) × (x ≡ e))
 unfolding event_at
 cases_at [] x zero e h = inr (refl, cc)
 cases_at [] x (suc i) e h = absurd (none≢some h)
@@ -60,15 +60,15 @@ module _ (lists : Lists) (i : ℕ) (x : HistoryEvent) where
   unfolding added
   list_other p ne = upd_other lists i (lists i ++ (x ∷ [])) p ne
 
-  pub event_old : (p j : ℕ) (e : HistoryEvent) → event_at (lists p) j ≡ some e → event_at (added lists i x p) j ≡ some e
+  pub event_old : (p j : ℕ) (e : HistoryEvent) → event_at (lists p) j ≡ Some e → event_at (added lists i x p) j ≡ Some e
   event_old p j e h = by_eq p i
       (λ c. rw (c, list_same) (old_at (lists i) x j e (rw c at h)))
       (λ ne. rw (list_other p ne) h)
 
-  pub event_new : event_at (added lists i x i) (length (lists i)) ≡ some x
+  pub event_new : event_at (added lists i x i) (length (lists i)) ≡ Some x
   event_new = rw list_same (new_at (lists i) x)
 
-  pub event_cases : (p j : ℕ) (e : HistoryEvent) → event_at (added lists i x p) j ≡ some e → (event_at (lists p) j ≡ some e) ⊎ ((p ≡ i) × (j ≡ length (lists i)) × (x ≡ e))
+  pub event_cases : (p j : ℕ) (e : HistoryEvent) → event_at (added lists i x p) j ≡ Some e → (event_at (lists p) j ≡ Some e) ⊎ ((p ≡ i) × (j ≡ length (lists i)) × (x ≡ e))
   event_cases p j e h = by_eq p i
       (λ c. elim (cases_at (lists i) x j e (rw list_same at (rw c at h))) [ inl w ↦ inl (rw c w) | inr w ↦ inr (c, w.0, w.1) ])
       (λ ne. inl (rw (list_other p ne) at h))

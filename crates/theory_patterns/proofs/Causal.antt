@@ -1,7 +1,7 @@
 -- Source document 001, equation 2: state α of a causally precedes state β of b exactly if α is less than entry a of that state's vector.
 -- Assumes nothing.
 use Rattle.std.specs.Prelude.{◌≡◌, ◌≤◌, ◌<◌}
-use Rattle.laws.specs.Basics.{ap, some, inl, inr, ℕ, zero, suc, arith, length, by_eq}
+use Rattle.laws.specs.Basics.{ap, Some, inl, inr, ℕ, zero, suc, arith, length, by_eq}
 use Rattle.histories.specs.History.{sent, received, Lists, checkpoints}
 use Rattle.theory_patterns.specs.Paths.{event_at, interval, place_of, Precedes, message, through, Before}
 use Rattle.theory_patterns.proofs.Core.{Vectors, higher}
@@ -10,12 +10,12 @@ use Rattle.theory_patterns.proofs.Reaching.{Knows, reached}
 
 -- What the proof uses besides the vectors: receipts before a send are carried by it, and what is carried or known of another process was received before.
 pub record Sources (lists : Lists) (v : Vectors lists) : Type 0 where
-  pub ordered : (p i j m x f : ℕ) → event_at (lists p) j ≡ some (received x) → event_at (lists p) i ≡ some (sent m) → j < i → v.carried x f ≤ v.carried m f
-  pub arrived : (q j m : ℕ) → event_at (lists q) j ≡ some (received m) → (p : ℕ) × (i : ℕ) × (event_at (lists p) i ≡ some (sent m))
-  pub source : (p i m f : ℕ) → event_at (lists p) i ≡ some (sent m) → (p ≡ f → ⊥) → 1 ≤ v.carried m f
-      → (x : ℕ) × (j : ℕ) × (event_at (lists p) j ≡ some (received x)) × (j < i) × (x < m) × (v.carried m f ≤ v.carried x f)
+  pub ordered : (p i j m x f : ℕ) → event_at (lists p) j ≡ Some (received x) → event_at (lists p) i ≡ Some (sent m) → j < i → v.carried x f ≤ v.carried m f
+  pub arrived : (q j m : ℕ) → event_at (lists q) j ≡ Some (received m) → (p : ℕ) × (i : ℕ) × (event_at (lists p) i ≡ Some (sent m))
+  pub source : (p i m f : ℕ) → event_at (lists p) i ≡ Some (sent m) → (p ≡ f → ⊥) → 1 ≤ v.carried m f
+      → (x : ℕ) × (j : ℕ) × (event_at (lists p) j ≡ Some (received x)) × (j < i) × (x < m) × (v.carried m f ≤ v.carried x f)
   pub heard : (p k f : ℕ) → k ≤ checkpoints (lists p) → (p ≡ f → ⊥) → 1 ≤ v.vector p k f
-      → (x : ℕ) × (j : ℕ) × (event_at (lists p) j ≡ some (received x)) × (j < place_of k (lists p)) × (v.vector p k f ≤ v.carried x f)
+      → (x : ℕ) × (j : ℕ) × (event_at (lists p) j ≡ Some (received x)) × (j < place_of k (lists p)) × (v.vector p k f ≤ v.carried x f)
 
 module _ (lists : Lists) (v : Vectors lists) (s : Sources lists v) (a α : ℕ) (near : α < checkpoints (lists a)) where
   -- What a place after the near end knows of it: a message that tells it carries the near end.
@@ -44,7 +44,7 @@ module _ (lists : Lists) (v : Vectors lists) (s : Sources lists v) (a α : ℕ) 
   entry_by b β far w = learnt b β far (known b (place_of β (lists b)) w)
 
   -- A message that carries the near end was sent after it, or after the receipt of a message that does: so its receipt comes after the near end.
-  from_carried : (bound m q j : ℕ) → m < bound → event_at (lists q) j ≡ some (received m) → α < v.carried m a → Precedes lists a (place_of α (lists a)) q j
+  from_carried : (bound m q j : ℕ) → m < bound → event_at (lists q) j ≡ Some (received m) → α < v.carried m a → Precedes lists a (place_of α (lists a)) q j
   from_carried zero m q j lt e c = absurd (omega arith)
   from_carried (suc bound) m q j lt e c =
       let w = s.arrived q j m e in
@@ -52,7 +52,7 @@ module _ (lists : Lists) (v : Vectors lists) (s : Sources lists v) (a α : ℕ) 
       let i = w.1 in
       by_eq p a
       (λ d.
-      let here : event_at (lists a) i ≡ some (sent m) = rw d at w.2 in
+      let here : event_at (lists a) i ≡ Some (sent m) = rw d at w.2 in
       let g : v.carried m a ≡ interval (lists a) i = v.sends a (interval (lists a) i) m (stands_at (lists a) i (sent m) here) in
       let before : place_of α (lists a) < i = place_before (lists a) i α (omega (arith, c, g)) in
       let inside : i < length (lists a) = place_in (lists a) i (sent m) here in

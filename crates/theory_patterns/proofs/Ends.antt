@@ -1,7 +1,7 @@
 -- What ends a reading: the first record that is refused, whatever stands after it; and a trace of more than 4,096 records, of which no more bytes need to be read.
 -- Assumes nothing.
 use Rattle.std.specs.Prelude.{◌≡◌, ◌∷◌, ◌++◌, ◌*◌, ◌/◌, ◌≤◌, ◌<◌}
-use Rattle.laws.specs.Basics.{refl, List, [], Option, none, some, ℕ, zero, suc, arith, length, length-append, lt-ltb, le-ltb}
+use Rattle.laws.specs.Basics.{refl, List, [], Option, None, Some, ℕ, zero, suc, arith, length, length-append, lt-ltb, le-ltb}
 use Rattle.model.specs.declared.Refusal.{Refusal}
 use Rattle.model.specs.Trace.{decoded}
 use Rattle.whole_runs.specs.Outcomes.{judged}
@@ -12,8 +12,8 @@ not_refused : {P : Type 0} (r : Refusal) (t : Pattern) → whole t ≡ refused r
 not_refused r t e = absurd (let z : ◌≡◌ {A = ℕ} 0 1 = cc in omega arith)
 
 either_refused : (o : Option Refusal) (a b : Reading) (r : Refusal) → (a ≡ refused r → b ≡ refused r) → judged o refused a ≡ refused r → judged o refused b ≡ refused r
-either_refused none a b r f e = f e
-either_refused (some x) a b r f e = e
+either_refused None a b r f e = f e
+either_refused (Some x) a b r f e = e
 
 -- k whole records of which one is refused: the bytes after them play no part.
 refused_then : (k n : ℕ) (t : Pattern) (l rest : List ℕ) (r : Refusal) → length l ≡ 4 * k → read_from n t l ≡ refused r → read_from n t (l ++ rest) ≡ refused r

@@ -1,7 +1,7 @@
 -- A trail gives what the verdict asks for: the vectors with their laws, and where knowledge comes from.
 -- Assumes nothing.
 use Rattle.std.specs.Prelude.{◌≡◌, ◌∷◌, ◌-◌, ◌≤◌, ◌<◌}
-use Rattle.laws.specs.Basics.{refl, ◌∙◌, ap, List, [], some, ℕ, zero, suc, arith, eqb, eq-eqb, ne_eqb, pick, by_eq}
+use Rattle.laws.specs.Basics.{refl, ◌∙◌, ap, List, [], Some, ℕ, zero, suc, arith, eqb, eq-eqb, ne_eqb, pick, by_eq}
 use Rattle.histories.specs.History.{HistoryEvent, stored, sent, received, checkpoints}
 use Rattle.theory_patterns.specs.Paths.{event_at, interval, Path, one, onward}
 use Rattle.theory_patterns.proofs.{Core.Vectors, Causal.Sources, Placing.first_event, Placing.stands_at, Placing.interval_before, Trail.Trail, Trail.own, Trail.Right}
@@ -18,7 +18,7 @@ interval_rises (received m ∷ l) (suc i) (suc j) h = interval_rises l i j (omeg
 
 module _ (t : Trail) (v : Right t) where
   -- A receipt of a message that carries e of f ends a path from checkpoint e - 1 of f.
-  pub carried_path : (bound m q j f e : ℕ) → m < bound → event_at (t.lists q) j ≡ some (received m) → 1 ≤ e → e ≤ t.carried m f → Path t.lists f (e - 1) q (interval (t.lists q) j)
+  pub carried_path : (bound m q j f e : ℕ) → m < bound → event_at (t.lists q) j ≡ Some (received m) → 1 ≤ e → e ≤ t.carried m f → Path t.lists f (e - 1) q (interval (t.lists q) j)
   carried_path zero m q j f e lt r pos le = absurd (omega arith)
   carried_path (suc bound) m q j f e lt r pos le =
       let w = v.arrived q j m r in
@@ -26,7 +26,7 @@ module _ (t : Trail) (v : Right t) where
       let sent-there = stands_at (t.lists w.0) w.1 (sent m) w.2 in
       by_eq w.0 f
       (λ c.
-      let at_f : event_at (t.lists f) w.1 ≡ some (sent m) = rw c at w.2 in
+      let at_f : event_at (t.lists f) w.1 ≡ Some (sent m) = rw c at w.2 in
       let number : t.carried m f ≡ interval (t.lists f) w.1 = v.sends f w.1 m at_f in
       one {m = m} (stands_at (t.lists f) w.1 (sent m) at_f) (omega (arith, number, le, pos)) received-there)
       (λ ne.
@@ -55,14 +55,14 @@ module _ (t : Trail) (v : Right t) where
 unfoldable pub begin : Trail
 begin = record { lists = λ p. stored ∷ []; last = 0; vector = λ p k f. pick (eqb k 0) 0 (pick (eqb p f) 1 0); carried = λ m f. 0 }
 
-no_event : (p i : ℕ) (e : HistoryEvent) → event_at (begin.lists p) i ≡ some e → e ≡ stored
+no_event : (p i : ℕ) (e : HistoryEvent) → event_at (begin.lists p) i ≡ Some e → e ≡ stored
 unfolding begin
 no_event p i e h = first_event i e h
 
-no_sent : (p i m : ℕ) → event_at (begin.lists p) i ≡ some (sent m) → ⊥
+no_sent : (p i m : ℕ) → event_at (begin.lists p) i ≡ Some (sent m) → ⊥
 no_sent p i m h = let c = no_event p i (sent m) h in let z : ◌≡◌ {A = ℕ} 0 1 = cc in omega arith
 
-no_received : (p i m : ℕ) → event_at (begin.lists p) i ≡ some (received m) → ⊥
+no_received : (p i m : ℕ) → event_at (begin.lists p) i ≡ Some (received m) → ⊥
 no_received p i m h = let c = no_event p i (received m) h in let z : ◌≡◌ {A = ℕ} 0 1 = cc in omega arith
 
 own_begin : (p : ℕ) → own begin p ≡ 1

@@ -1,7 +1,7 @@
 -- Every trace that is read to its end leaves a pattern with a trail: so its lists have vectors with their laws.
 -- Assumes nothing.
 use Rattle.std.specs.Prelude.{◌≡◌, ◌∷◌, ◌+◌}
-use Rattle.laws.specs.Basics.{refl, sym, ◌∙◌, ap, Bool, true, false, not, false≢true, [], Option, none, some, ℕ, suc, arith, length, by_eq}
+use Rattle.laws.specs.Basics.{refl, sym, ◌∙◌, ap, Bool, true, false, not, false≢true, [], Option, None, Some, ℕ, suc, arith, length, by_eq}
 use native.Mathlib.Numerals.{add-one}
 use Rattle.laws.specs.{Options.none≢some, Update.upd, Update.upd_same, Update.upd_other}
 use Rattle.model.specs.declared.{Event.Event, Refusal.Refusal}
@@ -15,7 +15,7 @@ use Rattle.theory_patterns.proofs.Adding.{event_old, event_new}
 
 -- A message was sent.
 abbrev pub Sent : Lists → ℕ → Type 0
-Sent lists m = (p : ℕ) × (i : ℕ) × (event_at (lists p) i ≡ some (sent m))
+Sent lists m = (p : ℕ) × (i : ℕ) × (event_at (lists p) i ≡ Some (sent m))
 
 -- A pattern and a trail of the same lists and sends. Each message under way was sent.
 pub record Followed (t : Pattern) : Type 0 where
@@ -38,7 +38,7 @@ moved : {l k : Lists} (m : ℕ) → l ≡ k → Sent l m → Sent k m
 moved m e w = rw e at w
 
 module _ (t : Pattern) (f : Followed t) where
-  stored_followed : (i : ℕ) → Followed (taken t (some (Checkpoint i)))
+  stored_followed : (i : ℕ) → Followed (taken t (Some (Checkpoint i)))
   unfolding taken storing
   stored_followed i = record {
     trail = storing f.trail f.right i;
@@ -48,7 +48,7 @@ module _ (t : Pattern) (f : Followed t) where
     under = λ m e. sent_still t.lists i m stored (f.under m e);
   }
 
-  sent_followed : (i j : ℕ) → Followed (taken t (some (Send i j)))
+  sent_followed : (i j : ℕ) → Followed (taken t (Some (Send i j)))
   unfolding taken sending
   sent_followed i j =
       let number : t.sends + 1 ≡ suc f.trail.last = rw (add-one, f.sends) in
@@ -62,7 +62,7 @@ module _ (t : Pattern) (f : Followed t) where
             (λ ne. sent_still t.lists i m (sent (t.sends + 1)) (f.under m (sym (upd_other t.underway (t.sends + 1) true m ne) ∙ e)));
       }
 
-  lost_followed : (m : ℕ) → Followed (taken t (some (Lose m)))
+  lost_followed : (m : ℕ) → Followed (taken t (Some (Lose m)))
   unfolding taken
   lost_followed m = record {
     trail = f.trail;
@@ -72,7 +72,7 @@ module _ (t : Pattern) (f : Followed t) where
     under = λ x e. f.under x (still_under t.underway m x e);
   }
 
-  received_followed : (m : ℕ) → t.underway m ≡ true → Followed (taken t (some (Deliver m)))
+  received_followed : (m : ℕ) → t.underway m ≡ true → Followed (taken t (Some (Deliver m)))
   unfolding taken receiving
   received_followed m u =
       let w = moved m f.lists (f.under m u) in
@@ -86,16 +86,16 @@ module _ (t : Pattern) (f : Followed t) where
       }
 
 -- A record that is not refused keeps a trail.
-pub on_way : (b : Bool) (r : Refusal) → first_of (record { holds = not b; gives = r } ∷ []) ≡ none → b ≡ true
+pub on_way : (b : Bool) (r : Refusal) → first_of (record { holds = not b; gives = r } ∷ []) ≡ None → b ≡ true
 unfolding first_of
 on_way true r e = refl
 on_way false r e = absurd (let z : ◌≡◌ {A = ℕ} 0 1 = cc in omega arith)
 
-pub taken_followed : (n : ℕ) (t : Pattern) (e : Option Event) → record_refusal n t e ≡ none → Followed t → Followed (taken t e)
+pub taken_followed : (n : ℕ) (t : Pattern) (e : Option Event) → record_refusal n t e ≡ None → Followed t → Followed (taken t e)
 unfolding record_refusal
-taken_followed n t none h f = absurd (none≢some (sym h))
-taken_followed n t (some (Checkpoint i)) h f = stored_followed t f i
-taken_followed n t (some (Send i j)) h f = sent_followed t f i j
-taken_followed n t (some (Deliver m)) h f = received_followed t f m (on_way (t.underway m) _ h)
-taken_followed n t (some (Lose m)) h f = lost_followed t f m
-taken_followed n t (some (Recover F)) h f = absurd (none≢some (sym h))
+taken_followed n t None h f = absurd (none≢some (sym h))
+taken_followed n t (Some (Checkpoint i)) h f = stored_followed t f i
+taken_followed n t (Some (Send i j)) h f = sent_followed t f i j
+taken_followed n t (Some (Deliver m)) h f = received_followed t f m (on_way (t.underway m) _ h)
+taken_followed n t (Some (Lose m)) h f = lost_followed t f m
+taken_followed n t (Some (Recover F)) h f = absurd (none≢some (sym h))

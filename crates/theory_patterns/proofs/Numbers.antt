@@ -1,7 +1,7 @@
 -- A trace that is read to its end leaves a pattern whose processes are among n and whose messages have the numbers 1 to the number of sends.
 -- Assumes nothing.
 use Rattle.std.specs.Prelude.{◌≡◌, ◌∷◌, ◌+◌, ◌/◌, ◌<◌}
-use Rattle.laws.specs.Basics.{sym, ◌∙◌, ap, true, false, false≢true, List, [], Option, none, some, inl, inr, ℕ, suc, arith, ltb, leb, length, leb-false, not-false, by_bool, by_eq}
+use Rattle.laws.specs.Basics.{sym, ◌∙◌, ap, true, false, false≢true, List, [], Option, None, Some, inl, inr, ℕ, suc, arith, ltb, leb, length, leb-false, not-false, by_bool, by_eq}
 use Rattle.laws.specs.{Options.none≢some, Truth.or_none, Update.upd, Update.upd_same, Update.upd_other}
 use Rattle.model.specs.declared.{Event.Event, Refusal.Refusal}
 use Rattle.model.specs.declared.Event.TheVariants.{Checkpoint, Send, Deliver, Lose, Recover}
@@ -37,7 +37,7 @@ module _ (n : ℕ) (t : Pattern) (h : Placed n t) where
   abbrev Place : ℕ → ℕ → Type 0
   Place p m = (p < n) × (m < suc t.sends)
 
-  placed_checkpoint : (i : ℕ) → Placed n (taken t (some (Checkpoint i)))
+  placed_checkpoint : (i : ℕ) → Placed n (taken t (Some (Checkpoint i)))
   unfolding taken
   placed_checkpoint i = record {
     events = record {
@@ -47,7 +47,7 @@ module _ (n : ℕ) (t : Pattern) (h : Placed n t) where
     waiting = h.waiting;
   }
 
-  placed_send : (i j : ℕ) → i < n → j < n → Placed n (taken t (some (Send i j)))
+  placed_send : (i j : ℕ) → i < n → j < n → Placed n (taken t (Some (Send i j)))
   unfolding taken
   placed_send i j hi hj = record {
     events = record {
@@ -72,7 +72,7 @@ module _ (n : ℕ) (t : Pattern) (h : Placed n t) where
       (λ c. absurd (false≢true (sym (upd_same t.underway m false) ∙ sym (ap (upd t.underway m false) c) ∙ e)))
       (λ ne. sym (upd_other t.underway m false x ne) ∙ e)
 
-  placed_deliver : (m : ℕ) → t.underway m ≡ true → Placed n (taken t (some (Deliver m)))
+  placed_deliver : (m : ℕ) → t.underway m ≡ true → Placed n (taken t (Some (Deliver m)))
   unfolding taken
   placed_deliver m there = record {
     events = record {
@@ -88,20 +88,20 @@ module _ (n : ℕ) (t : Pattern) (h : Placed n t) where
     waiting = λ x e. h.waiting x (dropped m x e);
   }
 
-  placed_lose : (m : ℕ) → Placed n (taken t (some (Lose m)))
+  placed_lose : (m : ℕ) → Placed n (taken t (Some (Lose m)))
   unfolding taken
   placed_lose m = record { events = h.events; waiting = λ x e. h.waiting x (dropped m x e) }
 
-  placed_taken : (e : Option Event) → record_refusal n t e ≡ none → Placed n (taken t e)
+  placed_taken : (e : Option Event) → record_refusal n t e ≡ None → Placed n (taken t e)
   unfolding record_refusal
-  placed_taken none free = absurd (none≢some (sym free))
-  placed_taken (some (Checkpoint i)) free = placed_checkpoint i
-  placed_taken (some (Send i j)) free =
+  placed_taken None free = absurd (none≢some (sym free))
+  placed_taken (Some (Checkpoint i)) free = placed_checkpoint i
+  placed_taken (Some (Send i j)) free =
       let w = or_none (leb n i) (leb n j) (no_rule _ free 0) in
       placed_send i j (leb-false n i w.0) (leb-false n j w.1)
-  placed_taken (some (Deliver m)) free = placed_deliver m (not-false (t.underway m) (no_rule _ free 0))
-  placed_taken (some (Lose m)) free = placed_lose m
-  placed_taken (some (Recover F)) free = absurd (none≢some (sym free))
+  placed_taken (Some (Deliver m)) free = placed_deliver m (not-false (t.underway m) (no_rule _ free 0))
+  placed_taken (Some (Lose m)) free = placed_lose m
+  placed_taken (Some (Recover F)) free = absurd (none≢some (sym free))
 
 placed_read : (n : ℕ) (t : Pattern) (l : List ℕ) (u : Pattern) → Placed n t → read_from n t l ≡ whole u → Placed n u
 unfolding read_from

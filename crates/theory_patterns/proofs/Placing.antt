@@ -1,19 +1,19 @@
 -- Places in one list: which interval an event at a place stands in, and the places of its states.
 -- Assumes nothing.
 use Rattle.std.specs.Prelude.{◌≡◌, ◌∷◌, ◌≤◌, ◌<◌}
-use Rattle.laws.specs.Basics.{refl, sym, List, [], some, ℕ, zero, suc, arith, ltb, length, ltb-true, ltb-false, by_bool, by_eq}
+use Rattle.laws.specs.Basics.{refl, sym, List, [], Some, ℕ, zero, suc, arith, ltb, length, ltb-true, ltb-false, by_bool, by_eq}
 use Rattle.laws.specs.Options.{some_same, none≢some}
 use Rattle.histories.specs.History.{HistoryEvent, stored, sent, received, Lists, checkpoints}
 use Rattle.theory_patterns.specs.Paths.{event_at, interval, StandsIn, place_of, Precedes, next, through}
 
 -- A list that is checkpoint 0 alone has no other event.
-pub first_event : (i : ℕ) (e : HistoryEvent) → event_at (stored ∷ []) i ≡ some e → e ≡ stored
+pub first_event : (i : ℕ) (e : HistoryEvent) → event_at (stored ∷ []) i ≡ Some e → e ≡ stored
 unfolding event_at
 first_event zero e h = sym (some_same h)
 first_event (suc i) e h = absurd (none≢some h)
 
 -- The interval of an event is that of its place, and at most the live one.
-pub stands_at : (l : List HistoryEvent) (i : ℕ) (e : HistoryEvent) → event_at l i ≡ some e → StandsIn e (interval l i) l
+pub stands_at : (l : List HistoryEvent) (i : ℕ) (e : HistoryEvent) → event_at l i ≡ Some e → StandsIn e (interval l i) l
 stands_at l i e h = (i, h, refl)
 
 pub interval_le : (l : List HistoryEvent) (i : ℕ) → interval l i ≤ checkpoints l
@@ -53,7 +53,7 @@ place_before l i k h = by_bool (ltb (place_of k l) i)
     (λ e. absurd (omega (arith, h, interval_before l i k (ltb-false (place_of k l) i e))))
 
 -- The place of a checkpoint holds a checkpoint, that of the live state no event.
-pub place_stored : (l : List HistoryEvent) (k : ℕ) → k < checkpoints l → event_at l (place_of k l) ≡ some stored
+pub place_stored : (l : List HistoryEvent) (k : ℕ) → k < checkpoints l → event_at l (place_of k l) ≡ Some stored
 unfolding event_at place_of checkpoints
 place_stored [] k h = absurd (omega arith)
 place_stored (stored ∷ l) zero h = refl
@@ -89,7 +89,7 @@ place_rises (sent m ∷ l) j k h c = omega (arith, place_rises l j k h c)
 place_rises (received m ∷ l) j k h c = omega (arith, place_rises l j k h c)
 
 -- A place with an event is in the list.
-pub place_in : (l : List HistoryEvent) (i : ℕ) (e : HistoryEvent) → event_at l i ≡ some e → i < length l
+pub place_in : (l : List HistoryEvent) (i : ℕ) (e : HistoryEvent) → event_at l i ≡ Some e → i < length l
 unfolding event_at
 place_in [] i e h = absurd (none≢some h)
 place_in (x ∷ l) zero e h = omega arith

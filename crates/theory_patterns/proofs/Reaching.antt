@@ -2,7 +2,7 @@
 -- Which messages carry it is said by its two laws: those that the process sends after it, and those that are sent after such a receipt.
 -- Assumes nothing.
 use Rattle.std.specs.Prelude.{◌≡◌, ◌⊎◌, ◌≤◌, ◌<◌}
-use Rattle.laws.specs.Basics.{refl, sym, ◌∙◌, some, inl, inr, ℕ, arith, by_eq}
+use Rattle.laws.specs.Basics.{refl, sym, ◌∙◌, Some, inl, inr, ℕ, arith, by_eq}
 use Rattle.laws.specs.Options.{some_same}
 use Rattle.histories.specs.History.{sent, received, Lists, checkpoints}
 use Rattle.histories.proofs.Apart.{sent_stored, sent_received}
@@ -12,24 +12,24 @@ use Rattle.theory_patterns.proofs.Placing.{interval_after, place_stored}
 module _ (lists : Lists) (a α : ℕ) (Carries : ℕ → Type 0) where
   -- Place j of q comes after the near end, or is it: by its own list, or by a message that was received up to there.
   Has : ℕ → ℕ → Type 0
-  Has q j = ((q ≡ a) × (place_of α (lists a) ≤ j)) ⊎ ((m : ℕ) × (i : ℕ) × (event_at (lists q) i ≡ some (received m)) × (i ≤ j) × Carries m)
+  Has q j = ((q ≡ a) × (place_of α (lists a) ≤ j)) ⊎ ((m : ℕ) × (i : ℕ) × (event_at (lists q) i ≡ Some (received m)) × (i ≤ j) × Carries m)
 
   -- The same, and it is not the near end itself.
   unfoldable pub Knows : ℕ → ℕ → Type 0
-  Knows q j = ((q ≡ a) × (place_of α (lists a) < j)) ⊎ ((m : ℕ) × (i : ℕ) × (event_at (lists q) i ≡ some (received m)) × (i ≤ j) × Carries m)
+  Knows q j = ((q ≡ a) × (place_of α (lists a) < j)) ⊎ ((m : ℕ) × (i : ℕ) × (event_at (lists q) i ≡ Some (received m)) × (i ≤ j) × Carries m)
 
   has : (q j : ℕ) → Knows q j → Has q j
   unfolding Has Knows
   has q j (inl w) = inl (w.0, omega (arith, w.1))
   has q j (inr w) = inr w
 
-  module _ (near : α < checkpoints (lists a)) (own : (j m : ℕ) → event_at (lists a) j ≡ some (sent m) → α < interval (lists a) j → Carries m)
-      (relayed : (q i j x m : ℕ) → event_at (lists q) i ≡ some (received x) → event_at (lists q) j ≡ some (sent m) → i < j → Carries x → Carries m) where
+  module _ (near : α < checkpoints (lists a)) (own : (j m : ℕ) → event_at (lists a) j ≡ Some (sent m) → α < interval (lists a) j → Carries m)
+      (relayed : (q i j x m : ℕ) → event_at (lists q) i ≡ Some (received x) → event_at (lists q) j ≡ Some (sent m) → i < j → Carries x → Carries m) where
     -- A send from a place that has it carries it.
-    carries : (q j m : ℕ) → event_at (lists q) j ≡ some (sent m) → Has q j → Carries m
+    carries : (q j m : ℕ) → event_at (lists q) j ≡ Some (sent m) → Has q j → Carries m
     unfolding Has
     carries q j m e (inl w) =
-        let here : event_at (lists a) j ≡ some (sent m) = rw w.0 at e in
+        let here : event_at (lists a) j ≡ Some (sent m) = rw w.0 at e in
         by_eq (place_of α (lists a)) j
         (λ c. absurd (sent_stored m (some_same (sym here ∙ (rw c at (place_stored (lists a) α near))))))
         (λ ne. own j m here (interval_after (lists a) j α near (omega (arith, w.1))))

@@ -1,10 +1,9 @@
 -- The verdict on a trace is right, and it is the only one that is.
 -- Assumes nothing.
 use Rattle.std.specs.Prelude.{◌≡◌, ◌∷◌}
-use Rattle.laws.specs.Basics.{refl, sym, List, [], ℕ, arith}
-use Rattle.theory_patterns.specs.declared.Verdict.{Verdict}
+use Rattle.laws.specs.Basics.{refl, List, [], ℕ, arith}
 use Rattle.theory_patterns.specs.{Patterns.Pattern, Patterns.Reading, Patterns.refused, Patterns.whole, Patterns.reading, Judging.first_pair}
-use Rattle.theory_patterns.specs.Verdicts.{count_of, verdict_on, verdict, RightVerdict, VerdictsAreRight}
+use Rattle.theory_patterns.specs.Verdicts.{Verdict, count_of, verdict_on, verdict, RightVerdict, VerdictsAreRight}
 use Rattle.theory_patterns.proofs.{Tested.Numbered, Searched.by_there, Searched.no_pair, Searched.first_pair_lem, Numbers.numbered, Only.one_verdict}
 
 no_byte : {P : Type 0} (t : Pattern) → reading [] ≡ whole t → P
@@ -24,9 +23,7 @@ right_on trace (whole t) e =
     let w = numbered_of trace t e in
     by_there (first_pair n t.sends t.lists)
     (λ q. rw q (t, e, no_pair n t.sends t.lists w q))
-    (λ v q.
-    let p = first_pair_lem n t.sends t.lists w v q in
-    rw (q, sym p.4) (t, e, p.5))
+    (λ v q. rw q (t, e, first_pair_lem n t.sends t.lists w v q))
 
 pub verdict_right : VerdictsAreRight
 unfolding verdict

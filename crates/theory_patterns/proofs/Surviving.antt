@@ -2,7 +2,7 @@
 -- A run of n processes says nothing of entries at n and above; a trail has all, so there a state knows of its own process alone.
 -- Assumes nothing.
 use Rattle.std.specs.Prelude.{◌≡◌, ◌∷◌, ◌+◌, ◌≤◌, ◌<◌}
-use Rattle.laws.specs.Basics.{refl, sym, ◌∙◌, ap, List, [], some, inl, inr, ℕ, zero, suc, arith, eqb, ltb, eq-eqb, ne_eqb, lt-ltb, le-ltb, ltb-true, ltb-false, pick, by_bool, by_eq}
+use Rattle.laws.specs.Basics.{refl, sym, ◌∙◌, ap, List, [], Some, inl, inr, ℕ, zero, suc, arith, eqb, ltb, eq-eqb, ne_eqb, lt-ltb, le-ltb, ltb-true, ltb-false, pick, by_bool, by_eq}
 use mathlib.Core.List.Memᴰ
 use mathlib.Core.List.{Memᴰ}
 use Rattle.laws.specs.Options.{some_same, none≢some}
@@ -25,11 +25,11 @@ placed : (l : List HistoryEvent) (e : HistoryEvent) (g : ℕ) → Stands e g l �
 unfolding event_at interval
 placed [] e g s = absurd (stands_nil s)
 placed (x ∷ l) e g s = elim (stands_cons s) [
-  | inl w ↦ (zero, ap some (sym w.0), sym w.1)
+  | inl w ↦ (zero, ap Some (sym w.0), sym w.1)
   | inr w ↦ (let q = placed l e w.0 w.1 in (suc q.0, q.1, counted x l q.0 ∙ ap (λ (k : ℕ). weight x + k) q.2 ∙ sym w.2))
 ]
 
-stands_at : (l : List HistoryEvent) (i : ℕ) (e : HistoryEvent) → event_at l i ≡ some e → Stands e (interval l i) l
+stands_at : (l : List HistoryEvent) (i : ℕ) (e : HistoryEvent) → event_at l i ≡ Some e → Stands e (interval l i) l
 unfolding event_at interval
 stands_at [] i e h = absurd (none≢some h)
 stands_at (x ∷ l) zero e h = first {x = x} (sym (some_same h)) refl
@@ -39,29 +39,29 @@ stands_of : (l : List HistoryEvent) (e : HistoryEvent) (g : ℕ) → StandsIn e 
 stands_of l e g s = rw (← s.2) (stands_at l s.0 e s.1)
 
 -- What stands before a send has a lower place.
-before_place : (m : ℕ) (l : List HistoryEvent) (i : ℕ) (e : HistoryEvent) → event_at l i ≡ some (sent m) → Memᴰ e (before m l) → (j : ℕ) × (event_at l j ≡ some e) × (j < i)
+before_place : (m : ℕ) (l : List HistoryEvent) (i : ℕ) (e : HistoryEvent) → event_at l i ≡ Some (sent m) → Memᴰ e (before m l) → (j : ℕ) × (event_at l j ≡ Some e) × (j < i)
 unfolding before event_at
 before_place m [] i e h s = absurd (none≢some h)
 before_place m (stored ∷ l) zero e h s = absurd (let z : ◌≡◌ {A = ℕ} 0 1 = cc in omega arith)
 before_place m (received k ∷ l) zero e h s = absurd (let z : ◌≡◌ {A = ℕ} 0 1 = cc in omega arith)
 before_place m (sent k ∷ l) zero e h s = absurd (Memᴰ.not-nil (rw (eq-eqb k m (same_sent k m (some_same h))) at s))
 before_place m (stored ∷ l) (suc i) e h s = elim (Memᴰ.cases_cons s) [
-  | inl q ↦ (zero, ap some (sym q), omega arith)
+  | inl q ↦ (zero, ap Some (sym q), omega arith)
   | inr t ↦ (let w = before_place m l i e h t in (suc w.0, w.1, omega (arith, w.2)))
 ]
 before_place m (received k ∷ l) (suc i) e h s = elim (Memᴰ.cases_cons s) [
-  | inl q ↦ (zero, ap some (sym q), omega arith)
+  | inl q ↦ (zero, ap Some (sym q), omega arith)
   | inr t ↦ (let w = before_place m l i e h t in (suc w.0, w.1, omega (arith, w.2)))
 ]
 before_place m (sent k ∷ l) (suc i) e h s = by_bool (eqb k m)
     (λ b. absurd (Memᴰ.not-nil (rw b at s)))
     (λ b. elim (Memᴰ.cases_cons (rw b at s)) [
-      | inl q ↦ (zero, ap some (sym q), omega arith)
+      | inl q ↦ (zero, ap Some (sym q), omega arith)
       | inr t ↦ (let w = before_place m l i e h t in (suc w.0, w.1, omega (arith, w.2)))
     ])
 
 -- A receipt in an interval of at most k stands before state k.
-in_time : (l : List HistoryEvent) (j x k : ℕ) → event_at l j ≡ some (received x) → interval l j ≤ k → k ≤ checkpoints l → j < place_of k l
+in_time : (l : List HistoryEvent) (j x k : ℕ) → event_at l j ≡ Some (received x) → interval l j ≤ k → k ≤ checkpoints l → j < place_of k l
 in_time l j x k e le far = by_bool (ltb j (place_of k l))
     (λ b. ltb-true j (place_of k l) b)
     (λ b.
@@ -109,10 +109,10 @@ module _ (r : Ideal) (v : Inv r) (w : Sources r) where
   by_entry_number f a b = by_bool (ltb f r.n) (λ e. a (ltb-true f r.n e)) (λ e. b (ltb-false f r.n e))
 
   -- Events of the lists, by interval.
-  at : (p i : ℕ) (e : HistoryEvent) → event_at (r.events p) i ≡ some e → Stands e (interval (r.events p) i) (r.events p)
+  at : (p i : ℕ) (e : HistoryEvent) → event_at (r.events p) i ≡ Some e → Stands e (interval (r.events p) i) (r.events p)
   at p i e h = stands_at (r.events p) i e h
 
-  inside : (p i : ℕ) (e : HistoryEvent) → event_at (r.events p) i ≡ some e → interval (r.events p) i ≤ r.own p
+  inside : (p i : ℕ) (e : HistoryEvent) → event_at (r.events p) i ≡ Some e → interval (r.events p) i ≤ r.own p
   inside p i e h = omega (arith, interval_le (r.events p) i, v.counted p)
 
   sender_in : (p g m : ℕ) → Stands (sent m) g (r.events p) → p < r.n
@@ -137,33 +137,33 @@ module _ (r : Ideal) (v : Inv r) (w : Sources r) where
       (λ e. omega (arith, vector_self p k f o e, h, ap (own trail_of) e))
       (λ ne. omega (arith, vector_past p k f o ne)))
 
-  is_fresh : (p i m f : ℕ) → event_at (r.events p) i ≡ some (sent m) → trail_of.carried m f ≤ own trail_of f
+  is_fresh : (p i m f : ℕ) → event_at (r.events p) i ≡ Some (sent m) → trail_of.carried m f ≤ own trail_of f
   is_fresh p i m f e = by_entry_number f
       (λ d. omega (arith, carried_in m f d, own_is f, v.carries p (interval (r.events p) i) m f (at p i (sent m) e) d, v.present p (interval (r.events p) i) f d (inside p i (sent m) e)))
       (λ o. omega (arith, carried_past m f o))
 
-  is_sends : (p i m : ℕ) → event_at (r.events p) i ≡ some (sent m) → trail_of.carried m p ≡ interval (r.events p) i
+  is_sends : (p i m : ℕ) → event_at (r.events p) i ≡ Some (sent m) → trail_of.carried m p ≡ interval (r.events p) i
   is_sends p i m e =
       let s = at p i (sent m) e in
       let d = sender_in p (interval (r.events p) i) m s in
       carried_in m p d ∙ v.carries p (interval (r.events p) i) m p s d ∙ v.self p (interval (r.events p) i) (inside p i (sent m) e)
 
-  is_takes : (p j m f : ℕ) → event_at (r.events p) j ≡ some (received m) → trail_of.carried m f ≤ trail_of.vector p (interval (r.events p) j) f
+  is_takes : (p j m f : ℕ) → event_at (r.events p) j ≡ Some (received m) → trail_of.carried m f ≤ trail_of.vector p (interval (r.events p) j) f
   is_takes p j m f e = by_entry_number f
       (λ d. omega (arith, carried_in m f d, vector_in p (interval (r.events p) j) f d, v.takes p (interval (r.events p) j) m f (at p j (received m) e) d))
       (λ o. omega (arith, carried_past m f o))
 
-  is_used : (p i m : ℕ) → event_at (r.events p) i ≡ some (sent m) → m ≤ r.last
+  is_used : (p i m : ℕ) → event_at (r.events p) i ≡ Some (sent m) → m ≤ r.last
   is_used p i m e = (v.proper p (interval (r.events p) i) m (at p i (sent m) e)).1.used
 
-  is_arrived : (q j m : ℕ) → event_at (r.events q) j ≡ some (received m) → (p : ℕ) × (i : ℕ) × (event_at (r.events p) i ≡ some (sent m))
+  is_arrived : (q j m : ℕ) → event_at (r.events q) j ≡ Some (received m) → (p : ℕ) × (i : ℕ) × (event_at (r.events p) i ≡ Some (sent m))
   is_arrived q j m e =
       let a = v.arrived q (interval (r.events q) j) m (at q j (received m) e) in
       let s = placed (r.events (r.sender m)) (sent m) a.1.0 a.1.1 in
       (r.sender m, s.0, s.1)
 
   -- A receipt before a send: the send's interval is not earlier, and the send carries the vector of its interval.
-  is_ordered : (p i j m x f : ℕ) → event_at (r.events p) j ≡ some (received x) → event_at (r.events p) i ≡ some (sent m) → j < i → trail_of.carried x f ≤ trail_of.carried m f
+  is_ordered : (p i j m x f : ℕ) → event_at (r.events p) j ≡ Some (received x) → event_at (r.events p) i ≡ Some (sent m) → j < i → trail_of.carried x f ≤ trail_of.carried m f
   is_ordered p i j m x f e d lt = by_entry_number f
       (λ b.
       let gj = interval (r.events p) j in
@@ -178,8 +178,8 @@ module _ (r : Ideal) (v : Inv r) (w : Sources r) where
       ))
       (λ o. omega (arith, carried_past x f o))
 
-  is_source : (p i m f : ℕ) → event_at (r.events p) i ≡ some (sent m) → (p ≡ f → ⊥) → 1 ≤ trail_of.carried m f
-      → (x : ℕ) × (j : ℕ) × (event_at (r.events p) j ≡ some (received x)) × (j < i) × (x < m) × (trail_of.carried m f ≤ trail_of.carried x f)
+  is_source : (p i m f : ℕ) → event_at (r.events p) i ≡ Some (sent m) → (p ≡ f → ⊥) → 1 ≤ trail_of.carried m f
+      → (x : ℕ) × (j : ℕ) × (event_at (r.events p) j ≡ Some (received x)) × (j < i) × (x < m) × (trail_of.carried m f ≤ trail_of.carried x f)
   is_source p i m f e ne pos = by_entry_number f
       (λ b.
       let o = w p m f (stands_member (r.events p) (at p i (sent m) e)) b ne (omega (arith, pos, carried_in m f b)) in
@@ -188,7 +188,7 @@ module _ (r : Ideal) (v : Inv r) (w : Sources r) where
       (λ b. absurd (omega (arith, pos, carried_past m f b)))
 
   is_heard : (p k f : ℕ) → k ≤ own trail_of p → (p ≡ f → ⊥) → 1 ≤ trail_of.vector p k f
-      → (x : ℕ) × (j : ℕ) × (event_at (r.events p) j ≡ some (received x)) × (j < place_of k (r.events p)) × (trail_of.vector p k f ≤ trail_of.carried x f)
+      → (x : ℕ) × (j : ℕ) × (event_at (r.events p) j ≡ Some (received x)) × (j < place_of k (r.events p)) × (trail_of.vector p k f ≤ trail_of.carried x f)
   is_heard p k f h ne pos = by_entry_number f
       (λ b.
       let o = v.learnt p k f (omega (arith, h, own_is p)) b ne (omega (arith, pos, vector_in p k f b)) in

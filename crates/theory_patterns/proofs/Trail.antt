@@ -1,7 +1,7 @@
 -- The vectors of a run without forcing, state by state, and what holds of them after every record: what Core and Causal ask for.
 -- Assumes nothing.
 use Rattle.std.specs.Prelude.{◌≡◌, ◌∷◌, ◌⊎◌, ◌≤◌, ◌<◌}
-use Rattle.laws.specs.Basics.{refl, sym, ◌∙◌, ap, [], some, inl, inr, ℕ, zero, suc, max, arith, ltb, length, length-append, ltb-true, ltb-false, by_bool, by_eq}
+use Rattle.laws.specs.Basics.{refl, sym, ◌∙◌, ap, [], Some, inl, inr, ℕ, zero, suc, max, arith, ltb, length, length-append, ltb-true, ltb-false, by_bool, by_eq}
 use Rattle.laws.specs.Update.{upd, upd_same, upd_other}
 use Rattle.histories.specs.History.{HistoryEvent, stored, sent, received, Lists, checkpoints}
 use Rattle.whole_runs.specs.Survival.{added}
@@ -25,21 +25,21 @@ pub record Right (t : Trail) : Type 0 where
   pub self : (p k : ℕ) → k ≤ own t p → t.vector p k p ≡ k
   pub rises : (p k f : ℕ) → k < own t p → t.vector p k f ≤ t.vector p (suc k) f
   pub present : (p k f : ℕ) → k ≤ own t p → t.vector p k f ≤ own t f
-  pub fresh : (p i m f : ℕ) → event_at (t.lists p) i ≡ some (sent m) → t.carried m f ≤ own t f
-  pub sends : (p i m : ℕ) → event_at (t.lists p) i ≡ some (sent m) → t.carried m p ≡ interval (t.lists p) i
-  pub takes : (p j m f : ℕ) → event_at (t.lists p) j ≡ some (received m) → t.carried m f ≤ t.vector p (interval (t.lists p) j) f
-  pub used : (p i m : ℕ) → event_at (t.lists p) i ≡ some (sent m) → m ≤ t.last
-  pub got : (p j m : ℕ) → event_at (t.lists p) j ≡ some (received m) → m ≤ t.last
-  pub ordered : (p i j m x f : ℕ) → event_at (t.lists p) j ≡ some (received x) → event_at (t.lists p) i ≡ some (sent m) → j < i → t.carried x f ≤ t.carried m f
-  pub arrived : (q j m : ℕ) → event_at (t.lists q) j ≡ some (received m) → (p : ℕ) × (i : ℕ) × (event_at (t.lists p) i ≡ some (sent m))
-  pub source : (p i m f : ℕ) → event_at (t.lists p) i ≡ some (sent m) → (p ≡ f → ⊥) → 1 ≤ t.carried m f
-      → (x : ℕ) × (j : ℕ) × (event_at (t.lists p) j ≡ some (received x)) × (j < i) × (x < m) × (t.carried m f ≤ t.carried x f)
+  pub fresh : (p i m f : ℕ) → event_at (t.lists p) i ≡ Some (sent m) → t.carried m f ≤ own t f
+  pub sends : (p i m : ℕ) → event_at (t.lists p) i ≡ Some (sent m) → t.carried m p ≡ interval (t.lists p) i
+  pub takes : (p j m f : ℕ) → event_at (t.lists p) j ≡ Some (received m) → t.carried m f ≤ t.vector p (interval (t.lists p) j) f
+  pub used : (p i m : ℕ) → event_at (t.lists p) i ≡ Some (sent m) → m ≤ t.last
+  pub got : (p j m : ℕ) → event_at (t.lists p) j ≡ Some (received m) → m ≤ t.last
+  pub ordered : (p i j m x f : ℕ) → event_at (t.lists p) j ≡ Some (received x) → event_at (t.lists p) i ≡ Some (sent m) → j < i → t.carried x f ≤ t.carried m f
+  pub arrived : (q j m : ℕ) → event_at (t.lists q) j ≡ Some (received m) → (p : ℕ) × (i : ℕ) × (event_at (t.lists p) i ≡ Some (sent m))
+  pub source : (p i m f : ℕ) → event_at (t.lists p) i ≡ Some (sent m) → (p ≡ f → ⊥) → 1 ≤ t.carried m f
+      → (x : ℕ) × (j : ℕ) × (event_at (t.lists p) j ≡ Some (received x)) × (j < i) × (x < m) × (t.carried m f ≤ t.carried x f)
   pub heard : (p k f : ℕ) → k ≤ own t p → (p ≡ f → ⊥) → 1 ≤ t.vector p k f
-      → (x : ℕ) × (j : ℕ) × (event_at (t.lists p) j ≡ some (received x)) × (j < place_of k (t.lists p)) × (t.vector p k f ≤ t.carried x f)
+      → (x : ℕ) × (j : ℕ) × (event_at (t.lists p) j ≡ Some (received x)) × (j < place_of k (t.lists p)) × (t.vector p k f ≤ t.carried x f)
 
 -- What state k of p knows of f, p received in a message before that state.
 abbrev Hears : Trail → ℕ → ℕ → ℕ → Type 0
-Hears t p k f = (x : ℕ) × (j : ℕ) × (event_at (t.lists p) j ≡ some (received x)) × (j < place_of k (t.lists p)) × (t.vector p k f ≤ t.carried x f)
+Hears t p k f = (x : ℕ) × (j : ℕ) × (event_at (t.lists p) j ≡ Some (received x)) × (j < place_of k (t.lists p)) × (t.vector p k f ≤ t.carried x f)
 
 module _ (t : Trail) (v : Right t) where
   -- States of one process know more and more; an event's interval is at most the live one.
@@ -49,10 +49,10 @@ module _ (t : Trail) (v : Right t) where
       (λ e. rw e (omega arith))
       (λ ne. omega (arith, higher p k j f (omega arith) (omega arith), v.rises p j f (omega arith)))
 
-  inside : (p j : ℕ) (e : HistoryEvent) → event_at (t.lists p) j ≡ some e → interval (t.lists p) j ≤ own t p
+  inside : (p j : ℕ) (e : HistoryEvent) → event_at (t.lists p) j ≡ Some e → interval (t.lists p) j ≤ own t p
   inside p j e h = stands_le (t.lists p) (stands_at (t.lists p) j e h)
 
-  within : (p j : ℕ) (e : HistoryEvent) → event_at (t.lists p) j ≡ some e → j ≤ length (t.lists p)
+  within : (p j : ℕ) (e : HistoryEvent) → event_at (t.lists p) j ≡ Some e → j ≤ length (t.lists p)
   within p j e h = omega (arith, place_in (t.lists p) j e h)
 
   -- Checkpoint at i.
@@ -99,19 +99,19 @@ module _ (t : Trail) (v : Right t) where
         (λ e. by_eq k (suc (own t i)) (λ q. inr (e, q)) (λ nq. inl (omega (arith, h, ap (own storing) e, own_same, nq, ap (own t) e))))
         (λ ne. inl (omega (arith, h, own_other p ne)))
 
-    sent_old : (p j m : ℕ) → event_at (storing.lists p) j ≡ some (sent m) → event_at (t.lists p) j ≡ some (sent m)
+    sent_old : (p j m : ℕ) → event_at (storing.lists p) j ≡ Some (sent m) → event_at (t.lists p) j ≡ Some (sent m)
     unfolding storing
     sent_old p j m h = elim (event_cases t.lists i stored p j (sent m) h) [ inl w ↦ w | inr w ↦ absurd (sent_stored m (sym w.2)) ]
 
-    received_old : (p j m : ℕ) → event_at (storing.lists p) j ≡ some (received m) → event_at (t.lists p) j ≡ some (received m)
+    received_old : (p j m : ℕ) → event_at (storing.lists p) j ≡ Some (received m) → event_at (t.lists p) j ≡ Some (received m)
     unfolding storing
     received_old p j m h = elim (event_cases t.lists i stored p j (received m) h) [ inl w ↦ w | inr w ↦ absurd (received_stored m (sym w.2)) ]
 
-    still : (p j : ℕ) (e : HistoryEvent) → event_at (t.lists p) j ≡ some e → event_at (storing.lists p) j ≡ some e
+    still : (p j : ℕ) (e : HistoryEvent) → event_at (t.lists p) j ≡ Some e → event_at (storing.lists p) j ≡ Some e
     unfolding storing
     still p j e h = event_old t.lists i stored p j e h
 
-    same_interval : (p j : ℕ) (e : HistoryEvent) → event_at (t.lists p) j ≡ some e → interval (storing.lists p) j ≡ interval (t.lists p) j
+    same_interval : (p j : ℕ) (e : HistoryEvent) → event_at (t.lists p) j ≡ Some e → interval (storing.lists p) j ≡ interval (t.lists p) j
     unfolding storing
     same_interval p j e h = interval_old t.lists i stored p j (within p j e h)
 
@@ -202,40 +202,40 @@ module _ (t : Trail) (v : Right t) where
     unfolding sending
     carried_new f = ap (λ (g : ℕ → ℕ). g f) (upd_same t.carried (suc t.last) (t.vector i (own t i)))
 
-    sent_cases : (p j m : ℕ) → event_at (sending.lists p) j ≡ some (sent m) → (event_at (t.lists p) j ≡ some (sent m)) ⊎ ((p ≡ i) × (j ≡ length (t.lists i)) × (m ≡ suc t.last))
+    sent_cases : (p j m : ℕ) → event_at (sending.lists p) j ≡ Some (sent m) → (event_at (t.lists p) j ≡ Some (sent m)) ⊎ ((p ≡ i) × (j ≡ length (t.lists i)) × (m ≡ suc t.last))
     unfolding sending
     sent_cases p j m h = elim (event_cases t.lists i (sent (suc t.last)) p j (sent m) h) [ inl w ↦ inl w | inr w ↦ inr (w.0, w.1, sym (same_sent (suc t.last) m w.2)) ]
 
-    received_then : (p j m : ℕ) → event_at (sending.lists p) j ≡ some (received m) → event_at (t.lists p) j ≡ some (received m)
+    received_then : (p j m : ℕ) → event_at (sending.lists p) j ≡ Some (received m) → event_at (t.lists p) j ≡ Some (received m)
     unfolding sending
     received_then p j m h = elim (event_cases t.lists i (sent (suc t.last)) p j (received m) h) [ inl w ↦ w | inr w ↦ absurd (sent_received (suc t.last) m w.2) ]
 
-    still_there : (p j : ℕ) (e : HistoryEvent) → event_at (t.lists p) j ≡ some e → event_at (sending.lists p) j ≡ some e
+    still_there : (p j : ℕ) (e : HistoryEvent) → event_at (t.lists p) j ≡ Some e → event_at (sending.lists p) j ≡ Some e
     unfolding sending
     still_there p j e h = event_old t.lists i (sent (suc t.last)) p j e h
 
-    interval_then : (p j : ℕ) (e : HistoryEvent) → event_at (t.lists p) j ≡ some e → interval (sending.lists p) j ≡ interval (t.lists p) j
+    interval_then : (p j : ℕ) (e : HistoryEvent) → event_at (t.lists p) j ≡ Some e → interval (sending.lists p) j ≡ interval (t.lists p) j
     unfolding sending
     interval_then p j e h = interval_old t.lists i (sent (suc t.last)) p j (within p j e h)
 
     -- What i has received, its send carries.
-    knows_received : (j x f : ℕ) → event_at (t.lists i) j ≡ some (received x) → t.carried x f ≤ t.vector i (own t i) f
+    knows_received : (j x f : ℕ) → event_at (t.lists i) j ≡ Some (received x) → t.carried x f ≤ t.vector i (own t i) f
     knows_received j x f e = omega (arith, v.takes i j x f e, higher i (interval (t.lists i) j) (own t i) f (inside i j (received x) e) (omega arith))
 
-    sent_ordered : (p a b m x f : ℕ) → event_at (sending.lists p) b ≡ some (received x) → event_at (sending.lists p) a ≡ some (sent m) → b < a → sending.carried x f ≤ sending.carried m f
+    sent_ordered : (p a b m x f : ℕ) → event_at (sending.lists p) b ≡ Some (received x) → event_at (sending.lists p) a ≡ Some (sent m) → b < a → sending.carried x f ≤ sending.carried m f
     sent_ordered p a b m x f r s lt = elim (sent_cases p a m s) [
       | inl w ↦ omega (arith, carried_old x f (v.got p b x (received_then p b x r)), carried_old m f (v.used p a m w), v.ordered p a b m x f (received_then p b x r) w lt)
       | inr w ↦ (
-          let mine : event_at (t.lists i) b ≡ some (received x) = rw w.0 at (received_then p b x r) in
+          let mine : event_at (t.lists i) b ≡ Some (received x) = rw w.0 at (received_then p b x r) in
           let number : sending.carried m f ≡ sending.carried (suc t.last) f = ap (λ (k : ℕ). sending.carried k f) w.2 in
           omega (arith, carried_old x f (v.got i b x mine), number, carried_new f, knows_received b x f mine))
     ]
 
     -- Where a message's knowledge of another comes from.
     Origin : Trail → ℕ → ℕ → ℕ → ℕ → Type 0
-    Origin u p a m f = (x : ℕ) × (j : ℕ) × (event_at (u.lists p) j ≡ some (received x)) × (j < a) × (x < m) × (u.carried m f ≤ u.carried x f)
+    Origin u p a m f = (x : ℕ) × (j : ℕ) × (event_at (u.lists p) j ≡ Some (received x)) × (j < a) × (x < m) × (u.carried m f ≤ u.carried x f)
 
-    sent_source : (p a m f : ℕ) → event_at (sending.lists p) a ≡ some (sent m) → (p ≡ f → ⊥) → 1 ≤ sending.carried m f → Origin sending p a m f
+    sent_source : (p a m f : ℕ) → event_at (sending.lists p) a ≡ Some (sent m) → (p ≡ f → ⊥) → 1 ≤ sending.carried m f → Origin sending p a m f
     unfolding Origin
     sent_source p a m f e ne pos = elim (sent_cases p a m e) [
       | inl w ↦ (let o = v.source p a m f w ne (omega (arith, pos, carried_old m f (v.used p a m w))) in
@@ -250,14 +250,14 @@ module _ (t : Trail) (v : Right t) where
             let old = v.got i o.1 o.0 o.2 in
             (o.0, o.1, still_there i o.1 (received o.0) o.2, omega (arith, o.3, place_le (t.lists i) (own t i)), omega (arith, old), omega (arith, o.4, carried_new f, carried_old o.0 f old)))
 
-    sent_fresh : (p a m f : ℕ) → event_at (sending.lists p) a ≡ some (sent m) → sending.carried m f ≤ own sending f
+    sent_fresh : (p a m f : ℕ) → event_at (sending.lists p) a ≡ Some (sent m) → sending.carried m f ≤ own sending f
     sent_fresh p a m f e = elim (sent_cases p a m e) [
       | inl w ↦ omega (arith, carried_old m f (v.used p a m w), v.fresh p a m f w, own_sent f)
       | inr w ↦ (let number : sending.carried m f ≡ sending.carried (suc t.last) f = ap (λ (k : ℕ). sending.carried k f) w.2 in
           omega (arith, number, carried_new f, v.present i (own t i) f (omega arith), own_sent f))
     ]
 
-    sent_sends : (p a m : ℕ) → event_at (sending.lists p) a ≡ some (sent m) → sending.carried m p ≡ interval (sending.lists p) a
+    sent_sends : (p a m : ℕ) → event_at (sending.lists p) a ≡ Some (sent m) → sending.carried m p ≡ interval (sending.lists p) a
     sent_sends p a m e = elim (sent_cases p a m e) [
       | inl w ↦ carried_old m p (v.used p a m w) ∙ v.sends p a m w ∙ sym (interval_then p a (sent m) w)
       | inr w ↦ at_new p a m w.0 w.1 w.2
@@ -286,7 +286,7 @@ module _ (t : Trail) (v : Right t) where
       heard = sent_heard;
     }
       where
-        sent_takes : (p j m f : ℕ) → event_at (sending.lists p) j ≡ some (received m) → sending.carried m f ≤ sending.vector p (interval (sending.lists p) j) f
+        sent_takes : (p j m f : ℕ) → event_at (sending.lists p) j ≡ Some (received m) → sending.carried m f ≤ sending.vector p (interval (sending.lists p) j) f
         sent_takes p j m f e =
             let o = received_then p j m e in
             rw (interval_then p j (received m) o, carried_old m f (v.got p j m o)) (unfold sending in v.takes p j m f o)
@@ -304,7 +304,7 @@ module _ (t : Trail) (v : Right t) where
             same_vector p k f = unfold sending in refl
 
   -- i receives message m, which was sent.
-  module _ (i m : ℕ) (sender : ℕ) (place : ℕ) (was_sent : event_at (t.lists sender) place ≡ some (sent m)) where
+  module _ (i m : ℕ) (sender : ℕ) (place : ℕ) (was_sent : event_at (t.lists sender) place ≡ Some (sent m)) where
     unfoldable pub receiving : Trail
     receiving = record {
       lists = added t.lists i (received m);
@@ -338,19 +338,19 @@ module _ (t : Trail) (v : Right t) where
     risen : (p k f : ℕ) → t.vector p k f ≤ receiving.vector p k f
     risen p k f = elim (which p k) [ inl e ↦ rw (e.0, e.1) (omega (arith, live_new f)) | inr o ↦ omega (arith, o f) ]
 
-    sent_before : (p j x : ℕ) → event_at (receiving.lists p) j ≡ some (sent x) → event_at (t.lists p) j ≡ some (sent x)
+    sent_before : (p j x : ℕ) → event_at (receiving.lists p) j ≡ Some (sent x) → event_at (t.lists p) j ≡ Some (sent x)
     unfolding receiving
     sent_before p j x h = elim (event_cases t.lists i (received m) p j (sent x) h) [ inl w ↦ w | inr w ↦ absurd (sent_received x m (sym w.2)) ]
 
-    received_cases : (p j x : ℕ) → event_at (receiving.lists p) j ≡ some (received x) → (event_at (t.lists p) j ≡ some (received x)) ⊎ ((p ≡ i) × (j ≡ length (t.lists i)) × (x ≡ m))
+    received_cases : (p j x : ℕ) → event_at (receiving.lists p) j ≡ Some (received x) → (event_at (t.lists p) j ≡ Some (received x)) ⊎ ((p ≡ i) × (j ≡ length (t.lists i)) × (x ≡ m))
     unfolding receiving
     received_cases p j x h = elim (event_cases t.lists i (received m) p j (received x) h) [ inl w ↦ inl w | inr w ↦ inr (w.0, w.1, sym (same_received m x w.2)) ]
 
-    there_still : (p j : ℕ) (e : HistoryEvent) → event_at (t.lists p) j ≡ some e → event_at (receiving.lists p) j ≡ some e
+    there_still : (p j : ℕ) (e : HistoryEvent) → event_at (t.lists p) j ≡ Some e → event_at (receiving.lists p) j ≡ Some e
     unfolding receiving
     there_still p j e h = event_old t.lists i (received m) p j e h
 
-    interval_kept : (p j : ℕ) (e : HistoryEvent) → event_at (t.lists p) j ≡ some e → interval (receiving.lists p) j ≡ interval (t.lists p) j
+    interval_kept : (p j : ℕ) (e : HistoryEvent) → event_at (t.lists p) j ≡ Some e → interval (receiving.lists p) j ≡ interval (t.lists p) j
     unfolding receiving
     interval_kept p j e h = interval_old t.lists i (received m) p j (within p j e h)
 
@@ -389,7 +389,7 @@ module _ (t : Trail) (v : Right t) where
       | inr o ↦ omega (arith, o f, own_kept f, v.present p k f (rw (own_kept p) at h))
     ]
 
-    got_takes : (p j x f : ℕ) → event_at (receiving.lists p) j ≡ some (received x) → receiving.carried x f ≤ receiving.vector p (interval (receiving.lists p) j) f
+    got_takes : (p j x f : ℕ) → event_at (receiving.lists p) j ≡ Some (received x) → receiving.carried x f ≤ receiving.vector p (interval (receiving.lists p) j) f
     got_takes p j x f e = elim (received_cases p j x e) [
       | inl w ↦ rw (interval_kept p j (received x) w) (omega (arith, carried_same x f, v.takes p j x f w, risen p (interval (t.lists p) j) f))
       | inr w ↦ at_new p j x w.0 w.1 w.2
@@ -398,7 +398,7 @@ module _ (t : Trail) (v : Right t) where
         at_new : (p j x : ℕ) → p ≡ i → j ≡ length (t.lists i) → x ≡ m → receiving.carried x f ≤ receiving.vector p (interval (receiving.lists p) j) f
         at_new p j x a b c = rw (a, b, c, interval_live) (omega (arith, carried_same m f, live_new f))
 
-    got_ordered : (p a b y x f : ℕ) → event_at (receiving.lists p) b ≡ some (received x) → event_at (receiving.lists p) a ≡ some (sent y) → b < a → receiving.carried x f ≤ receiving.carried y f
+    got_ordered : (p a b y x f : ℕ) → event_at (receiving.lists p) b ≡ Some (received x) → event_at (receiving.lists p) a ≡ Some (sent y) → b < a → receiving.carried x f ≤ receiving.carried y f
     got_ordered p a b y x f r s lt = elim (received_cases p b x r) [
       | inl w ↦ omega (arith, carried_same x f, carried_same y f, v.ordered p a b y x f w (sent_before p a y s) lt)
       | inr w ↦ absurd (omega (arith, w.1, lt, place_in (t.lists p) a (sent y) (sent_before p a y s), ap (λ (q : ℕ). length (t.lists q)) w.0))
@@ -412,7 +412,7 @@ module _ (t : Trail) (v : Right t) where
         let w = v.heard i (own t i) f (omega arith) ne (omega (arith, pos, live_new f, low)) in
         (w.0, w.1, there_still i w.1 (received w.0) w.2, omega (arith, w.3, place_kept i (own t i)), omega (arith, w.4, live_new f, low, carried_same w.0 f)))
       where
-        new_event : event_at (receiving.lists i) (length (t.lists i)) ≡ some (received m)
+        new_event : event_at (receiving.lists i) (length (t.lists i)) ≡ Some (received m)
         new_event = unfold receiving in event_new t.lists i (received m)
 
     got_heard : (p k f : ℕ) → k ≤ own receiving p → (p ≡ f → ⊥) → 1 ≤ receiving.vector p k f → Hears receiving p k f

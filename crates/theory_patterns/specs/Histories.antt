@@ -1,7 +1,7 @@
 -- What is claimed of the surviving histories of whole runs: each is trackable, and a state's vector says exactly which checkpoints come causally before it.
 -- Assumes nothing.
 use Rattle.std.specs.Prelude.{◌≡◌, ◌≤◌, ◌<◌}
-use Rattle.laws.specs.Basics.{List, none, ℕ}
+use Rattle.laws.specs.Basics.{List, None, ℕ}
 use mathlib.Core.List.{Memᴰ}
 use Rattle.model.specs.declared.{Checkpoint.Checkpoint, Run.Run}
 use Rattle.model.specs.{Words.entry, Words.process, Refusals.start_refusal}
@@ -32,7 +32,7 @@ pub record EntriesAreRight (n : ℕ) (s : Run) (h : Surviving) : Type 0 where
 
 -- For every accepted start and every list of calls, recoveries and sweeps included, from the state that it returned.
 unfoldable pub HistoriesAreTrackable : Type 0
-HistoriesAreTrackable = (n : ℕ) (block_counts : List ℕ) → start_refusal n block_counts ≡ none → (calls : List Call) →
+HistoriesAreTrackable = (n : ℕ) (block_counts : List ℕ) → start_refusal n block_counts ≡ None → (calls : List Call) →
     let s₀ = (start_outcome n block_counts).run in
     let h = surviving n block_counts (transcript s₀ calls) in
     Trackable n h.lists × AllUseful n h.lists × EntriesAreRight n (state_after s₀ calls) h

@@ -2,23 +2,23 @@
 -- what Paths defines, no more and no less (proofs/Tested, proofs/Searched).
 -- Assumes nothing.
 use Rattle.std.specs.Prelude.{◌&&◌, ◌||◌}
-use Rattle.laws.specs.Basics.{Bool, false, not, List, Option, none, some, ℕ, zero, suc, eqb, ltb, leb, length, pick}
+use Rattle.laws.specs.Basics.{Bool, false, not, List, Option, None, Some, ℕ, zero, suc, eqb, ltb, leb, length, pick}
 use Rattle.laws.specs.Search.{any_below}
 use Rattle.histories.specs.History.{HistoryEvent, stored, sent, received, Lists, checkpoints}
-use Rattle.theory_patterns.specs.{declared.Verdict.Verdict, declared.Verdict.TheVariants.Breaks, Paths.event_at, Paths.interval}
+use Rattle.theory_patterns.specs.{declared.BreakingPair.BreakingPair, Paths.event_at, Paths.interval}
 
 -- An event, if there is one, is "sent m", or "received m".
 unfoldable pub is_send : ℕ → Option HistoryEvent → Bool
-is_send m none = false
-is_send m (some stored) = false
-is_send m (some (sent k)) = eqb k m
-is_send m (some (received k)) = false
+is_send m None = false
+is_send m (Some stored) = false
+is_send m (Some (sent k)) = eqb k m
+is_send m (Some (received k)) = false
 
 unfoldable pub is_receipt : ℕ → Option HistoryEvent → Bool
-is_receipt m none = false
-is_receipt m (some stored) = false
-is_receipt m (some (sent k)) = false
-is_receipt m (some (received k)) = eqb k m
+is_receipt m None = false
+is_receipt m (Some stored) = false
+is_receipt m (Some (sent k)) = false
+is_receipt m (Some (received k)) = eqb k m
 
 -- Message m is sent, or received, in a list at a place that passes a test.
 unfoldable pub sent_where : List HistoryEvent → ℕ → (ℕ → Bool) → Bool
@@ -72,17 +72,24 @@ module _ (n sends : ℕ) (lists : Lists) (a α b β : ℕ) where
 
 -- The first of two that may be there.
 abbrev pub or_next : {A : Type 0} → Option A → Option A → Option A
-or_next none y = y
-or_next (some x) y = some x
+or_next None y = y
+or_next (Some x) y = Some x
 
 -- The first that is there, of f 0, f 1, .., f (n - 1).
 unfoldable pub first_of_all : {A : Type 0} → ℕ → (ℕ → Option A) → Option A
-first_of_all zero f = none
+first_of_all zero f = None
 first_of_all (suc n) f = or_next (first_of_all n f) (f n)
+
+-- State α of a and state β of b, as the ends of a pair.
+abbrev pub pair_of : ℕ → ℕ → ℕ → ℕ → BreakingPair
+pair_of a α b β = record {
+  near = record { process = a; index = record { 0 = α } };
+  far = record { process = b; index = record { 0 = β } };
+}
 
 -- "it names the first pair that breaks this, by process and index of the near end, then of the far end; the two may be the same checkpoint". Near ends are
 -- checkpoints; "live end states count as far ends".
-unfoldable pub first_pair : ℕ → ℕ → Lists → Option Verdict
+unfoldable pub first_pair : ℕ → ℕ → Lists → Option BreakingPair
 first_pair n sends lists =
     first_of_all n (λ a. first_of_all (checkpoints (lists a)) (λ α. first_of_all n (λ b. first_of_all (suc (checkpoints (lists b))) (λ β.
-    pick (is_breaking n sends lists a α b β) (some (Breaks a (record { 0 = α }) b (record { 0 = β }))) none))))
+    pick (is_breaking n sends lists a α b β) (Some (pair_of a α b β)) None))))

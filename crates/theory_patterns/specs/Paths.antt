@@ -1,13 +1,13 @@
 -- Source document 001, definitions 1, 3 and 4, over lists of events: causal precedence, zigzag paths, and what it is to be trackable.
 -- Assumes nothing.
 use Rattle.std.specs.Prelude.{◌≡◌, ◌∷◌, ◌⊎◌, ◌≤◌, ◌<◌}
-use Rattle.laws.specs.Basics.{List, [], Option, none, some, ℕ, zero, suc, length}
+use Rattle.laws.specs.Basics.{List, [], Option, None, Some, ℕ, zero, suc, length}
 use Rattle.histories.specs.History.{HistoryEvent, stored, sent, received, Lists, checkpoints}
 
 -- The event at a place of a list, places counted from 0.
 unfoldable pub event_at : List HistoryEvent → ℕ → Option HistoryEvent
-event_at [] i = none
-event_at (e ∷ l) zero = some e
+event_at [] i = None
+event_at (e ∷ l) zero = Some e
 event_at (e ∷ l) (suc i) = event_at l i
 
 -- In which interval a place lies: how many checkpoints stand before it. "Interval g lies between checkpoints g − 1 and g."
@@ -20,7 +20,7 @@ interval (received m ∷ l) (suc i) = interval l i
 
 -- An event stands in interval g of a list.
 abbrev pub StandsIn : HistoryEvent → ℕ → List HistoryEvent → Type 0
-StandsIn e g l = (i : ℕ) × (event_at l i ≡ some e) × (interval l i ≡ g)
+StandsIn e g l = (i : ℕ) × (event_at l i ≡ Some e) × (interval l i ≡ g)
 
 -- The place of state k: that of checkpoint k, and for the live state the end of the list. "A live state stands at the end of its list".
 unfoldable pub place_of : ℕ → List HistoryEvent → ℕ
@@ -35,7 +35,7 @@ pub data Precedes (lists : Lists) : ℕ → ℕ → ℕ → ℕ → Type 0 where
   -- "(i)": the next event of the same process
   next : {p i : ℕ} → i < length (lists p) → Precedes lists p i p (suc i)
   -- "(ii)": a send and the receipt of its message
-  message : {p q i j m : ℕ} → event_at (lists p) i ≡ some (sent m) → event_at (lists q) j ≡ some (received m) → Precedes lists p i q j
+  message : {p q i j m : ℕ} → event_at (lists p) i ≡ Some (sent m) → event_at (lists q) j ≡ Some (received m) → Precedes lists p i q j
   -- "(iii)": by way of another event
   through : {p q r i j k : ℕ} → Precedes lists p i q j → Precedes lists q j r k → Precedes lists p i r k
 

@@ -2,7 +2,7 @@
 -- "No delivery forces here."
 -- Assumes nothing.
 use Rattle.std.specs.Prelude.{◌||◌, ◌∷◌, ◌+◌, ◌/◌}
-use Rattle.laws.specs.Basics.{Bool, true, false, not, List, [], Option, none, some, ℕ, suc, eqb, ltb, leb, length, pick}
+use Rattle.laws.specs.Basics.{Bool, true, false, not, List, [], Option, None, Some, ℕ, suc, eqb, ltb, leb, length, pick}
 use Rattle.laws.specs.{Tests.count_below, Update.upd}
 use Rattle.model.specs.declared.{Event.Event, Refusal.Refusal}
 use Rattle.model.specs.declared.Event.TheVariants.{Checkpoint, Send, Deliver, Lose, Recover}
@@ -30,40 +30,40 @@ count_under_way t = count_below (suc t.sends) t.underway
 -- "Records are judged by the refusals of document 01". None is the event of a malformed record. "A record of kind 4 is refused with 14."
 -- A live state's index is the own entry.
 unfoldable pub record_refusal : ℕ → Pattern → Option Event → Option Refusal
-record_refusal n t none = some MalformedRecord
-record_refusal n t (some (Checkpoint i)) = first_of (
+record_refusal n t None = Some MalformedRecord
+record_refusal n t (Some (Checkpoint i)) = first_of (
     record { holds = leb n i; gives = NoSuchProcess }
     ∷ record { holds = leb most_interval (checkpoints (t.lists i)); gives = IntervalsUsed }
     ∷ [])
-record_refusal n t (some (Send i j)) = first_of (
+record_refusal n t (Some (Send i j)) = first_of (
     record { holds = leb n i || leb n j; gives = NoSuchProcess }
     ∷ record { holds = eqb i j; gives = SenderIsReceiver }
     ∷ record { holds = leb most_under_way (count_under_way t); gives = TooManyUnderWay }
     ∷ record { holds = leb most_messages t.sends; gives = MessageNumbersUsed }
     ∷ [])
-record_refusal n t (some (Deliver m)) = first_of (record { holds = not (t.underway m); gives = NotUnderWay } ∷ [])
-record_refusal n t (some (Lose m)) = first_of (record { holds = not (t.underway m); gives = NotUnderWay } ∷ [])
-record_refusal n t (some (Recover F)) = some MalformedRecord
+record_refusal n t (Some (Deliver m)) = first_of (record { holds = not (t.underway m); gives = NotUnderWay } ∷ [])
+record_refusal n t (Some (Lose m)) = first_of (record { holds = not (t.underway m); gives = NotUnderWay } ∷ [])
+record_refusal n t (Some (Recover F)) = Some MalformedRecord
 
 -- The pattern after a record that is not refused. A delivery adds "received m" to the list of the receiver that the send named, and forces nothing; a loss
 -- adds nothing: 001's patterns leave out lost messages, and those under way.
 unfoldable pub taken : Pattern → Option Event → Pattern
-taken t none = t
-taken t (some (Checkpoint i)) = record { lists = added t.lists i stored; sends = t.sends; receiver = t.receiver; underway = t.underway }
-taken t (some (Send i j)) = record {
+taken t None = t
+taken t (Some (Checkpoint i)) = record { lists = added t.lists i stored; sends = t.sends; receiver = t.receiver; underway = t.underway }
+taken t (Some (Send i j)) = record {
   lists = added t.lists i (sent (t.sends + 1));
   sends = t.sends + 1;
   receiver = upd t.receiver (t.sends + 1) j;
   underway = upd t.underway (t.sends + 1) true;
 }
-taken t (some (Deliver m)) = record {
+taken t (Some (Deliver m)) = record {
   lists = added t.lists (t.receiver m) (received m);
   sends = t.sends;
   receiver = t.receiver;
   underway = upd t.underway m false;
 }
-taken t (some (Lose m)) = record { lists = t.lists; sends = t.sends; receiver = t.receiver; underway = upd t.underway m false }
-taken t (some (Recover F)) = t
+taken t (Some (Lose m)) = record { lists = t.lists; sends = t.sends; receiver = t.receiver; underway = upd t.underway m false }
+taken t (Some (Recover F)) = t
 
 -- What a reading comes to: a refusal, or the pattern of the whole trace.
 pub data Reading : Type 0 where

@@ -1,10 +1,11 @@
 -- Note 9, proved: what was recorded replays the same.
 -- Assumes nothing.
-use Rattle.std.specs.Prelude.{◌≡◌, ◌∷◌, ◌++◌, ◌⊎◌, ◌+◌, ◌-◌, ◌*◌, ◌≤◌, ◌<◌}
-use Rattle.laws.specs.Basics.{refl, sym, ◌∙◌, ap, Bool, true, false, not, List, [], map, append-nil, append_assoc, none, some, inl, inr, ℕ, zero, suc, min, arith, eqb, ltb, length, get_or, take, drop, replicate, length-append, length-replicate, get_or-replicate, sets, length-take-le, lt-ltb, le-ltb, ltb-true, ltb-false, by_bool}
+use Rattle.std.specs.Prelude.{◌≡◌, ◌∷◌, ◌++◌, ◌⊎◌, ◌+◌, ◌-◌, ◌*◌, ◌≤◌, ◌<◌, Err, Ok}
+use Rattle.laws.specs.Basics.{refl, sym, ◌∙◌, ap, Bool, true, false, not, List, [], map, append-nil, append_assoc, None, Some, inl, inr, ℕ, zero, suc, min, arith, eqb, ltb, length, get_or, take, drop, replicate, length-append, length-replicate, get_or-replicate, sets, length-take-le, lt-ltb, le-ltb, ltb-true, ltb-false, by_bool}
 use Rattle.std.proofs.Common.{mul-le-mul, take-append-drop, take_all, drop-drop, take_at, drop_at}
 use lib.Seq.{sets-eq, length-sets}
 use Rattle.laws.specs.{Choice.pick_same, Front.written_front, Lists.gather, Tables.length_table, Tests.every, Elements.every_append, Truth.and_right}
+use Rattle.model.specs.Shapes.{StartAnswer}
 use Rattle.model.specs.declared.{Message.Message, Named.Named, Run.Run, Event.Event, Refusal.Refusal, Refusal.TheVariants.BufferTooShort}
 use Rattle.model.specs.declared.Event.TheVariants.{Checkpoint, Send, Deliver, Lose, Recover}
 use Rattle.model.specs.{Words.most_processes, Words.basic, Words.forced, Words.ones, Words.process, Words.failed, Sound.is_block_count_of, Sound.sound}
@@ -28,7 +29,7 @@ use Rattle.theory_recording.proofs.Replay.{fits_accepted, record_of, first_state
 use Rattle.whole_runs.proofs.{Sizes.few_processes, whole.Because.because_state, whole.Because.because_limits, whole.Accepted.accepted_report}
 use Rattle.whole_runs.proofs.whole.Reached.{Reached, refusal, refused_number, refused_state, refused_report}
 use Rattle.whole_runs.proofs.WholeRuns.{started_state, start_reached, call_reached, same_start}
-use Rattle.model.specs.declared.StartAnswer.TheVariants as start_answer
+use Prim.{tt}
 
 -- The lists of a replay are long enough for every sound state.
 room : (s : Run) → sound s ≡ true → 2 * s.count * s.count ≤ length {A = ℕ} (replicate 512 0)
@@ -50,7 +51,7 @@ unfolding deliver_report deliver_answer
 deliver_count s x = by_bool (forces (process s x.receiver) x.vector) (λ q. rw q) (λ q. rw q)
 
 -- Where a call is accepted, the call of its record is: its lists are long enough. Of any state.
-record_call : (s : Run) (c : Call) (e : Event) → refusal s c ≡ none → event_of_call c ≡ some e → refusal s (call_of e) ≡ none
+record_call : (s : Run) (c : Call) (e : Event) → refusal s c ≡ None → event_of_call c ≡ Some e → refusal s (call_of e) ≡ None
 unfolding refusal event_of_call call_of
 record_call s (checkpoint i deleted) e h q =
     let event : e ≡ Checkpoint i = cc in
@@ -70,7 +71,7 @@ record_call s (line F lent) e h q = absurd (let z : ◌≡◌ {A = ℕ} 0 1 = cc
 record_call s (earliest l lent) e h q = absurd (let z : ◌≡◌ {A = ℕ} 0 1 = cc in omega arith)
 
 -- So the event of an accepted call fits the fields of a record.
-pub fits_event : (s : Run) (c : Call) (e : Event) → refusal s c ≡ none → event_of_call c ≡ some e → fits e ≡ true
+pub fits_event : (s : Run) (c : Call) (e : Event) → refusal s c ≡ None → event_of_call c ≡ Some e → fits e ≡ true
 fits_event s c e h q = fits_accepted s e (record_call s c e h q)
 
 -- A call and the call of its record: one state, and one reply but for what the lent lists held before.
@@ -113,7 +114,7 @@ module _ (r : Ideal) (v : Inv r) (fit : Limits r) where
   line_length : (F : ℕ) → length (line_of (state_of r) F) ≡ r.n
   line_length F = rw (line_is r v fit.few_processes F) (length_table r.n (Line-of r (failed F)))
 
-  pub same_call : (c : Call) (e : Event) → refusal (state_of r) c ≡ none → event_of_call c ≡ some e → Alike r.n (state_of r) c (call_of e)
+  pub same_call : (c : Call) (e : Event) → refusal (state_of r) c ≡ None → event_of_call c ≡ Some e → Alike r.n (state_of r) c (call_of e)
   unfolding refusal event_of_call call_of call answered handed checkpoint_outcome checkpoint_report deliver_outcome recover_outcome recover_report
   same_call (checkpoint i deleted) e h q =
       let w = checkpoint_run r v fit i deleted h in
@@ -160,7 +161,7 @@ module _ (r : Ideal) (v : Inv r) (fit : Limits r) where
 
 -- What the writer does with a call that it would record, by the call's refusal and the room.
 module _ (t : Tape) where
-  refused_way : (c : Call) (e : Event) (x : Refusal) → event_of_call c ≡ some e → refusal t.run c ≡ some x
+  refused_way : (c : Call) (e : Event) (x : Refusal) → event_of_call c ≡ Some e → refusal t.run c ≡ Some x
       → ((recorded t (c)).tape ≡ record { run = (call t.run c).run; buffer = t.buffer; place = t.place }) × ((recorded t (c)).reply ≡ (call t.run c).reply)
   unfolding refusal event_of_call recorded taped recording unwritten call answered recorded_checkpoint recorded_send recorded_deliver recorded_lose recorded_recover
   refused_way (checkpoint i deleted) e x q h = rw h (refl, refl)
@@ -171,7 +172,7 @@ module _ (t : Tape) where
   refused_way (line F lent) e x q h = absurd (let z : ◌≡◌ {A = ℕ} 0 1 = cc in omega arith)
   refused_way (earliest l lent) e x q h = absurd (let z : ◌≡◌ {A = ℕ} 0 1 = cc in omega arith)
 
-  short_way : (c : Call) (e : Event) → event_of_call c ≡ some e → refusal t.run c ≡ none → ltb (length t.buffer - t.place) (length (record_bytes e)) ≡ true
+  short_way : (c : Call) (e : Event) → event_of_call c ≡ Some e → refusal t.run c ≡ None → ltb (length t.buffer - t.place) (length (record_bytes e)) ≡ true
       → ((recorded t (c)).tape ≡ t) × ((recorded t (c)).reply.report.refused ≡ 21)
   unfolding refusal event_of_call recorded taped answered recording unwritten recorded_checkpoint recorded_send recorded_deliver recorded_lose recorded_recover checkpoint_report send_report deliver_report lose_report recover_report number
   short_way (checkpoint i deleted) e q h b = let event : e ≡ Checkpoint i = cc in rw (h, rw event at b) (refl, refl)
@@ -182,7 +183,7 @@ module _ (t : Tape) where
   short_way (line F lent) e q h b = absurd (let z : ◌≡◌ {A = ℕ} 0 1 = cc in omega arith)
   short_way (earliest l lent) e q h b = absurd (let z : ◌≡◌ {A = ℕ} 0 1 = cc in omega arith)
 
-  done_way : (c : Call) (e : Event) → event_of_call c ≡ some e → refusal t.run c ≡ none → ltb (length t.buffer - t.place) (length (record_bytes e)) ≡ false
+  done_way : (c : Call) (e : Event) → event_of_call c ≡ Some e → refusal t.run c ≡ None → ltb (length t.buffer - t.place) (length (record_bytes e)) ≡ false
       → ((recorded t (c)).tape ≡ record { run = (call t.run c).run; buffer = sets t.buffer t.place (record_bytes e); place = t.place + length (record_bytes e) })
       × ((recorded t (c)).reply ≡ (call t.run c).reply)
   unfolding refusal event_of_call recorded taped recording appended call answered recorded_checkpoint recorded_send recorded_deliver recorded_lose recorded_recover
@@ -201,13 +202,13 @@ pub record Still (t : Tape) (c : Call) : Type 0 where
 
 pub record Wrote (t : Tape) (c : Call) : Type 0 where
   pub event : Event
-  pub asks : event_of_call c ≡ some event
-  pub fine : refusal t.run c ≡ none
+  pub asks : event_of_call c ≡ Some event
+  pub fine : refusal t.run c ≡ None
   pub room : length (record_bytes event) ≤ length t.buffer - t.place
   pub tape : (recorded t c).tape ≡ record { run = (call t.run c).run; buffer = sets t.buffer t.place (record_bytes event); place = t.place + length (record_bytes event) }
   pub one_entered : entered t c ≡ record { event = event; reply = (call t.run c).reply } ∷ []
 
-call_way : (t : Tape) (c : Call) (e : Event) → event_of_call c ≡ some e → Still t c ⊎ Wrote t c
+call_way : (t : Tape) (c : Call) (e : Event) → event_of_call c ≡ Some e → Still t c ⊎ Wrote t c
 unfolding entered entry_of
 call_way t c e q = by_refusal (refusal t.run c)
     (λ h. by_bool (ltb (length t.buffer - t.place) (length (record_bytes e)))
@@ -262,7 +263,7 @@ writes_accepted_alone t c h = elim (way t c) [
     clash : (x : EventReply) (l : List EventReply) → ◌≡◌ {A = List EventReply} [] (x ∷ l) → ⊥
     clash x l e = let z : ◌≡◌ {A = ℕ} 0 1 = cc in omega arith
 
-    nothing : (eqb (recorded t c).reply.report.refused 0 ≡ false) ⊎ (event_of_call c ≡ none) → entered t c ≡ []
+    nothing : (eqb (recorded t c).reply.report.refused 0 ≡ false) ⊎ (event_of_call c ≡ None) → entered t c ≡ []
     nothing (inl e) = rw e
     nothing (inr e) = rw e (pick_same (eqb (recorded t c).reply.report.refused 0) [])
 
@@ -308,8 +309,8 @@ module _ (buffer bytes : List ℕ) (p : ℕ) (fitting : p + length bytes ≤ len
   further k = sym (drop-drop k (p + length bytes) (sets buffer p bytes)) ∙ ap (λ (l : List ℕ). drop k l) beyond ∙ drop-drop k (p + length bytes) buffer
 
 -- One record more in front. `c` is the call that was made, with the record `bytes` of its event.
-module _ (n : ℕ) (t u : Tape) (c : Call) (e : Event) (l : List EventReply) (four : length (record_bytes e) ≡ 4) (stands_for : decoded (record_bytes e) ≡ some e) (small_bytes : every (λ b. ltb b 256) (record_bytes e) ≡ true)
-    (fine : refusal t.run c ≡ none) (same : Alike n t.run c (call_of e)) (room : t.place + 4 ≤ length t.buffer) where
+module _ (n : ℕ) (t u : Tape) (c : Call) (e : Event) (l : List EventReply) (four : length (record_bytes e) ≡ 4) (stands_for : decoded (record_bytes e) ≡ Some e) (small_bytes : every (λ b. ltb b 256) (record_bytes e) ≡ true)
+    (fine : refusal t.run c ≡ None) (same : Alike n t.run c (call_of e)) (room : t.place + 4 ≤ length t.buffer) where
   abbrev next : Tape
   next = record { run = (call t.run c).run; buffer = sets t.buffer t.place (record_bytes e); place = t.place + length (record_bytes e) }
 
@@ -358,7 +359,7 @@ pub record Good (n : ℕ) (s : Run) : Type 0 where
 good_call : (n : ℕ) (s : Run) (c : Call) → Good n s → Good n (call s c).run
 good_call n s c g = record { history = _; ideal = _; reached = call_reached n s g.history g.ideal g.reached c }
 
-good_alike : (n : ℕ) (s : Run) (c : Call) (e : Event) → Good n s → refusal s c ≡ none → event_of_call c ≡ some e → Alike n s c (call_of e) × (fits e ≡ true)
+good_alike : (n : ℕ) (s : Run) (c : Call) (e : Event) → Good n s → refusal s c ≡ None → event_of_call c ≡ Some e → Alike n s c (call_of e) × (fits e ≡ true)
 good_alike n s c e g h q =
     let v = g.reached in
     let same : Alike n s c (call_of e) = rw (← v.size, v.state) (same_call g.ideal v.inv v.limits c e (rw v.state at h) q) in
@@ -381,8 +382,8 @@ all_follow n t g h (c ∷ calls) = elim (way t c) [
 ]
 
 -- The start.
-start_begun : (n : ℕ) (block_counts buffer : List ℕ) → (recorded_start n block_counts buffer).outcome.answer ≡ start_answer.Started
-    → (start_refusal n block_counts ≡ none) × (1 ≤ length buffer) × (begun n block_counts buffer ≡ record { run = start_state n block_counts; buffer = sets buffer 0 (n ∷ []); place = 1 })
+start_begun : (n : ℕ) (block_counts buffer : List ℕ) → (recorded_start n block_counts buffer).outcome.answer ≡ Ok tt
+    → (start_refusal n block_counts ≡ None) × (1 ≤ length buffer) × (begun n block_counts buffer ≡ record { run = start_state n block_counts; buffer = sets buffer 0 (n ∷ []); place = 1 })
 unfolding recorded_start recording unwritten appended begun start_outcome
 start_begun n block_counts buffer e = by_refusal (start_refusal n block_counts)
     (λ h. by_bool (ltb (length buffer - 0) (length (n ∷ [])))
@@ -390,7 +391,7 @@ start_begun n block_counts buffer e = by_refusal (start_refusal n block_counts)
     (λ b. (h, omega (arith, ltb-false (length buffer - 0) (length (n ∷ [])) b), rw (h, b))))
     (λ x h. absurd (not_started x (rw h at e)))
   where
-    not_started : (x : Refusal) → start_answer.Refused x ≡ start_answer.Started → ⊥
+    not_started : (x : Refusal) → ◌≡◌ {A = StartAnswer} (Err x) (Ok tt) → ⊥
     not_started x e = let z : ◌≡◌ {A = ℕ} 0 1 = cc in omega arith
 
 -- What the replay program prints depends on what the replies hand out alone.
@@ -438,7 +439,7 @@ one_start : (n : ℕ) (block_counts : List ℕ) → n ≤ most_processes → One
 unfolding OneEach
 one_start n block_counts few one = same_start n block_counts ones (λ p lt. one p lt ∙ sym (one_of n p few lt))
 
-replay_starts : (n : ℕ) (block_counts : List ℕ) → start_refusal n block_counts ≡ none → start_refusal n ones ≡ none
+replay_starts : (n : ℕ) (block_counts : List ℕ) → start_refusal n block_counts ≡ None → start_refusal n ones ≡ None
 replay_starts n block_counts ok =
     let w = start_out n block_counts ok in
     start_in n ones w.0 w.1 (λ p lt. ap is_block_count_of (one_of n p w.1 lt) ∙ one_fits_lem)
@@ -447,7 +448,7 @@ replay_starts n block_counts ok =
     one_fits_lem = unfold is_block_count_of in refl
 
 -- What a replay does with n and the records of what was entered, by a replay from the start that was recorded.
-module _ (n : ℕ) (block_counts : List ℕ) (l : List EventReply) (ok : start_refusal n block_counts ≡ none) (size : length (trace_of l) ≡ 4 * length l) (one : OneEach n block_counts) (most : length l ≤ most_records) where
+module _ (n : ℕ) (block_counts : List ℕ) (l : List EventReply) (ok : start_refusal n block_counts ≡ None) (size : length (trace_of l) ≡ 4 * length l) (one : OneEach n block_counts) (most : length l ≤ most_records) where
   reaches : (s : Run) → state_after_records (start_state n block_counts) (trace_of l) ≡ s → replayed_state (n ∷ trace_of l) ≡ s
   unfolding replayed_state
   reaches s e =
@@ -474,7 +475,7 @@ stands : (n place : ℕ) (l : List EventReply) (buffer now-buffer : List ℕ) �
 stands n place l buffer now-buffer e far = ap (take place) e ∙ take_at (n ∷ trace_of l) (drop place buffer) place (sym far)
 
 -- Note 9.
-begun_follows : (n : ℕ) (block_counts buffer : List ℕ) (t u : Tape) (l : List EventReply) → start_refusal n block_counts ≡ none → 1 ≤ length buffer
+begun_follows : (n : ℕ) (block_counts buffer : List ℕ) (t u : Tape) (l : List EventReply) → start_refusal n block_counts ≡ None → 1 ≤ length buffer
     → t ≡ record { run = start_state n block_counts; buffer = sets buffer 0 (n ∷ []); place = 1 } → Follows n t u l → ReplaysTheSame n block_counts buffer u l
 unfolding every
 begun_follows n block_counts buffer t u l ok some-room is w₀ =
@@ -499,7 +500,7 @@ begun_follows n block_counts buffer t u l ok some-room is w₀ =
       printed = λ one most all. ap (listing all) front ∙ prints n block_counts l ok w.size one most w.replies w.accepted all;
     }
 
-replays_from : (n : ℕ) (block_counts buffer : List ℕ) → (recorded_start n block_counts buffer).outcome.answer ≡ start_answer.Started → (calls : List Call)
+replays_from : (n : ℕ) (block_counts buffer : List ℕ) → (recorded_start n block_counts buffer).outcome.answer ≡ Ok tt → (calls : List Call)
     → ReplaysTheSame n block_counts buffer (tape_after (begun n block_counts buffer) calls) (entries (begun n block_counts buffer) calls)
 replays_from n block_counts buffer e calls =
     let b = start_begun n block_counts buffer e in

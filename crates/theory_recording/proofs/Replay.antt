@@ -1,7 +1,7 @@
 -- Accepted events and the replay of their records: the same state, the same replies.
 -- Assumes nothing.
 use Rattle.std.specs.Prelude.{◌≡◌, ◌∷◌, ◌++◌, ◌+◌, ◌*◌, ◌^◌, ◌≤◌, ◌<◌}
-use Rattle.laws.specs.Basics.{refl, ◌∙◌, ap, Bool, true, List, [], map, none, some, ℕ, zero, suc, arith, eqb, ltb, length, length-append, eqb-true, lt-ltb, by_bool}
+use Rattle.laws.specs.Basics.{refl, ◌∙◌, ap, Bool, true, List, [], map, None, Some, ℕ, zero, suc, arith, eqb, ltb, length, length-append, eqb-true, lt-ltb, by_bool}
 use native.Mathlib.Nat.{pow-le-pow_right}
 use Rattle.laws.specs.{Lists.select, Prefixes.every_select, Tests.every, Truth.and_left, Truth.and_right, Truth.and_both, Truth.or_in_right}
 use Rattle.model.specs.declared.{Message.Message, Run.Run, Event.Event}
@@ -22,7 +22,7 @@ unfolding every select
 all_named m [] = refl
 all_named m (x ∷ l) = by_bool (eqb x.number m) (λ e. rw e (and_both (eqb x.number m) _ e (all_named m l))) (λ e. rw e (all_named m l))
 
-number_in_lem : (s : Run) → sound s ≡ true → (m : ℕ) (x : Message) → found s m ≡ some x → m ≤ most_messages
+number_in_lem : (s : Run) → sound s ≡ true → (m : ℕ) (x : Message) → found s m ≡ Some x → m ≤ most_messages
 unfolding found
 number_in_lem s h m x e =
     let all = every_select (message_sound s) (λ y. eqb y.number m) (under_way s) (sound_state s h).messages_sound_lem in
@@ -35,7 +35,7 @@ fits_in : (e : Event) → (fields_of e).process < 16 → (fields_of e).argument 
 unfolding fits
 fits_in e a b = and_both _ _ (lt-ltb (fields_of e).process 16 a) (lt-ltb (fields_of e).argument 33554432 b)
 
-pub fits_accepted : (s : Run) (e : Event) → refusal s (call_of e) ≡ none → fits e ≡ true
+pub fits_accepted : (s : Run) (e : Event) → refusal s (call_of e) ≡ None → fits e ≡ true
 unfolding refusal call_of fields_of
 fits_accepted s (Checkpoint i) h =
     let f = checkpoint_out s i _ h in
@@ -55,7 +55,7 @@ fits_accepted s (Recover F) h =
     fits_in (Recover F) (omega arith) (omega (arith, most, f.set))
 
 -- The record of an event that fits: four bytes that stand for it.
-pub record_of : (e : Event) → fits e ≡ true → (length (record_bytes e) ≡ 4) × (decoded (record_bytes e) ≡ some e)
+pub record_of : (e : Event) → fits e ≡ true → (length (record_bytes e) ≡ 4) × (decoded (record_bytes e) ≡ Some e)
 unfolding record_bytes is_record
 record_of e h =
     let w = records_are_events.one_record e h in
@@ -77,7 +77,7 @@ first_reply s (a ∷ b ∷ c ∷ d ∷ e ∷ r) l h = absurd (omega arith)
 -- Events that a state accepts, one after the other, and that have records.
 pub data Accepts : Run → List Event → Type 0 where
   none_left : {s : Run} → Accepts s []
-  one_more : {s : Run} {e : Event} {l : List Event} → refusal s (call_of e) ≡ none → fits e ≡ true → Accepts (call s (call_of e)).run l → Accepts s (e ∷ l)
+  one_more : {s : Run} {e : Event} {l : List Event} → refusal s (call_of e) ≡ None → fits e ≡ true → Accepts (call s (call_of e)).run l → Accepts s (e ∷ l)
 
 -- Two lists of events, one after the other.
 pub state_append : (s : Run) (a b : List Event) → state_after_events s (a ++ b) ≡ state_after_events (state_after_events s a) b
@@ -105,7 +105,7 @@ pub record Replays (s : Run) (l : List Event) : Type 0 where
   pub same : paired l (replies_of s (records_of l)) ≡ performed s l
   pub one_each : length (replies_of s (records_of l)) ≡ length l
 
-performs : (s : Run) (e : Event) → decoded (record_bytes e) ≡ some e → perform s (decoded (record_bytes e)) ≡ call s (call_of e)
+performs : (s : Run) (e : Event) → decoded (record_bytes e) ≡ Some e → perform s (decoded (record_bytes e)) ≡ call s (call_of e)
 unfolding perform
 performs s e h = rw h
 
@@ -142,7 +142,7 @@ lines_replayed all (suc k) done s (w ∷ x ∷ y ∷ z ∷ l) h m a =
     let rest = and_right (eqb o.reply.report.refused 0) (every (λ r. eqb r.report.refused 0) (replies_of o.run l)) a in
     rw (lt-ltb done most_records (omega arith), or_in_right all (eqb o.reply.report.refused 0) first, lines_replayed all k (done + 1) o.run l (omega arith) (omega arith) rest)
 
-pub listing_started : (all : Bool) (n : ℕ) (l : List ℕ) → start_refusal n ones ≡ none → listing all (n ∷ l) ≡ records all 0 (start_state n ones) l
+pub listing_started : (all : Bool) (n : ℕ) (l : List ℕ) → start_refusal n ones ≡ None → listing all (n ∷ l) ≡ records all 0 (start_state n ones) l
 unfolding listing started
 listing_started all n l e = rw e
 

@@ -3,4 +3,5 @@ pub mod Accepted
 pub mod Agreement
 pub mod Cases
 pub mod Counts
+pub mod Divided
 pub mod Oldest

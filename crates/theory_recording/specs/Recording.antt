@@ -1,24 +1,18 @@
 -- Document 02, Note 9: a recorder. "A writer takes a call, does it, and appends the record to a lent buffer whose first byte is the count".
 -- Assumes nothing.
-use Rattle.std.specs.Prelude.{◌≡◌, ◌∷◌, ◌++◌, ◌⊎◌, ◌+◌, ◌-◌, ◌*◌, ◌≤◌, ◌<◌}
-use Rattle.laws.specs.Basics.{Bool, true, false, List, [], map, Option, none, some, ℕ, eqb, ltb, length, get_or, take, drop, sets, pick}
+use Rattle.std.specs.Prelude.{◌≡◌, ◌∷◌, ◌++◌, ◌⊎◌, ◌+◌, ◌-◌, ◌*◌, ◌≤◌, ◌<◌, Err, Ok}
+use Rattle.laws.specs.Basics.{Bool, true, false, List, [], map, Option, None, Some, ℕ, eqb, ltb, length, get_or, take, drop, sets, pick}
 use Rattle.laws.specs.Tests.{every}
-use Rattle.model.specs.declared.{Named.Named, Run.Run, Event.Event, Refusal.Refusal, Refusal.TheVariants.BufferTooShort, StartAnswer.StartAnswer}
+use Prim.{tt}
+use Rattle.model.specs.Shapes.{CheckpointAnswer, DeliverAnswer, LineAnswer, LoseAnswer, RecoverAnswer, SendAnswer, StartAnswer}
+use Rattle.model.specs.declared.{Named.Named, Run.Run, Event.Event, Refusal.Refusal, Refusal.TheVariants.BufferTooShort}
 use Rattle.model.specs.declared.Event.TheVariants.{Checkpoint, Send, Deliver, Lose, Recover}
-use Rattle.model.specs.declared.{CheckpointAnswer.CheckpointAnswer, SendAnswer.SendAnswer, DeliverAnswer.DeliverAnswer, LoseAnswer.LoseAnswer}
-use Rattle.model.specs.declared.{LineAnswer.LineAnswer, RecoverAnswer.RecoverAnswer}
 use Rattle.model.specs.{Words.blank, Steps.start_state}
 use Rattle.model.specs.Refusals.{start_refusal, checkpoint_refusal, send_refusal, deliver_refusal, lose_refusal, recover_refusal}
 use Rattle.whole_runs.specs.Outcomes.{Outcome, Report, judged, start_outcome, checkpoint_outcome, checkpoint_report, send_outcome, send_report, deliver_outcome, deliver_report, lose_outcome, lose_report, line_outcome, line_report, recover_outcome, recover_report}
 use Rattle.whole_runs.specs.{Earliest.earliest_outcome, Listing.most_records, Listing.state_after_records, Listing.listing}
 use Rattle.whole_runs.specs.Calls.{Call, checkpoint, send, deliver, lose, recover, line, earliest, Reply, answered}
 use Rattle.theory_recording.specs.Replay.{record_bytes, records_of, EventReply, replies_of, replayed_state, none_refused, lines_of}
-use Rattle.model.specs.declared.StartAnswer.TheVariants as start_answer
-use Rattle.model.specs.declared.CheckpointAnswer.TheVariants as checkpoint-answer
-use Rattle.model.specs.declared.SendAnswer.TheVariants as send-answer
-use Rattle.model.specs.declared.DeliverAnswer.TheVariants as deliver-answer
-use Rattle.model.specs.declared.LoseAnswer.TheVariants as lose-answer
-use Rattle.model.specs.declared.RecoverAnswer.TheVariants as recover-answer
 
 -- What a call through the writer leaves behind: the call's outcome, the buffer, and the place that the next byte goes to.
 pub record Recorded (A : Type 0) : Type 0 where
@@ -44,32 +38,32 @@ recording own outcome short bytes buffer place = judged own
 -- "whose first byte is the count; the start writes that byte". A refused start leaves a state of zeros and the place 0.
 unfoldable pub recorded_start : ℕ → List ℕ → List ℕ → Recorded StartAnswer
 recorded_start n block_counts buffer = recording (start_refusal n block_counts) (start_outcome n block_counts)
-    (record { run = blank 0; answer = start_answer.Refused BufferTooShort; rose = 0; deleted = []; line = [] })
+    (record { run = blank 0; answer = Err BufferTooShort; rose = 0; deleted = []; line = [] })
     (n ∷ []) buffer 0
 
 unfoldable pub recorded_checkpoint : Run → ℕ → List ℕ → List ℕ → ℕ → Recorded CheckpointAnswer
 recorded_checkpoint s i deleted = recording (checkpoint_refusal s i deleted) (checkpoint_outcome s i deleted)
-    (record { run = s; answer = checkpoint-answer.Refused BufferTooShort; rose = 0; deleted = deleted; line = [] })
+    (record { run = s; answer = Err BufferTooShort; rose = 0; deleted = deleted; line = [] })
     (record_bytes (Checkpoint i))
 
 unfoldable pub recorded_send : Run → ℕ → ℕ → List ℕ → ℕ → Recorded SendAnswer
 recorded_send s i j = recording (send_refusal s i j) (send_outcome s i j)
-    (record { run = s; answer = send-answer.Refused BufferTooShort; rose = 0; deleted = []; line = [] })
+    (record { run = s; answer = Err BufferTooShort; rose = 0; deleted = []; line = [] })
     (record_bytes (Send i j))
 
 unfoldable pub recorded_deliver : Run → ℕ → List ℕ → List ℕ → ℕ → Recorded DeliverAnswer
 recorded_deliver s m deleted = recording (deliver_refusal s m deleted) (deliver_outcome s m deleted)
-    (record { run = s; answer = deliver-answer.Refused BufferTooShort; rose = 0; deleted = deleted; line = [] })
+    (record { run = s; answer = Err BufferTooShort; rose = 0; deleted = deleted; line = [] })
     (record_bytes (Deliver m))
 
 unfoldable pub recorded_lose : Run → ℕ → List ℕ → ℕ → Recorded LoseAnswer
 recorded_lose s m = recording (lose_refusal s m) (lose_outcome s m)
-    (record { run = s; answer = lose-answer.Refused BufferTooShort; rose = 0; deleted = []; line = [] })
+    (record { run = s; answer = Err BufferTooShort; rose = 0; deleted = []; line = [] })
     (record_bytes (Lose m))
 
 unfoldable pub recorded_recover : Run → ℕ → List ℕ → List ℕ → List ℕ → ℕ → Recorded RecoverAnswer
 recorded_recover s F deleted lent = recording (recover_refusal s F deleted lent) (recover_outcome s F deleted lent)
-    (record { run = s; answer = recover-answer.Refused BufferTooShort; rose = 0; deleted = deleted; line = lent })
+    (record { run = s; answer = Err BufferTooShort; rose = 0; deleted = deleted; line = lent })
     (record_bytes (Recover F))
 
 -- "a line request, Note 8's too, writes none"
@@ -116,18 +110,18 @@ tape_after t (c ∷ l) = tape_after (recorded t c).tape l
 
 -- The event whose record a call appends; a line request appends none.
 unfoldable pub event_of_call : Call → Option Event
-event_of_call (checkpoint i deleted) = some (Checkpoint i)
-event_of_call (send i j) = some (Send i j)
-event_of_call (deliver m deleted) = some (Deliver m)
-event_of_call (lose m) = some (Lose m)
-event_of_call (recover F deleted lent) = some (Recover F)
-event_of_call (line F lent) = none
-event_of_call (earliest l lent) = none
+event_of_call (checkpoint i deleted) = Some (Checkpoint i)
+event_of_call (send i j) = Some (Send i j)
+event_of_call (deliver m deleted) = Some (Deliver m)
+event_of_call (lose m) = Some (Lose m)
+event_of_call (recover F deleted lent) = Some (Recover F)
+event_of_call (line F lent) = None
+event_of_call (earliest l lent) = None
 
 -- The accepted calls of a list with their replies, in their order. By the replies alone, not by the buffer.
 unfoldable pub entry_of : Option Event → Reply → List EventReply
-entry_of none r = []
-entry_of (some e) r = record { event = e; reply = r } ∷ []
+entry_of None r = []
+entry_of (Some e) r = record { event = e; reply = r } ∷ []
 
 unfoldable pub entered : Tape → Call → List EventReply
 entered t c = pick (eqb (recorded t c).reply.report.refused 0) (entry_of (event_of_call c) (recorded t c).reply) []
@@ -138,7 +132,7 @@ entries t (c ∷ l) = entered t c ++ entries (recorded t c).tape l
 
 -- "A refused call writes no byte, and a line request, Note 8's too, writes none": the state, the buffer and the place are as they were. Of any state, buffer and place.
 unfoldable pub WritesAcceptedAlone : Type 0
-WritesAcceptedAlone = (t : Tape) (c : Call) → (eqb (recorded t c).reply.report.refused 0 ≡ false) ⊎ (event_of_call c ≡ none) → (recorded t c).tape ≡ t
+WritesAcceptedAlone = (t : Tape) (c : Call) → (eqb (recorded t c).reply.report.refused 0 ≡ false) ⊎ (event_of_call c ≡ None) → (recorded t c).tape ≡ t
 
 -- What a reply hands out: its report, the entries that rose, the pairs of its deletions, and the n indexes of its line. The rest of the lent lists is
 -- as it was lent.
@@ -173,5 +167,5 @@ pub record ReplaysTheSame (n : ℕ) (block_counts buffer : List ℕ) (t : Tape) 
 
 -- Note 9: for every accepted start through the writer, with any block counts and any buffer, and every list of calls after it.
 unfoldable pub RecordingReplays : Type 0
-RecordingReplays = (n : ℕ) (block_counts buffer : List ℕ) → (recorded_start n block_counts buffer).outcome.answer ≡ start_answer.Started → (calls : List Call)
+RecordingReplays = (n : ℕ) (block_counts buffer : List ℕ) → (recorded_start n block_counts buffer).outcome.answer ≡ Ok tt → (calls : List Call)
     → ReplaysTheSame n block_counts buffer (tape_after (begun n block_counts buffer) calls) (entries (begun n block_counts buffer) calls)

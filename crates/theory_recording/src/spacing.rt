@@ -13,20 +13,25 @@ pub const MOST_SPACING: usize = 1000;
 
 pub const MOST_STEPS: usize = 30000;
 
-#[derive(Clone, Copy)]
-pub enum TrialAnswer {
-    Refused(Refusal),
-    Tried,
-}
-
 // The five figures: deliveries, forced checkpoints, the most kept at any process after any step, and 1,000 times the forced checkpoints divided by the
 // deliveries, as quotient and remainder.
 #[derive(Clone, Copy)]
-pub struct TrialResult {
-    pub answer: TrialAnswer,
+pub struct TrialFigures {
     pub deliveries: u32,
     pub forced: u32,
     pub most: usize,
     pub quotient: u32,
     pub remainder: u32,
 }
+
+// The figures of a simulation that is refused: "all figures are then 0" (no_figures in specs/Spacing).
+pub const NO_FIGURES: TrialFigures = TrialFigures {
+    deliveries: 0,
+    forced: 0,
+    most: 0,
+    quotient: 0,
+    remainder: 0,
+};
+
+// What a simulation comes to: its figures, or why it is refused.
+pub type TrialResult = Result<TrialFigures, Refusal>;

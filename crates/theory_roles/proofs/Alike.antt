@@ -2,8 +2,8 @@
 -- part that is put in leaves alike.
 -- Assumes nothing.
 use Rattle.std.specs.Prelude.{◌≡◌, ◌&&◌, ◌∷◌, ◌++◌, ◌≤◌, ◌<◌}
-use Rattle.laws.specs.Basics.{refl, sym, ◌∙◌, ap, subst, true, false, List, [], some, ℕ, suc, arith, eqb, ltb, eq-eqb, ne_eqb, ltb-true, by_eq}
-use mathlib.Core.Option.{map}
+use Rattle.laws.specs.Basics.{refl, sym, ◌∙◌, ap, subst, true, false, List, [], Some, ℕ, suc, arith, eqb, ltb, eq-eqb, ne_eqb, ltb-true, by_eq}
+use Rattle.std.specs.Option.{option_map}
 use Rattle.laws.specs.{Lists.select, Lists.last_of, Search.latest, Search.latest_is, Search.latest_out}
 use Rattle.laws.specs.Truth.{and_left, and_both, and_no_right, never_both}
 use Rattle.model.specs.declared.Run.{Run}
@@ -47,7 +47,7 @@ pub record Fit (s : Run) : Type 0 where
   pub members : (F : ℕ) → no_member_of s F ≡ false
   pub room : (p : ℕ) → p < s.count → Room s p
   -- a member of a line is one of its process's states, and its index says which
-  pub stands : (F p : ℕ) → p < s.count → last_of (select (λ c. eqb c.index.0 (member s F p).index.0) (states p (process s p))) ≡ some (member s F p)
+  pub stands : (F p : ℕ) → p < s.count → last_of (select (λ c. eqb c.index.0 (member s F p).index.0) (states p (process s p))) ≡ Some (member s F p)
 
 state_room : (r : Ideal) (p : ℕ) → p < most_processes → Room (state_of r) p
 unfolding state_of parts_of with_disk with_messages
@@ -55,7 +55,7 @@ state_room r p lt = let w = room_all r.n (process_of r) (blank r.n) p (room_blan
     record { vectors = w.vectors; pins = w.pins; sent = w.sent; kept = w.kept; kept_count = w.kept_count }
 
 state_stands : (r : Ideal) → Inv r → r.n ≤ most_processes → (F p : ℕ) → p < r.n
-    → last_of (select (λ c. eqb c.index.0 (member (state_of r) F p).index.0) (states p (process (state_of r) p))) ≡ some (member (state_of r) F p)
+    → last_of (select (λ c. eqb c.index.0 (member (state_of r) F p).index.0) (states p (process (state_of r) p))) ≡ Some (member (state_of r) F p)
 unfolding checkpoint_of
 state_stands r v few F p lt =
     let k = line r (failed F) p in
@@ -63,11 +63,11 @@ state_stands r v few F p lt =
     rw (member_is r v few F p lt, states_is r v few F p lt)
     (ap last_of (select_passing (λ c. eqb c.index.0 k) (suc (r.own p)) (standing r p) (checkpoint_of r p))
     ∙ last_passing (suc (r.own p)) (λ j. standing r p j && eqb j k) (checkpoint_of r p)
-    ∙ ap (map (checkpoint_of r p)) (latest_is (suc (r.own p)) (λ j. standing r p j && eqb j k) k w.0
+    ∙ ap (option_map (checkpoint_of r p)) (latest_is (suc (r.own p)) (λ j. standing r p j && eqb j k) k w.0
     (and_both (standing r p k) (eqb k k) (and_left (standing r p k) (safe r (failed F) p k) w.1) (eq-eqb k k refl))
     (λ j above under. and_no_right (standing r p j) (eqb j k) (ne_eqb j k (omega arith)))))
   where
-    line_member : (r : Ideal) → Inv r → (F p : ℕ) → latest (suc (r.own p)) (λ j. standing r p j && safe r (failed F) p j) ≡ some (line r (failed F) p)
+    line_member : (r : Ideal) → Inv r → (F p : ℕ) → latest (suc (r.own p)) (λ j. standing r p j && safe r (failed F) p j) ≡ Some (line r (failed F) p)
     line_member r v F p = unfold ideal-member in line_found r v (failed F) p
 
 state_fit : (r : Ideal) → Inv r → Limits r → Fit (state_of r)

@@ -1,9 +1,10 @@
 -- 16 is real: two runs that differ in what another process stored, of which one leaves the tenant's checkpoint no room within the bound of blocks.
 -- Assumes nothing.
-use Rattle.std.specs.Prelude.{◌≡◌, ◌∷◌, ◌++◌, ◌+◌, ◌≤◌, ◌<◌}
-use Rattle.laws.specs.Basics.{refl, sym, ◌∙◌, ap, subst, false, not, List, [], map, Option, none, some, ℕ, zero, suc, arith, eqb, ltb, replicate, lt-ltb, lt-leb, by_bool}
+use Rattle.std.specs.Prelude.{◌≡◌, ◌∷◌, ◌++◌, ◌+◌, ◌≤◌, ◌<◌, Ok}
+use Rattle.laws.specs.Basics.{refl, sym, ◌∙◌, ap, subst, false, not, List, [], map, Option, None, Some, ℕ, zero, suc, arith, eqb, ltb, replicate, lt-ltb, lt-leb, by_bool}
 use Rattle.laws.specs.{Lists.last_of, Search.any_below, Select.map_append, Select.last_of_snoc, Sums.sum_below, Truth.and_no_right}
-use Rattle.model.specs.declared.{Refusal.Refusal, Refusal.TheVariants.BlocksUsed, Run.Run, StartAnswer.TheVariants.Started}
+use Prim.{tt}
+use Rattle.model.specs.declared.{Refusal.Refusal, Refusal.TheVariants.BlocksUsed, Run.Run}
 use Rattle.model.specs.{Words.most_interval, Words.most_blocks, Words.block_count, Words.process, Words.own, Words.in_set, Sound.is_block_count_of}
 use Rattle.model.specs.{Refusals.number, Refusals.first_of, Refusals.start_refusal, Refusals.checkpoint_refusal, laws.Refusals.refusal_in}
 use Rattle.histories.proofs.{Run.Ideal, Run.begin, Run.open_ledger, Run.begun, Begin.begin_own, Begin.begin_mark, Begin.begin_transit, Invariant.Inv}
@@ -60,19 +61,19 @@ module _ (s : Run) (l : List ConsoleCall) (j : ℕ) where
       ∙ map_append (hidden blocks) (exposed 1 s l) (exposed 1 before (asks ∷ []))
       ∙ ap (λ (z : List Exposed). map (hidden blocks) (exposed 1 s l) ++ z) (last_exposed before)
 
-  seen_after : last_of (seen 1 s (l ++ (replicate j stores_one ++ (asks ∷ [])))) ≡ some (console_call before asks).reply
+  seen_after : last_of (seen 1 s (l ++ (replicate j stores_one ++ (asks ∷ [])))) ≡ Some (console_call before asks).reply
   seen_after =
       ap last_of (seen_append 1 s l (replicate j stores_one ++ (asks ∷ [])) ∙ ap (λ (z : List Reply). seen 1 s l ++ z)
       (seen_append 1 (state_after_console s l) (replicate j stores_one) (asks ∷ []) ∙ ap (λ (z : List Reply). z ++ seen 1 before (asks ∷ [])) (seen_none j (state_after_console s l)) ∙ last_seen before (checkpoint 0 (deletion_list 3))))
       ∙ last_of_snoc (seen 1 s l) (console_call before asks).reply
 
 meets_bound : (r : Ideal) → Inv r → Limits r → r.n ≡ 3 → r.own 0 < most_interval → most_blocks < r.ledger.written + r.ledger.block_counts 0
-    → checkpoint_refusal (state_of r) 0 (deletion_list 3) ≡ some BlocksUsed
+    → checkpoint_refusal (state_of r) 0 (deletion_list 3) ≡ Some BlocksUsed
 unfolding checkpoint_refusal
 meets_bound r v fit size early past =
     let here : 0 < r.n = omega (arith, size) in
     let late = lt-leb most_interval (own (state_of r) 0).0 (rw (own_is r 0 fit.few_processes here (v.self 0 (r.own 0) (omega arith))) early) in
-    refusal_in _ (some BlocksUsed) (4, (rw (state_sound r v fit), (rw (count_is_lem r, size), (rw (count_is_lem r, size), (late, tt)))), lt-ltb most_blocks ((state_of r).disk.written + block_count (process (state_of r) 0)) (omega (arith, past, written_is r v fit, count_is_of r v fit 0 here)), refl)
+    refusal_in _ (Some BlocksUsed) (4, (rw (state_sound r v fit), (rw (count_is_lem r, size), (rw (count_is_lem r, size), (late, tt)))), lt-ltb most_blocks ((state_of r).disk.written + block_count (process (state_of r) 0)) (omega (arith, past, written_is r v fit, count_is_of r v fit 0 here)), refl)
 
 -- The number that the tenant's checkpoint meets, where it has room within the bound and where it has none.
 module _ (s : Run) (k c w : ℕ) where
@@ -82,13 +83,13 @@ module _ (s : Run) (k c w : ℕ) where
 
   reply_number : (o : Option Refusal) → s.count ≡ 3 → checkpoint_refusal s 0 (deletion_list 3) ≡ o → (console_call s asks).reply.report.refused ≡ number_of o
   unfolding console_call console_answered answered console_checkpoint checkpoint_outcome checkpoint_report number_of
-  reply_number none size e = rw (allowed size, e)
-  reply_number (some x) size e = rw (allowed size, e)
+  reply_number None size e = rw (allowed size, e)
+  reply_number (Some x) size e = rw (allowed size, e)
 
-  enough_room : Come Any s k c w → w + 65_535 ≤ most_blocks → (s.count ≡ 3) × (checkpoint_refusal s 0 (deletion_list 3) ≡ none)
+  enough_room : Come Any s k c w → w + 65_535 ≤ most_blocks → (s.count ≡ 3) × (checkpoint_refusal s 0 (deletion_list 3) ≡ None)
   enough_room x room = by_at x.stands
     where
-      by_at : At s x.run → (s.count ≡ 3) × (checkpoint_refusal s 0 (deletion_list 3) ≡ none)
+      by_at : At s x.run → (s.count ≡ 3) × (checkpoint_refusal s 0 (deletion_list 3) ≡ None)
       by_at (at h v) = (
         ap (λ (t : Run). t.count) v.state ∙ count_is_lem x.run ∙ v.size,
         ap (λ (t : Run). checkpoint_refusal t 0 (deletion_list 3)) v.state
@@ -96,10 +97,10 @@ module _ (s : Run) (k c w : ℕ) where
             (omega (arith, room, x.stage.written, x.stage.tenants)),
       )
 
-  short_of : Come Any s k c w → most_blocks < w + 65_535 → (s.count ≡ 3) × (checkpoint_refusal s 0 (deletion_list 3) ≡ some BlocksUsed)
+  short_of : Come Any s k c w → most_blocks < w + 65_535 → (s.count ≡ 3) × (checkpoint_refusal s 0 (deletion_list 3) ≡ Some BlocksUsed)
   short_of x past = by_at x.stands
     where
-      by_at : At s x.run → (s.count ≡ 3) × (checkpoint_refusal s 0 (deletion_list 3) ≡ some BlocksUsed)
+      by_at : At s x.run → (s.count ≡ 3) × (checkpoint_refusal s 0 (deletion_list 3) ≡ Some BlocksUsed)
       by_at (at h v) = (
         ap (λ (t : Run). t.count) v.state ∙ count_is_lem x.run ∙ v.size,
         ap (λ (t : Run). checkpoint_refusal t 0 (deletion_list 3)) v.state
@@ -110,11 +111,11 @@ module _ (s : Run) (k c w : ℕ) where
 abbrev sizes : List ℕ
 sizes = 65_535 ∷ 65_535 ∷ 1 ∷ []
 
-start_accepted : start_refusal 3 sizes ≡ none
+start_accepted : start_refusal 3 sizes ≡ None
 unfolding start_refusal first_of any_below is_block_count_of
 start_accepted = refl
 
-started_so : (console_start operator 3 sizes).answer ≡ Started
+started_so : (console_start operator 3 sizes).answer ≡ Ok tt
 unfolding console_start denied may start_outcome
 started_so = rw start_accepted
 
@@ -153,7 +154,7 @@ farther = many_more Any (λ s r a k c w g q. q) 21_894 after_rounds 0 1_000_000 
 -- The tenant's answers.
 refused_number : (console_call (state_after_console after_rounds (replicate 21_894 stores_one)) asks).reply.report.refused ≡ 16
 unfolding number_of number
-refused_number = let w = short_of _ _ _ _ farther (omega arith) in reply_number (state_after_console after_rounds (replicate 21_894 stores_one)) 0 0 0 (some BlocksUsed) w.0 w.1
+refused_number = let w = short_of _ _ _ _ farther (omega arith) in reply_number (state_after_console after_rounds (replicate 21_894 stores_one)) 0 0 0 (Some BlocksUsed) w.0 w.1
 
 no_more : (u : Run) → u ≡ state_after_console u (replicate 0 stores_one)
 unfolding state_after_console
@@ -161,7 +162,7 @@ no_more u = refl
 
 accepted_number : (console_call after_rounds asks).reply.report.refused ≡ 0
 unfolding number_of
-accepted_number = let w = enough_room _ _ _ _ far (omega arith) in reply_number after_rounds 0 0 0 none w.0 w.1
+accepted_number = let w = enough_room _ _ _ _ far (omega arith) in reply_number after_rounds 0 0 0 None w.0 w.1
 
 module _ (s : Run) (is : s ≡ (start_outcome 3 sizes).run) where
   differs : seen 1 s (rounds 15_259 1_000_000 ++ (replicate 21_894 stores_one ++ (asks ∷ []))) ≡ seen 1 s (rounds 15_259 1_000_000 ++ (asks ∷ [])) → ⊥

@@ -1,7 +1,7 @@
 -- Runs that are too long to compute: rounds in which checkpoints are stored, rolled back and stored again, by the run as functions. How many blocks they write.
 -- Assumes nothing.
 use Rattle.std.specs.Prelude.{◌≡◌, ◌∷◌, ◌+◌, ◌*◌, ◌≤◌, ◌<◌}
-use Rattle.laws.specs.Basics.{refl, sym, ◌∙◌, ap, subst, Bool, true, false, List, [], none, ℕ, zero, suc, arith, length, replicate, pick, by_bool, by_eq}
+use Rattle.laws.specs.Basics.{refl, sym, ◌∙◌, ap, subst, Bool, true, false, List, [], None, ℕ, zero, suc, arith, length, replicate, pick, by_bool, by_eq}
 use Rattle.laws.specs.{Truth.never_both, Update.upd_same, Update.upd_other}
 use Rattle.model.specs.declared.Run.{Run}
 use Rattle.model.specs.{Words.basic, Words.forced, Words.most_messages, Words.most_interval, Words.most_blocks, Words.failed, Refusals.recover_refusal}
@@ -27,7 +27,7 @@ pub data At (s : Run) (r : Ideal) : Type 0 where
   at : (h : Surviving) → Reached 3 s h r → At s r
 
 -- An operator's accepted call is its step.
-pub call_at : (s : Run) (r : Ideal) → At s r → (k : Call) → refusal (state_of r) k ≡ none → At (call s k).run (stepped r k)
+pub call_at : (s : Run) (r : Ideal) → At s r → (k : Call) → refusal (state_of r) k ≡ None → At (call s k).run (stepped r k)
 call_at s r (at h v) k e = at (after 3 h (exchange s k)) (accepted_reached 3 s h r v k e)
 
 pub inv_at : (s : Run) (r : Ideal) → At s r → Inv r
@@ -169,10 +169,10 @@ module _ (s : Run) (r : Ideal) (a : At s r) (c w : ℕ) (g : Stage r 0 c w) (num
       omega (arith, row'', carries_own, delivered_own_plain sent_run (suc c) not_forced_either 2, own_same 2)
 
 -- Process 2 fails: process 1 goes back to its checkpoint 0.
-recover_accepted : (s : Run) (r : Ideal) → At s r → refusal (state_of r) (recover 4 (deletion_list 3) (line_list 3)) ≡ none
+recover_accepted : (s : Run) (r : Ideal) → At s r → refusal (state_of r) (recover 4 (deletion_list 3) (line_list 3)) ≡ None
 unfolding refusal
 recover_accepted s r (at h v) =
-    subst (λ (t : Run). recover_refusal t 4 (deletion_list 3) (line_list 3) ≡ none) v.state
+    subst (λ (t : Run). recover_refusal t 4 (deletion_list 3) (line_list 3) ≡ None) v.state
     ((reached_line 3 s h r v 4 (omega arith)).recover_accepted (deletion_list 3) (line_list 3) (omega arith) (omega arith))
 
 module _ (s : Run) (r : Ideal) (a : At s r) (k c w : ℕ) (g : Stage r k c w) (knows : Knows r) where

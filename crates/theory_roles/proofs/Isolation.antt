@@ -1,7 +1,7 @@
 -- What an owner's list, checkpoints, deliveries, losses, sends and lines depend on.
 -- Assumes nothing.
-use Rattle.std.specs.Prelude.{◌≡◌, ◌&&◌, ◌||◌, ◌∷◌, ◌*◌}
-use Rattle.laws.specs.Basics.{refl, sym, ◌∙◌, ap, Bool, true, false, not, List, [], Option, none, some, ℕ, eqb, ltb, leb, length, not-false, pick, by_bool}
+use Rattle.std.specs.Prelude.{◌≡◌, ◌&&◌, ◌||◌, ◌∷◌, ◌*◌, Err, Ok}
+use Rattle.laws.specs.Basics.{refl, sym, ◌∙◌, ap, Bool, true, false, not, List, [], Option, None, Some, ℕ, eqb, ltb, leb, length, not-false, pick, by_bool}
 use Rattle.laws.specs.{Lists.gather, Tables.gather_same, Truth.never_both}
 use Rattle.model.specs.declared.{Run.Run, Interval.Interval, Message.Message, Refusal.Refusal}
 use Rattle.model.specs.declared.Refusal.TheVariants.{UnsoundState, ListTooShort, NoSuchProcess, SenderIsReceiver, NotUnderWay, TooManyUnderWay, MessageNumbersUsed, IntervalsUsed, BlocksUsed}
@@ -13,17 +13,13 @@ use Rattle.whole_runs.specs.Outcomes.{Outcome, pairs, written, judged, checkpoin
 use Rattle.whole_runs.specs.WholeRuns.{Reachable}
 use Rattle.whole_runs.proofs.{WholeRuns.reachable_sound, WholeRuns.reachable_reached, whole.Refused.members_found, whole.Runs.run_after}
 use Rattle.histories.proofs.Run.{begun}
-use Rattle.theory_roles.specs.declared.{Role.TheVariants.JobOwner, Operation.Operation, ListAnswer.ListAnswer}
+use Rattle.theory_roles.specs.Console.{ListAnswer}
+use Rattle.theory_roles.specs.declared.{Role.TheVariants.JobOwner, Operation.Operation}
 use Rattle.theory_roles.specs.declared.Operation.TheVariants.{Checkpoint as Checkpointing, Send, Deliver, Lose}
 use Rattle.theory_roles.specs.Console.{may, owns, entitled_by, entitled, entitled_message_by, entitled_message, denied, denied_process, denied_message, listed_to, list_refusal, console_list, console_checkpoint, console_send, console_deliver, console_lose, console_line}
 use Rattle.theory_roles.specs.Runs.{ConsoleReached, ConsoleIsReachable}
 use Rattle.theory_roles.specs.Isolation.{owner, SameToOwner, ListIsOwn, CheckpointIsOwn, DeliveryIsOwn, LossIsOwn, SendIsOwn, line_answer_by, LineAnswerIsOwn}
 use Rattle.theory_roles.proofs.Runs.{console_reachable}
-use Rattle.model.specs.declared.CheckpointAnswer.TheVariants as checkpoint-answer
-use Rattle.model.specs.declared.DeliverAnswer.TheVariants as deliver-answer
-use Rattle.model.specs.declared.SendAnswer.TheVariants as send-answer
-use Rattle.model.specs.declared.LineAnswer.TheVariants as line_answer
-use Rattle.theory_roles.specs.declared.ListAnswer.TheVariants as list-answer
 
 console_sound : (s : Run) → ConsoleReached s → sound s ≡ true
 unfolding ConsoleIsReachable
@@ -58,13 +54,13 @@ module _ (owned : ℕ) (s t : Run) (same : SameToOwner owned s t) where
 
 abbrev listing : Option Refusal → Run → List ℕ → List Deletion → Outcome ListAnswer
 listing o s lent l = judged o
-    (λ r. record { run = s; answer = list-answer.Refused r; rose = 0; deleted = lent; line = [] })
-    (record { run = s; answer = list-answer.Listed (length l); rose = 0; deleted = written lent (pairs l); line = [] })
+    (λ r. record { run = s; answer = Err r; rose = 0; deleted = lent; line = [] })
+    (record { run = s; answer = Ok (length l); rose = 0; deleted = written lent (pairs l); line = [] })
 
 same_listing : (o : Option Refusal) (s t : Run) (lent : List ℕ) (l : List Deletion)
     → ((listing o s lent l).answer ≡ (listing o t lent l).answer) × ((listing o s lent l).deleted ≡ (listing o t lent l).deleted)
-same_listing none s t lent l = (refl, refl)
-same_listing (some r) s t lent l = (refl, refl)
+same_listing None s t lent l = (refl, refl)
+same_listing (Some r) s t lent l = (refl, refl)
 
 pub list_is_own : ListIsOwn
 unfolding ListIsOwn console_list denied may
@@ -84,7 +80,7 @@ module _ (third fourth : Refusal) where
       ∷ [])
 
   -- Where 16 is not met, the others decide.
-  five_same : (a b c d e f : Bool) → (five a b c d e ≡ some BlocksUsed → ⊥) → (five a b c d f ≡ some BlocksUsed → ⊥) → five a b c d e ≡ five a b c d f
+  five_same : (a b c d e f : Bool) → (five a b c d e ≡ Some BlocksUsed → ⊥) → (five a b c d f ≡ Some BlocksUsed → ⊥) → five a b c d e ≡ five a b c d f
   unfolding first_of
   five_same true b c d e f x y = refl
   five_same false true c d e f x y = refl
@@ -123,7 +119,7 @@ module _ (owned : ℕ) (s t : Run) (hs : sound s ≡ true) (ht : sound t ≡ tru
       (both_sound s t hs ht) (both_short s t lent same.count) (ap (λ (n : ℕ). leb n i) same.count)
       (ap (λ (v : List Interval). leb most_interval (entry v i).0) (same.vectors i mine))
 
-  checkpoint_refusal_lem : (checkpoint_refusal s i lent ≡ some BlocksUsed → ⊥) → (checkpoint_refusal t i lent ≡ some BlocksUsed → ⊥) → checkpoint_refusal s i lent ≡ checkpoint_refusal t i lent
+  checkpoint_refusal_lem : (checkpoint_refusal s i lent ≡ Some BlocksUsed → ⊥) → (checkpoint_refusal t i lent ≡ Some BlocksUsed → ⊥) → checkpoint_refusal s i lent ≡ checkpoint_refusal t i lent
   unfolding checkpoint_refusal
   checkpoint_refusal_lem x y =
       five_same NoSuchProcess IntervalsUsed (not (sound s)) (short_deletions s lent) (absent s i) (at_last_interval s i) (past_blocks s i) (past_blocks t i)
@@ -148,7 +144,7 @@ module _ (owned : ℕ) (s t : Run) (hs : sound s ≡ true) (ht : sound t ≡ tru
       (λ o. rw (e, o, stored_index, checkpoint_deletions_lem) (refl, refl))
       (λ x o. rw (e, o) (refl, refl))
 
-checkpoint_meets : (s : Run) (i : ℕ) (lent : List ℕ) (x : Refusal) → checkpoint_refusal s i lent ≡ some x → (checkpoint_outcome s i lent).answer ≡ checkpoint-answer.Refused x
+checkpoint_meets : (s : Run) (i : ℕ) (lent : List ℕ) (x : Refusal) → checkpoint_refusal s i lent ≡ Some x → (checkpoint_outcome s i lent).answer ≡ Err x
 unfolding checkpoint_outcome
 checkpoint_meets s i lent x e = rw e
 
@@ -165,7 +161,7 @@ checkpoint_is_own owned s t hs ht same i lent =
 
 -- A delivery goes by the message and all that its receiver holds.
 module _ (s t : Run) (hs : sound s ≡ true) (ht : sound t ≡ true) (size : s.count ≡ t.count) (m : ℕ) (lent : List ℕ) (x : Message)
-    (here : found s m ≡ some x) (there : found t m ≡ some x) (alike : process s x.receiver ≡ process t x.receiver) where
+    (here : found s m ≡ Some x) (there : found t m ≡ Some x) (alike : process s x.receiver ≡ process t x.receiver) where
   abbrev forcing : Run → Bool
   forcing u = forces (process u x.receiver) x.vector
 
@@ -179,11 +175,11 @@ module _ (s t : Run) (hs : sound s ≡ true) (ht : sound t ≡ true) (size : s.c
       (both_sound s t hs ht) (both_short s t lent size) refl
       (ap (λ (P : Process). forces P x.vector && leb most_interval (entry P.vector x.receiver).0) alike)
 
-  judged_as : (u : Run) → found u m ≡ some x → deliver_refusal u m lent ≡ judgements u (forcing u && past_blocks u x.receiver)
+  judged_as : (u : Run) → found u m ≡ Some x → deliver_refusal u m lent ≡ judgements u (forcing u && past_blocks u x.receiver)
   unfolding deliver_refusal forces_past forces_over
   judged_as u e = rw e
 
-  deliver_refusal_lem : (deliver_refusal s m lent ≡ some BlocksUsed → ⊥) → (deliver_refusal t m lent ≡ some BlocksUsed → ⊥) → deliver_refusal s m lent ≡ deliver_refusal t m lent
+  deliver_refusal_lem : (deliver_refusal s m lent ≡ Some BlocksUsed → ⊥) → (deliver_refusal t m lent ≡ Some BlocksUsed → ⊥) → deliver_refusal s m lent ≡ deliver_refusal t m lent
   deliver_refusal_lem p q =
       let late = forcing t && past_blocks t x.receiver in
       judged_as s here
@@ -195,8 +191,8 @@ module _ (s t : Run) (hs : sound s ≡ true) (ht : sound t ≡ true) (size : s.c
   delivered_answer : deliver_answer s x ≡ deliver_answer t x
   unfolding deliver_answer deliver_deletions
   delivered_answer = ap (λ (P : Process). pick (forces P x.vector)
-      (deliver-answer.Forced (live x.receiver P).index (length (deletions x.receiver (delivered x.receiver x.vector P))))
-      (deliver-answer.Received (length (deletions x.receiver (delivered x.receiver x.vector P))))) alike
+      (Ok (record { forced = Some (live x.receiver P).index; deleted = length (deletions x.receiver (delivered x.receiver x.vector P)) }))
+      (Ok (record { forced = None; deleted = length (deletions x.receiver (delivered x.receiver x.vector P)) }))) alike
 
   delivered_rose : deliver_risen s x ≡ deliver_risen t x
   unfolding deliver_risen
@@ -214,18 +210,18 @@ module _ (s t : Run) (hs : sound s ≡ true) (ht : sound t ≡ true) (size : s.c
       (λ o. rw (e, o, here, there, delivered_answer, delivered_rose, delivered_deletions) (refl, refl, refl))
       (λ r o. rw (e, o) (refl, refl, refl))
 
-deliver_meets : (s : Run) (m : ℕ) (lent : List ℕ) (x : Refusal) → deliver_refusal s m lent ≡ some x → (deliver_outcome s m lent).answer ≡ deliver-answer.Refused x
+deliver_meets : (s : Run) (m : ℕ) (lent : List ℕ) (x : Refusal) → deliver_refusal s m lent ≡ Some x → (deliver_outcome s m lent).answer ≡ Err x
 unfolding deliver_outcome
 deliver_meets s m lent x e = rw e
 
 -- A message that is not denied an owner is under way to one of its own processes.
-owned_message : (owned : ℕ) (s : Run) (m : ℕ) → denied_message (owner owned) s Deliver m ≡ false → (x : Message) × (found s m ≡ some x) × (owns owned s.count x.receiver ≡ true)
+owned_message : (owned : ℕ) (s : Run) (m : ℕ) → denied_message (owner owned) s Deliver m ≡ false → (x : Message) × (found s m ≡ Some x) × (owns owned s.count x.receiver ≡ true)
 unfolding denied_message entitled_message may
 owned_message owned s m e = by_message (found s m) refl (not-false (entitled_message_by JobOwner owned s.count (found s m)) e)
   where
-    by_message : (o : Option Message) → found s m ≡ o → entitled_message_by JobOwner owned s.count o ≡ true → (x : Message) × (found s m ≡ some x) × (owns owned s.count x.receiver ≡ true)
-    by_message none d e = unfold entitled_message_by in never_both false e refl
-    by_message (some x) d e = unfold entitled_message_by in (x, d, e)
+    by_message : (o : Option Message) → found s m ≡ o → entitled_message_by JobOwner owned s.count o ≡ true → (x : Message) × (found s m ≡ Some x) × (owns owned s.count x.receiver ≡ true)
+    by_message None d e = unfold entitled_message_by in never_both false e refl
+    by_message (Some x) d e = unfold entitled_message_by in (x, d, e)
 
 pub delivery_is_own : DeliveryIsOwn
 unfolding DeliveryIsOwn console_deliver
@@ -262,8 +258,8 @@ send_tests a b c d e = first_of (
     ∷ record { holds = e; gives = MessageNumbersUsed }
     ∷ [])
 
-send_tests_same : (a b c d e f g : Bool) → (send_tests a b c d e ≡ some TooManyUnderWay → ⊥) → (send_tests a b c f g ≡ some TooManyUnderWay → ⊥)
-    → (send_tests a b c d e ≡ some MessageNumbersUsed → ⊥) → (send_tests a b c f g ≡ some MessageNumbersUsed → ⊥) → send_tests a b c d e ≡ send_tests a b c f g
+send_tests_same : (a b c d e f g : Bool) → (send_tests a b c d e ≡ Some TooManyUnderWay → ⊥) → (send_tests a b c f g ≡ Some TooManyUnderWay → ⊥)
+    → (send_tests a b c d e ≡ Some MessageNumbersUsed → ⊥) → (send_tests a b c f g ≡ Some MessageNumbersUsed → ⊥) → send_tests a b c d e ≡ send_tests a b c f g
 unfolding first_of
 send_tests_same true b c d e f g p q x y = refl
 send_tests_same false true c d e f g p q x y = refl
@@ -274,7 +270,7 @@ send_tests_same false false false false true false g p q x y = absurd (x refl)
 send_tests_same false false false false false false true p q x y = absurd (y refl)
 send_tests_same false false false false false false false p q x y = refl
 
-send_meets : (s : Run) (i j : ℕ) (x : Refusal) → send_refusal s i j ≡ some x → (send_outcome s i j).answer ≡ send-answer.Refused x
+send_meets : (s : Run) (i j : ℕ) (x : Refusal) → send_refusal s i j ≡ Some x → (send_outcome s i j).answer ≡ Err x
 unfolding send_outcome
 send_meets s i j x e = rw e
 
@@ -287,8 +283,8 @@ module _ (s t : Run) (hs : sound s ≡ true) (ht : sound t ≡ true) (size : s.c
       ap (λ (b : Bool). send_tests b (absent s i || absent s j) (eqb i j) d e) (both_sound s t hs ht)
       ∙ ap (λ (n : ℕ). send_tests (not (sound t)) (leb n i || leb n j) (eqb i j) d e) size
 
-  send_refusal_lem : (send_refusal s i j ≡ some TooManyUnderWay → ⊥) → (send_refusal t i j ≡ some TooManyUnderWay → ⊥)
-      → (send_refusal s i j ≡ some MessageNumbersUsed → ⊥) → (send_refusal t i j ≡ some MessageNumbersUsed → ⊥) → send_refusal s i j ≡ send_refusal t i j
+  send_refusal_lem : (send_refusal s i j ≡ Some TooManyUnderWay → ⊥) → (send_refusal t i j ≡ Some TooManyUnderWay → ⊥)
+      → (send_refusal s i j ≡ Some MessageNumbersUsed → ⊥) → (send_refusal t i j ≡ Some MessageNumbersUsed → ⊥) → send_refusal s i j ≡ send_refusal t i j
   unfolding send_refusal
   send_refusal_lem p q x y =
       let full = leb most_under_way t.underway in

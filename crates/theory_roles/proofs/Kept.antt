@@ -1,7 +1,7 @@
 -- What a list and the counts hold on a state that console calls reach: what the history keeps.
 -- Assumes nothing.
 use Rattle.std.specs.Prelude.{◌≡◌, ◌*◌, ◌≤◌, ◌<◌}
-use Rattle.laws.specs.Basics.{refl, sym, ◌∙◌, ap, true, false, List, [], none, some, ℕ, arith, ltb, length, lt-ltb, le-ltb, pick, by_bool}
+use Rattle.laws.specs.Basics.{refl, sym, ◌∙◌, ap, true, false, List, [], None, Some, ℕ, arith, ltb, length, lt-ltb, le-ltb, pick, by_bool}
 use Rattle.laws.specs.{Counting.count_same, Front.written_front, Lists.table, Lists.gather, Sums.sum_below, Sums.sum_same, Sums.length_gather}
 use Rattle.laws.specs.Tables.{gather_same, table_same, length_table}
 use Rattle.model.specs.declared.{Run.Run, Refusal.TheVariants.ListTooShort}
@@ -63,11 +63,11 @@ module _ (r : Ideal) (h : Surviving) (v : Inv r) (g : Agrees h r) (few : r.n ≤
   counts_are = ap (λ (n : ℕ). table n (λ p. length (process (state_of r) p).kept)) (count_is_lem r) ∙ table_same r.n _ _ (λ p hp. number_is p hp)
 
 -- On a sound state no number but 3 is met.
-list_refusal_lem : (s : Run) (lent : List ℕ) → sound s ≡ true → list_refusal s lent ≡ pick (ltb (length lent) (2 * s.count * s.count)) (some ListTooShort) none
+list_refusal_lem : (s : Run) (lent : List ℕ) → sound s ≡ true → list_refusal s lent ≡ pick (ltb (length lent) (2 * s.count * s.count)) (Some ListTooShort) None
 unfolding list_refusal first_of
 list_refusal_lem s lent e = rw e
 
-counts_refusal_lem : (s : Run) (lent : List ℕ) → sound s ≡ true → counts_refusal s lent ≡ pick (ltb (length lent) s.count) (some ListTooShort) none
+counts_refusal_lem : (s : Run) (lent : List ℕ) → sound s ≡ true → counts_refusal s lent ≡ pick (ltb (length lent) s.count) (Some ListTooShort) None
 unfolding counts_refusal first_of
 counts_refusal_lem s lent e = rw e
 
@@ -87,16 +87,16 @@ module _ (n : ℕ) (s : Run) (h : Surviving) (r : Ideal) (v : Reached n s h r) (
   counts_of : kept_counts s ≡ table n (kept_number h)
   counts_of = rw (v.state, ← v.size) (counts_are r h v.inv v.agrees v.limits.few_processes)
 
-  list_none : 2 * n * n ≤ length lent → list_refusal s lent ≡ none
+  list_none : 2 * n * n ≤ length lent → list_refusal s lent ≡ None
   list_none room = list_refusal_lem s lent (reached_sound n s h r v) ∙ rw (size_is, le-ltb (length lent) (2 * n * n) room)
 
-  list_short : length lent < 2 * n * n → list_refusal s lent ≡ some ListTooShort
+  list_short : length lent < 2 * n * n → list_refusal s lent ≡ Some ListTooShort
   list_short short = list_refusal_lem s lent (reached_sound n s h r v) ∙ rw (size_is, lt-ltb (length lent) (2 * n * n) short)
 
-  counts_none : n ≤ length lent → counts_refusal s lent ≡ none
+  counts_none : n ≤ length lent → counts_refusal s lent ≡ None
   counts_none room = counts_refusal_lem s lent (reached_sound n s h r v) ∙ rw (size_is, le-ltb (length lent) n room)
 
-  counts_short : length lent < n → counts_refusal s lent ≡ some ListTooShort
+  counts_short : length lent < n → counts_refusal s lent ≡ Some ListTooShort
   counts_short short = counts_refusal_lem s lent (reached_sound n s h r v) ∙ rw (size_is, lt-ltb (length lent) n short)
 
   reached_list : denied c Listing ≡ false → ListIsRight n s h c lent

@@ -1,11 +1,11 @@
 -- An owner learns nothing but the leaks: by unwinding. A call either exposes nothing, and then leaves the owner's part as it was; or it exposes one thing, and then
 -- two calls that expose the same, on states that are alike, return the same to the owner and leave states that are alike.
 -- Assumes nothing.
-use Rattle.std.specs.Prelude.{◌≡◌, ◌&&◌, ◌||◌, ◌∷◌, ◌⊎◌, ◌≤◌, ◌<◌}
-use Rattle.laws.specs.Basics.{refl, sym, ◌∙◌, ap, subst, Bool, true, false, not, List, [], Option, none, some, inl, inr, ℕ, arith, eqb, ltb, get_or, set, ltb-true, by_bool}
+use Rattle.std.specs.Prelude.{◌≡◌, ◌&&◌, ◌||◌, ◌∷◌, ◌⊎◌, ◌≤◌, ◌<◌, Ok}
+use Rattle.laws.specs.Basics.{refl, sym, ◌∙◌, ap, subst, Bool, true, false, not, List, [], Option, None, Some, inl, inr, ℕ, arith, eqb, ltb, get_or, set, ltb-true, by_bool}
 use Rattle.laws.specs.{Lists.or_else, Loops.either, Search.all_out, Truth.never_both, Truth.and_left, Truth.and_right, Truth.and_both}
-use Rattle.model.specs.declared.{Message.Message, Named.Named, Refusal.TheVariants.Denied, Run.Run, Pin.TheVariants.At}
-use Rattle.model.specs.declared.StartAnswer.TheVariants.{Started}
+use Prim.{tt}
+use Rattle.model.specs.declared.{Message.Message, Named.Named, Refusal.TheVariants.Denied, Run.Run}
 use Rattle.model.specs.Words.{most_processes, zero_vector, no_pins_of, no_message, blank, in_set, process, with_disk}
 use Rattle.model.specs.Steps.{checkpoint_zero, started, start_state, found, forces, checkpoint_state, send_state, deliver_state, lose_state, recover_state}
 use Rattle.model.specs.Refusals.{start_refusal, missing, checkpoint_refusal, send_refusal, deliver_refusal, lose_refusal, recover_refusal}
@@ -25,7 +25,6 @@ use Rattle.theory_roles.specs.Learned.{is_owner_by, is_owner, sees, seen, arriva
 use Rattle.theory_roles.proofs.Alike.{Alike, owned_below, alike_then, alike_back, reached_fit, reached_on}
 use Rattle.theory_roles.proofs.Steps.{checkpoint_alike, send_alike, deliver_alike, checkpoint_other, send_other, deliver_other, lose_other}
 use Rattle.theory_roles.proofs.{Restarts.recover_alike, Own.own_same, Runs.list_unchanged, Runs.counts_unchanged, Runs.not_started}
-use Rattle.model.specs.declared.StartAnswer.TheVariants as start_answer
 
 -- What a call did that exposed something: what the owner sees of it, and the state after it.
 abbrev Did : ℕ → Run → Exposed → List Reply → Run → Type 0
@@ -96,7 +95,7 @@ module _ (c : Caller) (s : Run) where
   -- An accepted delivery has a message.
   passed_deliver : (m : ℕ) (lent : List ℕ) →
       ((eqb (console_answered c s (made (deliver m lent))).reply.report.refused 0 ≡ false) × ((console_answered c s (made (deliver m lent))).run ≡ s))
-      ⊎ ((eqb (console_answered c s (made (deliver m lent))).reply.report.refused 0 ≡ true) × (x : Message) × (found s m ≡ some x) × ((console_answered c s (made (deliver m lent))).run ≡ deliver_state s x))
+      ⊎ ((eqb (console_answered c s (made (deliver m lent))).reply.report.refused 0 ≡ true) × (x : Message) × (found s m ≡ Some x) × ((console_answered c s (made (deliver m lent))).run ≡ deliver_state s x))
   unfolding console_answered answered console_deliver deliver_outcome deliver_report
   passed_deliver m lent = by_bool (denied_message c s Deliver m)
       (λ d. rw d (inl (refused_number Denied, refl)))
@@ -104,12 +103,12 @@ module _ (c : Caller) (s : Run) where
       (λ n. let w = there_is (found s m) refl (missing_not n) in rw n (inr (delivered_number (message s m), w.0, w.1, ap (λ (o : Option Message). deliver_state s (or_else o no_message)) w.1)))
       (λ x n. rw n (inl (refused_number x, refl)))))
     where
-      missing_not : deliver_refusal s m lent ≡ none → missing (found s m) ≡ false
+      missing_not : deliver_refusal s m lent ≡ None → missing (found s m) ≡ false
       missing_not n = unfold deliver_refusal in no_rule _ n 2
 
-      there_is : (o : Option Message) → found s m ≡ o → missing o ≡ false → (x : Message) × (found s m ≡ some x)
-      there_is none e d = never_both true refl d
-      there_is (some x) e d = (x, e)
+      there_is : (o : Option Message) → found s m ≡ o → missing o ≡ false → (x : Message) × (found s m ≡ Some x)
+      there_is None e d = never_both true refl d
+      there_is (Some x) e d = (x, e)
 
   passed_recover : (F : ℕ) (deleted lent : List ℕ) → Passed s (recover_state s F) (console_answered c s (made (recover F deleted lent)))
   unfolding console_answered answered console_recover recover_outcome recover_report
@@ -272,7 +271,7 @@ learned owned (k ∷ l) s t vs vt a m e = by_kind owned s k
     (λ x y z. after_exposing owned s vs k l (λ u vu b n. learned owned l (console_call s k).run u (reached_on s vs k) vu b n) x y z t vt a m e)
 
 -- Two starts with the same block counts for the owner's processes.
-started_as : (c : Caller) (n : ℕ) (sizes : List ℕ) → (console_start c n sizes).answer ≡ Started → (start_refusal n sizes ≡ none) × ((console_start c n sizes).run ≡ start_state n sizes)
+started_as : (c : Caller) (n : ℕ) (sizes : List ℕ) → (console_start c n sizes).answer ≡ Ok tt → (start_refusal n sizes ≡ None) × ((console_start c n sizes).run ≡ start_state n sizes)
 unfolding console_start start_outcome
 started_as c n sizes e = by_bool (denied c Start)
     (λ d. absurd (not_started (rw d at e)))
@@ -296,11 +295,11 @@ start_alike owned n sizes others few same = record {
       let mine : owns owned n p ≡ true = sym (ap (λ (k : ℕ). owns owned k p) (start_count n sizes)) ∙ o in
       let lt = owned_below owned n p mine in
       start_part n sizes p few lt
-      ∙ ap (λ (k : ℕ). record { vector = set zero_vector p (record { 0 = 1 }); pins = set no_pins_of p (At (record { 0 = 0 })); mark = false; kept = checkpoint_zero k ∷ [] }) (same p mine)
+      ∙ ap (λ (k : ℕ). record { vector = set zero_vector p (record { 0 = 1 }); pins = set no_pins_of p (Some (record { 0 = 0 })); mark = false; kept = checkpoint_zero k ∷ [] }) (same p mine)
       ∙ sym (start_part n others p few lt);
 }
 
-start_reached : (c : Caller) (n : ℕ) (sizes : List ℕ) → (console_start c n sizes).answer ≡ Started → ConsoleReached (console_start c n sizes).run
+start_reached : (c : Caller) (n : ℕ) (sizes : List ℕ) → (console_start c n sizes).answer ≡ Ok tt → ConsoleReached (console_start c n sizes).run
 unfolding ConsoleReached state_after_console
 start_reached c n sizes e = (c, n, sizes, e, [], refl)
 

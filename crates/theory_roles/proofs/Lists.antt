@@ -1,7 +1,7 @@
 -- The owner of a set is its owner. Lists of console calls put together: the state after them, what they expose, what the tenant of specs/Real sees. And two lists of answers that differ in the last one.
 -- Assumes nothing.
 use Rattle.std.specs.Prelude.{◌≡◌, ◌∷◌, ◌++◌}
-use Rattle.laws.specs.Basics.{refl, sym, ◌∙◌, ap, true, List, [], append_assoc, some, ℕ, by_bool}
+use Rattle.laws.specs.Basics.{refl, sym, ◌∙◌, ap, true, List, [], append_assoc, Some, ℕ, by_bool}
 use Rattle.laws.specs.{Lists.last_of, Options.some_same, Search.all_in}
 use Rattle.model.specs.declared.Run.{Run}
 use Rattle.model.specs.Words.{in_set}
@@ -38,5 +38,5 @@ pub last_seen : (s : Run) (k : Call) → seen 1 s (tenant k ∷ []) ≡ (console
 unfolding seen sees
 last_seen s k = rw (owner_itself 1 s.count)
 
-pub differing : (a b : ℕ) (x y : Reply) (l m : List Reply) → (a ≡ b → ⊥) → last_of l ≡ some x → last_of m ≡ some y → x.report.refused ≡ a → y.report.refused ≡ b → l ≡ m → ⊥
+pub differing : (a b : ℕ) (x y : Reply) (l m : List Reply) → (a ≡ b → ⊥) → last_of l ≡ Some x → last_of m ≡ Some y → x.report.refused ≡ a → y.report.refused ≡ b → l ≡ m → ⊥
 differing a b x y l m ne p q c d e = ne (sym c ∙ ap (λ (z : Reply). z.report.refused) (some_same (sym p ∙ ap last_of e ∙ q)) ∙ d)

@@ -1,9 +1,10 @@
 -- 10 is real: two runs of which one has used all numbers. They are too long to compute: by the run as functions.
 -- Assumes nothing.
-use Rattle.std.specs.Prelude.{◌≡◌, ◌∷◌, ◌++◌, ◌≤◌, ◌<◌}
-use Rattle.laws.specs.Basics.{refl, sym, ◌∙◌, ap, subst, true, false, not, List, [], map, Option, none, some, ℕ, zero, suc, arith, eqb, ltb, leb, length, le-leb, by_bool, by_eq}
+use Rattle.std.specs.Prelude.{◌≡◌, ◌∷◌, ◌++◌, ◌≤◌, ◌<◌, Ok}
+use Rattle.laws.specs.Basics.{refl, sym, ◌∙◌, ap, subst, true, false, not, List, [], map, Option, None, Some, ℕ, zero, suc, arith, eqb, ltb, leb, length, le-leb, by_bool, by_eq}
 use Rattle.laws.specs.{Lists.last_of, Search.any_below, Select.last_of_snoc, Truth.and_no_right, Update.upd_same, Update.upd_other}
-use Rattle.model.specs.declared.{Refusal.Refusal, Refusal.TheVariants.MessageNumbersUsed, Run.Run, StartAnswer.TheVariants.Started}
+use Prim.{tt}
+use Rattle.model.specs.declared.{Refusal.Refusal, Refusal.TheVariants.MessageNumbersUsed, Run.Run}
 use Rattle.model.specs.{Words.ones, Words.most_under_way, Words.most_messages, Words.in_set, Sound.is_block_count_of, laws.Refusals.refusal_in}
 use Rattle.model.specs.Refusals.{number, first_of, start_refusal, send_refusal}
 use Rattle.histories.proofs.{Run.Ideal, Run.begin, Run.begun, Run.sending, Run.lost, Begin.begin_transit, Invariant.Inv}
@@ -117,10 +118,10 @@ last_exposed s size few = rw (owner_itself 1 s.count, ap (λ (n : ℕ). owns 1 n
     mine : owns 1 3 0 ≡ true
     mine = unfold owns in refl
 
-meets_last : (r : Ideal) → Inv r → Limits r → r.n ≡ 3 → ((m : ℕ) → r.transit m ≡ false) → most_messages ≤ r.last → send_refusal (state_of r) 0 1 ≡ some MessageNumbersUsed
+meets_last : (r : Ideal) → Inv r → Limits r → r.n ≡ 3 → ((m : ℕ) → r.transit m ≡ false) → most_messages ≤ r.last → send_refusal (state_of r) 0 1 ≡ Some MessageNumbersUsed
 unfolding send_refusal
 meets_last r v fit size still numbers =
-    refusal_in _ (some MessageNumbersUsed) (
+    refusal_in _ (Some MessageNumbersUsed) (
       4,
       (
         rw (state_sound r v fit),
@@ -156,22 +157,22 @@ module _ (s : Run) (c : ℕ) (x : Calm s c) where
 
   reply_number : (o : Option Refusal) → send_refusal s 0 1 ≡ o → (console_call s asks).reply.report.refused ≡ number_of o
   unfolding console_call console_answered answered console_send send_outcome send_report number_of
-  reply_number none e = rw (allowed, e)
-  reply_number (some y) e = rw (allowed, e)
+  reply_number None e = rw (allowed, e)
+  reply_number (Some y) e = rw (allowed, e)
 
   accepted_number : c < most_messages → (console_call s asks).reply.report.refused ≡ 0
   unfolding number_of
   accepted_number numbers =
       let r = x.run in
       let a = x.stands in
-      reply_number none (refused_as none (send_admitted r (inv_at s r a) (limits_at s r a) 0 1 (omega (arith, size_at s r a)) (omega (arith, size_at s r a)) (omega arith)
+      reply_number None (refused_as None (send_admitted r (inv_at s r a) (limits_at s r a) 0 1 (omega (arith, size_at s r a)) (omega (arith, size_at s r a)) (omega arith)
       (omega (arith, nothing_under_way r x.still)) (omega (arith, x.last))))
 
   used_number : most_messages ≤ c → (console_call s asks).reply.report.refused ≡ 10
   unfolding number_of number
   used_number numbers =
       let a = x.stands in
-      reply_number (some MessageNumbersUsed) (refused_as (some MessageNumbersUsed)
+      reply_number (Some MessageNumbersUsed) (refused_as (Some MessageNumbersUsed)
       (meets_last x.run (inv_at s x.run a) (limits_at s x.run a) (size_at s x.run a) x.still (omega (arith, numbers, x.last))))
 
 -- After c messages.
@@ -187,17 +188,17 @@ module _ (s : Run) (x : Calm s 0) (c : ℕ) (numbers : c ≤ most_messages) wher
       ap (map (hidden used)) (exposed_append 1 s (messages c) (asks ∷ []) ∙ ap (λ (z : List Exposed). z ++ exposed 1 there (asks ∷ [])) (exposed_none c s))
       ∙ last_exposed there (size there c come) (few there c come)
 
-  seen_after : last_of (seen 1 s (messages c ++ (asks ∷ []))) ≡ some (console_call there asks).reply
+  seen_after : last_of (seen 1 s (messages c ++ (asks ∷ []))) ≡ Some (console_call there asks).reply
   seen_after =
       ap last_of (seen_append 1 s (messages c) (asks ∷ []) ∙ ap (λ (z : List Reply). z ++ seen 1 there (asks ∷ [])) (seen_none c s) ∙ last_seen there (send 0 1))
       ∙ last_of_snoc [] (console_call there asks).reply
 
 -- The start.
-start_accepted : start_refusal 3 ones ≡ none
+start_accepted : start_refusal 3 ones ≡ None
 unfolding start_refusal first_of any_below is_block_count_of
 start_accepted = refl
 
-started_so : (console_start operator 3 ones).answer ≡ Started
+started_so : (console_start operator 3 ones).answer ≡ Ok tt
 unfolding console_start denied may start_outcome
 started_so = rw start_accepted
 

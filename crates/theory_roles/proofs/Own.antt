@@ -1,9 +1,10 @@
 -- An owner's call on two states that are alike to it, where it shows the same of others: it returns the same, and leaves two states that are alike.
 -- Assumes nothing.
-use Rattle.std.specs.Prelude.{◌≡◌, ◌&&◌, ◌||◌, ◌∷◌, ◌+◌, ◌*◌, ◌^◌, ◌≤◌}
-use Rattle.laws.specs.Basics.{refl, sym, ◌∙◌, ap, Bool, true, false, not, List, [], Option, none, some, ℕ, arith, eqb, ltb, leb, length, get_or, ltb-false, pick, by_bool}
+use Rattle.std.specs.Prelude.{◌≡◌, ◌&&◌, ◌||◌, ◌∷◌, ◌+◌, ◌*◌, ◌^◌, ◌≤◌, Err, Ok}
+use Rattle.laws.specs.Basics.{refl, sym, ◌∙◌, ap, Bool, true, false, not, List, [], Option, None, Some, ℕ, arith, eqb, ltb, leb, length, get_or, ltb-false, pick, by_bool}
 use Rattle.laws.specs.{Front.get_d_written, Lists.table, Tables.length_table, Tables.get_d_table, Tables.table_same, Truth.never_both}
-use Rattle.model.specs.declared.{Interval.Interval, Message.Message, Run.Run, LineAnswer.TheVariants.Refused, LineAnswer.TheVariants.Written}
+use Prim.{tt}
+use Rattle.model.specs.declared.{Interval.Interval, Message.Message, Run.Run}
 use Rattle.model.specs.declared.Refusal.TheVariants.{UnsoundState, ListTooShort, NoSuchProcess, SenderIsReceiver, NoSuchFailedProcess, NotUnderWay, TooManyUnderWay, MessageNumbersUsed, IntervalsUsed, BlocksUsed}
 use Rattle.model.specs.Words.{basic, most_under_way, most_messages, most_interval, entry, Process, process, own, live}
 use Rattle.model.specs.Steps.{found, advanced, checkpointed, checkpoint_deletions, deletions, forces, risen, delivered, deliver_risen, deliver_deletions, member, line_of}
@@ -19,9 +20,6 @@ use Rattle.theory_roles.proofs.{Isolation.list_is_own, Alike.Alike, Alike.Fit, A
 use Rattle.theory_roles.specs.Learned.{Arrival, arrival_of, arrives, is_there, room, bound, arrival, there, members, leak}
 use Rattle.theory_roles.proofs.Runs.{list_unchanged}
 use Rattle.theory_roles.proofs.Steps.{checkpoint_alike, send_alike, deliver_alike, lose_other}
-use Rattle.model.specs.declared.CheckpointAnswer.TheVariants as checkpoint-answer
-use Rattle.model.specs.declared.SendAnswer.TheVariants as send-answer
-use Rattle.model.specs.declared.DeliverAnswer.TheVariants as deliver-answer
 
 -- Two calls return the same and leave states that are alike.
 abbrev pub Same : ℕ → Answered → Answered → Type 0
@@ -30,13 +28,13 @@ Same owned x y = (x.reply ≡ y.reply) × Alike owned x.run y.run
 -- What arrives with a message, if anything does.
 pub data Arrived (owned : ℕ) (u : Run) (m : ℕ) : Type 0 where
   absent : arrives owned u m ≡ [] → is_there owned u m ≡ false → Arrived owned u m
-  present : (x : Message) → found u m ≡ some x → owns owned u.count x.receiver ≡ true
+  present : (x : Message) → found u m ≡ Some x → owns owned u.count x.receiver ≡ true
       → arrives owned u m ≡ record { receiver = x.receiver; vector = x.vector } ∷ [] → is_there owned u m ≡ true → Arrived owned u m
 
 arrived_by : (owned : ℕ) (u : Run) (m : ℕ) (o : Option Message) → found u m ≡ o → Arrived owned u m
 unfolding arrives arrival_of is_there entitled_message entitled_message_by
-arrived_by owned u m none e = absent (rw e) (rw e)
-arrived_by owned u m (some x) e = by_bool (owns owned u.count x.receiver)
+arrived_by owned u m None e = absent (rw e) (rw e)
+arrived_by owned u m (Some x) e = by_bool (owns owned u.count x.receiver)
     (λ o. present x e o (rw (e, o)) (rw (e, o)))
     (λ o. absent (rw (e, o)) (rw (e, o)))
 
@@ -64,7 +62,7 @@ module _ (owned set : ℕ) (s t : Run) (fs : Fit s) (ft : Fit t) (a : Alike owne
 
     abbrev stored_reply : Process → Reply
     stored_reply P = record {
-      report = checkpoint_report (checkpoint-answer.Stored (live i P).index (length (deletions i (checkpointed basic i P))));
+      report = checkpoint_report (Ok (record { index = (live i P).index; deleted = length (deletions i (checkpointed basic i P)) }));
       rose = 0;
       deleted = written lent (pairs (deletions i (checkpointed basic i P)));
       line = [];
@@ -89,7 +87,7 @@ module _ (owned set : ℕ) (s t : Run) (fs : Fit s) (ft : Fit t) (a : Alike owne
         ∷ [])
 
     abbrev sent_reply : ℕ → Reply
-    sent_reply m = record { report = send_report (send-answer.Sent (m + 1)); rose = 0; deleted = []; line = [] }
+    sent_reply m = record { report = send_report (Ok (m + 1)); rose = 0; deleted = []; line = [] }
 
     send_same : Same owned (answered send_report (send_outcome s i k)) (answered send_report (send_outcome t i k))
     unfolding answered send_outcome
@@ -98,8 +96,8 @@ module _ (owned set : ℕ) (s t : Run) (fs : Fit s) (ft : Fit t) (a : Alike owne
         (λ x n. rw (send_refusal_lem, n) (refl, a))
 
   -- A delivery of what arrives in both.
-  module _ (m : ℕ) (lent : List ℕ) (x y : Message) (here : found s m ≡ some x) (there : found t m ≡ some y) (at : x.receiver ≡ y.receiver) (carried : x.vector ≡ y.vector)
-      (o : owns set s.count x.receiver ≡ true) (over : forces_over s (some x) ≡ forces_over t (some y)) where
+  module _ (m : ℕ) (lent : List ℕ) (x y : Message) (here : found s m ≡ Some x) (there : found t m ≡ Some y) (at : x.receiver ≡ y.receiver) (carried : x.vector ≡ y.vector)
+      (o : owns set s.count x.receiver ≡ true) (over : forces_over s (Some x) ≡ forces_over t (Some y)) where
     part : process s x.receiver ≡ process t y.receiver
     part = a.parts x.receiver (inside x.receiver o) ∙ ap (process t) at
 
@@ -119,8 +117,8 @@ module _ (owned set : ℕ) (s t : Run) (fs : Fit s) (ft : Fit t) (a : Alike owne
     abbrev taken_reply : ℕ → List Interval → Process → Reply
     taken_reply i v P = record {
       report = deliver_report (pick (forces P v)
-          (deliver-answer.Forced (live i P).index (length (deletions i (delivered i v P))))
-          (deliver-answer.Received (length (deletions i (delivered i v P)))));
+          (Ok (record { forced = Some (live i P).index; deleted = length (deletions i (delivered i v P)) }))
+          (Ok (record { forced = None; deleted = length (deletions i (delivered i v P)) })));
       rose = risen (pick (forces P v) (advanced i P.vector) P.vector) v;
       deleted = written lent (pairs (deletions i (delivered i v P)));
       line = [];
@@ -133,11 +131,11 @@ module _ (owned set : ℕ) (s t : Run) (fs : Fit s) (ft : Fit t) (a : Alike owne
         (λ r n. rw (deliver_refusal_lem, n) (refl, a))
 
   -- A loss of what is there.
-  lose_accepted : (u : Run) → sound u ≡ true → (m : ℕ) (x : Message) → found u m ≡ some x → lose_refusal u m ≡ none
+  lose_accepted : (u : Run) → sound u ≡ true → (m : ℕ) (x : Message) → found u m ≡ Some x → lose_refusal u m ≡ None
   unfolding lose_refusal first_of
   lose_accepted u e m x here = rw (e, here)
 
-  lose_same : (m : ℕ) (x y : Message) → found s m ≡ some x → found t m ≡ some y → Same owned (answered lose_report (lose_outcome s m)) (answered lose_report (lose_outcome t m))
+  lose_same : (m : ℕ) (x y : Message) → found s m ≡ Some x → found t m ≡ Some y → Same owned (answered lose_report (lose_outcome s m)) (answered lose_report (lose_outcome t m))
   unfolding answered lose_outcome
   lose_same m x y here there-too = rw (lose_accepted s fs.whole m x here, lose_accepted t ft.whole m y there-too)
       (refl, alike_then owned _ s _ (alike_back owned s _ (lose_other owned s m)) (alike_then owned s t _ a (lose_other owned t m)))
@@ -156,7 +154,7 @@ module _ (owned set : ℕ) (s t : Run) (fs : Fit s) (ft : Fit t) (a : Alike owne
         ∷ record { holds = (fs.members F ∙ sym (ft.members F)) j; gives = UnsoundState }
         ∷ [])
 
-    member_of : (u : Run) → line_refusal u F lent ≡ none → (p : ℕ) → owns set u.count p ≡ true → get_or (written lent (line_of u F)) p 0 ≡ get_or (own_members u F) p 0
+    member_of : (u : Run) → line_refusal u F lent ≡ None → (p : ℕ) → owns set u.count p ≡ true → get_or (written lent (line_of u F)) p 0 ≡ get_or (own_members u F) p 0
     unfolding line_refusal line_of
     member_of u n p o =
         let lt = owned_below set u.count p o in
@@ -166,7 +164,7 @@ module _ (owned set : ℕ) (s t : Run) (fs : Fit s) (ft : Fit t) (a : Alike owne
         ∙ get_d_table u.count (λ q. (member u F q).index.0) p 0 lt
         ∙ sym (get_d_table u.count (λ q. pick (owns set u.count q) (member u F q).index.0 0) p 0 lt ∙ rw o)
 
-    shown_same : line_refusal s F lent ≡ none → line_refusal t F lent ≡ none
+    shown_same : line_refusal s F lent ≡ None → line_refusal t F lent ≡ None
         → shown (owner set) s.count lent (written lent (line_of s F)) ≡ shown (owner set) t.count lent (written lent (line_of t F))
     unfolding shown entitled entitled_by
     shown_same n m = table_same (length lent) _ _ (λ p lt. by_bool (owns set s.count p)
@@ -179,8 +177,8 @@ module _ (owned set : ℕ) (s t : Run) (fs : Fit s) (ft : Fit t) (a : Alike owne
     line_same : Same owned (console_answered (owner set) s (made (line F lent))) (console_answered (owner set) t (made (line F lent)))
     unfolding console_answered answered console_line line_outcome denied may
     line_same = by_refusal (line_refusal t F lent)
-        (λ n. rw (line_refusal_lem, n) (λ j. record { report = line_report Written; rose = 0; deleted = []; line = shown_same (line_refusal_lem ∙ n) n j }, a))
-        (λ x n. rw (line_refusal_lem, n) (λ j. record { report = line_report (Refused x); rose = 0; deleted = []; line = unshown_same j }, a))
+        (λ n. rw (line_refusal_lem, n) (λ j. record { report = line_report (Ok tt); rose = 0; deleted = []; line = shown_same (line_refusal_lem ∙ n) n j }, a))
+        (λ x n. rw (line_refusal_lem, n) (λ j. record { report = line_report (Err x); rose = 0; deleted = []; line = unshown_same j }, a))
 
   -- A list: Note 13's own sentence.
   list_bare : (u : Run) (lent : List ℕ) → ((console_list (owner set) u lent).rose ≡ 0) × ((console_list (owner set) u lent).line ≡ [])

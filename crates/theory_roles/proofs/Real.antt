@@ -1,7 +1,7 @@
 -- Each leak is real: by computation, but for 10 and 16, which take too many calls (Numbers, Bound).
 -- Assumes nothing.
 use Rattle.std.specs.Prelude.{◌≡◌, ◌∷◌}
-use Rattle.laws.specs.Basics.{refl, sym, ◌∙◌, ap, Bool, true, false, List, [], none, ℕ, eqb, get_or, replicate, eqb-false}
+use Rattle.laws.specs.Basics.{refl, sym, ◌∙◌, ap, Bool, true, false, List, [], None, ℕ, eqb, get_or, replicate, eqb-false}
 use Rattle.laws.specs.{Bits.bits_of, Lists.select, Lists.or_else, Lists.last_of, Lists.table, Lists.gather, Lists.placed, Search.all_below, Search.any_below}
 use Rattle.laws.specs.{Sums.sum_below, Tests.count_below, Tests.every, Tests.some_of}
 use Rattle.model.specs.Words.{is_pinned, live, blocks_of, block_count, blank, process, with_process, own, under_way, with_messages, with_disk}
@@ -23,7 +23,7 @@ differ f l m d e = eqb-false (f l) (f m) d (ap f e)
 
 -- The answer at a place of what is seen.
 abbrev answer : List Reply → ℕ → Reply
-answer l k = get_or l k (record { report = record { refused = 0; value = none; deletions = 0 }; rose = 0; deleted = []; line = [] })
+answer l k = get_or l k (record { report = record { refused = 0; value = None; deletions = 0 }; rose = 0; deleted = []; line = [] })
 
 -- Two lists that are one and the same.
 through : (c a b : List Exposed) → a ≡ c → b ≡ c → a ≡ b

@@ -1,9 +1,10 @@
 -- A recovery or sweep, alike to an owner: what it leaves of a process follows from the process's part, its member's index, and which of its pins then name a checkpoint.
 -- Assumes nothing.
-use Rattle.std.specs.Prelude.{◌≡◌, ◌&&◌, ◌<◌}
-use Rattle.laws.specs.Basics.{refl, sym, ◌∙◌, ap, Bool, true, false, not, List, [], Option, some, ℕ, eqb, ltb, leb, get_or, eqb-true, pick, by_bool}
+use Rattle.std.specs.Prelude.{◌≡◌, ◌&&◌, ◌<◌, None}
+use Rattle.laws.specs.Basics.{refl, sym, ◌∙◌, ap, Bool, true, false, not, List, [], Option, Some, ℕ, eqb, ltb, leb, get_or, eqb-true, pick, by_bool}
 use Rattle.laws.specs.{Lists.select, Lists.last_of, Lists.table, Tables.get_d_table, Tables.table_same, Truth.never_both}
-use Rattle.model.specs.declared.{Checkpoint.Checkpoint, Interval.Interval, Pin.Pin, Pin.TheVariants.Nothing, Run.Run}
+use Rattle.model.specs.Shapes.{Pin}
+use Rattle.model.specs.declared.{Checkpoint.Checkpoint, Interval.Interval, Run.Run}
 use Rattle.model.specs.Words.{most_processes, entry, below, live_index_of, is_pinned, Process, process, own, with_messages, with_disk}
 use Rattle.model.specs.Steps.{advanced, states, member, rolled_back, vector_after, not_lost, own_after, latest_pin, moved_pin, pin_after, pins_after, recovered, recover_state}
 use Rattle.model.specs.Sound.{is_nothing_of}
@@ -42,7 +43,7 @@ module _ (s t : Run) (F G p : ℕ) (part : process s p ≡ process t p) (same : 
 
   -- A pin that names a checkpoint is the one that the process has, or moves; its entry is current.
   abbrev pin_left : List Interval → List Checkpoint → Process → Bool → ℕ → Pin
-  pin_left v l P back f = pick back (moved_own v l f) (get_or P.pins f Nothing)
+  pin_left v l P back f = pick back (moved_own v l f) (get_or P.pins f None)
 
   pin_is_left : (u : Run) (H f : ℕ) → is_nothing_of (pin_after u H p f) ≡ false → pin_after u H p f ≡ pin_left (vector_after u H p) (not_lost u H p) (process u p) (rolled_back u H p) f
   unfolding pin_after is_nothing_of
@@ -71,7 +72,7 @@ count_after : (u : Run) (H : ℕ) → (recover_state u H).count ≡ u.count
 unfolding recover_state with_disk with_messages
 count_after u H = count_all u.count (recovered u H) u
 
-one : (x y : Checkpoint) → ◌≡◌ {A = Option Checkpoint} (some x) (some y) → x ≡ y
+one : (x y : Checkpoint) → ◌≡◌ {A = Option Checkpoint} (Some x) (Some y) → x ≡ y
 one x y e = cc
 
 module _ (owned : ℕ) (s t : Run) (fs : Fit s) (ft : Fit t) (a : Alike owned s t) (F G : ℕ) (e : restarts owned s F ≡ restarts owned t G) where

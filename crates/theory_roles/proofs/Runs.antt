@@ -1,9 +1,11 @@
 -- States that console calls reach are states that the library's calls reach, and the console's history is theirs: demand 3 holds there.
 -- Assumes nothing.
-use Rattle.std.specs.Prelude.{◌≡◌, ◌∷◌, ◌++◌, ◌⊎◌}
-use Rattle.laws.specs.Basics.{refl, sym, subst, List, [], none, inl, inr, ℕ, arith, by_bool}
+use Rattle.std.specs.Prelude.{◌≡◌, ◌∷◌, ◌++◌, ◌⊎◌, Err, Ok}
+use Rattle.laws.specs.Basics.{refl, sym, subst, List, [], None, inl, inr, ℕ, arith, by_bool}
 use Rattle.laws.specs.Loops.{either}
-use Rattle.model.specs.declared.{Run.Run, Refusal.Refusal, StartAnswer.TheVariants.Started}
+use Prim.{tt}
+use Rattle.model.specs.Shapes.{StartAnswer}
+use Rattle.model.specs.declared.{Run.Run, Refusal.Refusal}
 use Rattle.model.specs.{Refusals.number, Refusals.start_refusal, Refusals.line_refusal, laws.Refusals.by_refusal}
 use Rattle.whole_runs.specs.Outcomes.{start_outcome, line_outcome, checkpoint_report, send_report, deliver_report, lose_report, line_report, recover_report}
 use Rattle.whole_runs.specs.Calls.{Call, checkpoint, send, deliver, lose, recover, line, earliest, Reply, Answered, answered, call, Exchange}
@@ -18,7 +20,6 @@ use Rattle.theory_roles.specs.declared.Caller.{Caller}
 use Rattle.theory_roles.specs.declared.Operation.TheVariants.{Start, Checkpoint, Send, Deliver, Lose, Recover, Line, Earliest, List as Listing, Counts}
 use Rattle.theory_roles.specs.Console.{denied, denied_process, denied_message, console_start, console_checkpoint, console_send, console_deliver, console_lose, console_recover, console_line, console_earliest, console_list, console_counts, list_refusal, counts_refusal, shown}
 use Rattle.theory_roles.specs.Runs.{Asked, made, list, counts, ConsoleCall, console_answered, console_call, state_after_console, exchanged, console_transcript, console_history, ConsoleReached, ConsoleIsReachable, RightOverConsoleRuns}
-use Rattle.model.specs.declared.StartAnswer.TheVariants as start_answer
 
 -- What a console call leaves of a state and of the history: both as they were, or what the library's call leaves.
 abbrev Effect : ℕ → Surviving → Run → Call → Answered → Type 0
@@ -116,11 +117,11 @@ calls_stand n s h v (k ∷ l) =
     (calls_stand n (console_call s k).run (surviving_from n h (exchanged k.caller s k.asked)) (call_stands n s h v k) l)
 
 -- A start that is refused is not accepted, and an accepted console start is an accepted start.
-pub not_started : {x : Refusal} → start_answer.Refused x ≡ Started → ⊥
+pub not_started : {x : Refusal} → ◌≡◌ {A = StartAnswer} (Err x) (Ok tt) → ⊥
 not_started {x} e = let z : ◌≡◌ {A = ℕ} 0 1 = cc in omega arith
 
-started_by : (c : Caller) (n : ℕ) (sizes : List ℕ) → (console_start c n sizes).answer ≡ Started
-    → (start_refusal n sizes ≡ none) × ((console_start c n sizes).run ≡ (start_outcome n sizes).run)
+started_by : (c : Caller) (n : ℕ) (sizes : List ℕ) → (console_start c n sizes).answer ≡ Ok tt
+    → (start_refusal n sizes ≡ None) × ((console_start c n sizes).run ≡ (start_outcome n sizes).run)
 unfolding console_start start_outcome
 started_by c n sizes e = by_bool (denied c Start)
     (λ d. absurd (not_started (rw d at e)))
@@ -138,7 +139,7 @@ console_reachable s v =
 reached_of : (n : ℕ) (s : Run) (h : Surviving) → Stands n s h → (r : Ideal) × Reached n s h r
 reached_of n s h (stands r v) = (r, v)
 
-pub console_reached : (c : Caller) (n : ℕ) (sizes : List ℕ) → (console_start c n sizes).answer ≡ Started → (calls : List ConsoleCall)
+pub console_reached : (c : Caller) (n : ℕ) (sizes : List ℕ) → (console_start c n sizes).answer ≡ Ok tt → (calls : List ConsoleCall)
     → (r : Ideal) × Reached n (state_after_console (console_start c n sizes).run calls) (console_history c n sizes calls) r
 unfolding console_history surviving
 console_reached c n sizes e calls =

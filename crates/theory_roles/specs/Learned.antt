@@ -1,10 +1,11 @@
 -- What an owner can learn of others over lists of console calls: nothing but the named leaks (document 02, Note 13). This file is the whole statement; the
 -- console's calls are those of roles/specs, and `LearnsNoMore` at the end is proved in proofs/Learned.
 -- Assumes nothing.
-use Rattle.std.specs.Prelude.{◌≡◌, ◌&&◌, ◌||◌, ◌∷◌, ◌++◌}
-use Rattle.laws.specs.Basics.{Bool, true, false, not, List, [], map, Option, none, some, ℕ, eqb, leb, get_or, pick}
+use Rattle.std.specs.Prelude.{◌≡◌, ◌&&◌, ◌||◌, ◌∷◌, ◌++◌, Ok}
+use Rattle.laws.specs.Basics.{Bool, true, false, not, List, [], map, Option, None, Some, ℕ, eqb, leb, get_or, pick}
 use Rattle.laws.specs.{Lists.table, Search.all_below}
-use Rattle.model.specs.declared.{Interval.Interval, Message.Message, Run.Run, StartAnswer.TheVariants.Started}
+use Prim.{tt}
+use Rattle.model.specs.declared.{Interval.Interval, Message.Message, Run.Run}
 use Rattle.model.specs.{Words.most_processes, Words.most_under_way, Words.in_set, Steps.found, Steps.member, Steps.pin_after, Sound.is_nothing_of}
 use Rattle.model.specs.Refusals.{past_blocks, forces_over}
 use Rattle.whole_runs.specs.Calls.{checkpoint, send, deliver, lose, recover, line, earliest, Reply}
@@ -38,8 +39,8 @@ pub record Arrival : Type 0 where
   pub vector : List Interval
 
 unfoldable pub arrival_of : ℕ → ℕ → Option Message → List Arrival
-arrival_of owned n none = []
-arrival_of owned n (some x) = pick (owns owned n x.receiver) (record { receiver = x.receiver; vector = x.vector } ∷ []) []
+arrival_of owned n None = []
+arrival_of owned n (Some x) = pick (owns owned n x.receiver) (record { receiver = x.receiver; vector = x.vector } ∷ []) []
 
 unfoldable pub arrives : ℕ → Run → ℕ → List Arrival
 arrives owned s m = arrival_of owned s.count (found s m)
@@ -117,7 +118,7 @@ exposed owned s (k ∷ l) = exposes owned s k ++ exposed owned (console_call s k
 -- THE STATEMENT. Two runs of the same number of processes, in which the owner's processes have the same block counts, the others' any; then any two lists of calls by
 -- any callers, of any lengths. If the same is exposed to the owner in the same order, it sees the same: whatever else the others do, and whoever started the runs.
 unfoldable pub LearnsNoMore : Type 0
-LearnsNoMore = (owned n : ℕ) (b c : Caller) (sizes others : List ℕ) → (console_start b n sizes).answer ≡ Started → (console_start c n others).answer ≡ Started
+LearnsNoMore = (owned n : ℕ) (b c : Caller) (sizes others : List ℕ) → (console_start b n sizes).answer ≡ Ok tt → (console_start c n others).answer ≡ Ok tt
     → ((p : ℕ) → owns owned n p ≡ true → get_or sizes p 0 ≡ get_or others p 0)
     → (l m : List ConsoleCall)
     → exposed owned (console_start b n sizes).run l ≡ exposed owned (console_start c n others).run m

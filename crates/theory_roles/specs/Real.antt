@@ -1,9 +1,10 @@
 -- Each leak is real: for each, two lists of console calls by a tenant and its neighbours that expose the same to the tenant but for this one leak, and of which it sees
 -- different answers. So no leak could be left out of `exposed`. `EveryLeakIsReal` is proved in proofs/Real.
 -- Assumes nothing.
-use Rattle.std.specs.Prelude.{◌≡◌, ◌∷◌, ◌++◌}
+use Rattle.std.specs.Prelude.{◌≡◌, ◌∷◌, ◌++◌, Ok}
 use Rattle.laws.specs.Basics.{false, List, [], map, ℕ, zero, suc, eqb, replicate, pick}
-use Rattle.model.specs.{declared.Run.Run, declared.StartAnswer.TheVariants.Started, Words.ones}
+use Prim.{tt}
+use Rattle.model.specs.{declared.Run.Run, Words.ones}
 use Rattle.whole_runs.specs.Calls.{Call, checkpoint, send, deliver, lose, recover, line}
 use Rattle.theory_tables.specs.Exam.{deletion_list, line_list}
 use Rattle.theory_roles.specs.{Console.console_start, Isolation.owner, Runs.made, Runs.list, Runs.ConsoleCall, Table.operator}
@@ -155,7 +156,7 @@ unfoldable pub begun : LeakName → Run
 begun x = (console_start operator 3 (pair_of x).sizes).run
 
 pub record Real (x : LeakName) : Type 0 where
-  pub started : (console_start operator 3 (pair_of x).sizes).answer ≡ Started
+  pub started : (console_start operator 3 (pair_of x).sizes).answer ≡ Ok tt
   pub alike : map (hidden x) (exposed 1 (begun x) (pair_of x).one) ≡ map (hidden x) (exposed 1 (begun x) (pair_of x).another)
   pub differs : seen 1 (begun x) (pair_of x).one ≡ seen 1 (begun x) (pair_of x).another → ⊥
 

@@ -1,9 +1,10 @@
 -- Document 02, Note 13: "The console works on states reached by its own calls." Lists of console calls, the surviving history of one, and what is claimed of
 -- the states that they reach.
 -- Assumes nothing.
-use Rattle.std.specs.Prelude.{◌≡◌, ◌∷◌, ◌++◌, ◌^◌, ◌<◌}
+use Rattle.std.specs.Prelude.{◌≡◌, ◌∷◌, ◌++◌, ◌^◌, ◌<◌, Ok}
 use Rattle.laws.specs.Basics.{List, [], ℕ}
-use Rattle.model.specs.declared.{Run.Run, StartAnswer.TheVariants.Started}
+use Prim.{tt}
+use Rattle.model.specs.declared.Run.{Run}
 use Rattle.whole_runs.specs.Outcomes.{checkpoint_report, send_report, deliver_report, lose_report, line_report, recover_report}
 use Rattle.whole_runs.specs.Calls.{Call, checkpoint, send, deliver, lose, recover, line, earliest, Answered, answered, call, Exchange}
 use Rattle.whole_runs.specs.{Survival.Surviving, Survival.surviving, Answers.AnswerIsRight}
@@ -60,7 +61,7 @@ console_history c n sizes calls = surviving n sizes (console_transcript (console
 
 -- "states reached by its own calls": by an accepted start, with any block counts, and any list of console calls by any callers, refused ones among them.
 unfoldable pub ConsoleReached : Run → Type 0
-ConsoleReached s = (c : Caller) × (n : ℕ) × (sizes : List ℕ) × ((console_start c n sizes).answer ≡ Started) × (calls : List ConsoleCall)
+ConsoleReached s = (c : Caller) × (n : ℕ) × (sizes : List ℕ) × ((console_start c n sizes).answer ≡ Ok tt) × (calls : List ConsoleCall)
     × (s ≡ state_after_console (console_start c n sizes).run calls)
 
 -- They are states that the library's own calls reach from an accepted start.
@@ -70,7 +71,7 @@ ConsoleIsReachable = (s : Run) → ConsoleReached s → Reachable s
 -- So demand 3 holds there: what is kept, the blocks, the line for every failed set, and the answer that the library gives to every further call, all judged by the
 -- console's own history. The console gives that answer, but for 25 and for the places of an owner's line that are not its own (specs/Console).
 unfoldable pub RightOverConsoleRuns : Type 0
-RightOverConsoleRuns = (c : Caller) (n : ℕ) (sizes : List ℕ) → (console_start c n sizes).answer ≡ Started → (calls : List ConsoleCall) →
+RightOverConsoleRuns = (c : Caller) (n : ℕ) (sizes : List ℕ) → (console_start c n sizes).answer ≡ Ok tt → (calls : List ConsoleCall) →
     let s = state_after_console (console_start c n sizes).run calls in
     let h = console_history c n sizes calls in
     (KeptIsRight n s h) × (BlocksAreRight n s h) × ((F : ℕ) → F < 2 ^ n → LineIsRight n s h F)

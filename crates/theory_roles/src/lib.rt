@@ -36,12 +36,8 @@ pub struct Caller {
     pub owned: u16,
 }
 
-// Listed: how many checkpoints.
-#[derive(Clone, Copy)]
-pub enum ListAnswer {
-    Refused(Refusal),
-    Listed(usize),
-}
+// The answer of a list: how many checkpoints it gives.
+pub type ListAnswer = Result<usize, Refusal>;
 
 // The entries of the table below, in short.
 const YES: bool = true;

@@ -1,9 +1,10 @@
 -- Document 01, "Exam sheet": the cases that P marks, as data, and the tests that compare them with the definitions. proofs/Exam has the theorem.
 -- Assumes nothing.
 use Rattle.std.specs.Prelude.{◌&&◌, ◌∷◌, ◌++◌, ◌*◌}
-use Rattle.laws.specs.Basics.{Bool, true, false, List, [], map, Option, none, some, ℕ, suc, eqb, length, get_or, take, drop, replicate}
+use Rattle.laws.specs.Basics.{Bool, true, false, List, [], map, Option, None, Some, ℕ, suc, eqb, length, get_or, take, drop, replicate}
 use Rattle.laws.specs.{Lists.table, Tests.every, Tests.same}
-use Rattle.model.specs.declared.{Pin.Pin, Pin.TheVariants.Nothing, Pin.TheVariants.At, Checkpoint.Checkpoint, Run.Run}
+use Rattle.model.specs.Shapes.{Pin}
+use Rattle.model.specs.declared.{Checkpoint.Checkpoint, Run.Run}
 use Rattle.model.specs.Words.{ones, entry, process}
 use Rattle.whole_runs.specs.Outcomes.{start_outcome}
 use Rattle.whole_runs.specs.Calls.{Call, checkpoint, send, deliver, recover, line, Reply, Exchange, call, state_after, transcript}
@@ -17,8 +18,8 @@ same_rows (a ∷ l) (b ∷ m) = same a b && same_rows l m
 
 -- A value that may be missing, as a list of at most one number.
 unfoldable pub optional : Option ℕ → List ℕ
-optional none = []
-optional (some v) = v ∷ []
+optional None = []
+optional (Some v) = v ∷ []
 
 -- What a call must answer: the refusal number or 0, its value if it has one, the set of entries that rose (Note 1), the numbers that its deletion list holds in
 -- front, and its line list.
@@ -36,8 +37,8 @@ pub record ExpectedLine : Type 0 where
 
 -- A pin, 0 for none and k + 1 for checkpoint k.
 unfoldable pub pin_number : Pin → ℕ
-pin_number Nothing = 0
-pin_number (At a) = suc a.0
+pin_number None = 0
+pin_number (Some a) = suc a.0
 
 -- Note 5: what the disks hold. Of each process the indexes, the causes and the block counts of its kept checkpoints; blocks written, blocks deleted.
 pub record Disks : Type 0 where
@@ -100,7 +101,7 @@ right c =
     let s = state_after s₀ c.calls in
     answers_right (transcript s₀ c.calls) c.answers
     && same_rows (table c.count (λ p. table c.count (λ f. (entry (process s p).vector f).0))) c.vectors
-    && same_rows (table c.count (λ p. table c.count (λ f. pin_number (get_or (process s p).pins f Nothing)))) c.pins
+    && same_rows (table c.count (λ p. table c.count (λ f. pin_number (get_or (process s p).pins f None)))) c.pins
     && disks_are s c.disks
     && every (line_right s) c.lines
 

@@ -2,10 +2,10 @@
 -- limit that does not. What a refused start returns, and under which record number 13 prints. Note 11 of document 02: what is printed where a replay
 -- stops, and which words ask for all. proofs/Exam has the theorem.
 -- Assumes nothing.
-use Rattle.std.specs.Prelude.{◌&&◌, ◌∷◌, ◌-◌}
+use Rattle.std.specs.Prelude.{◌&&◌, ◌∷◌, ◌-◌, Some}
 use Rattle.laws.specs.Basics.{Bool, true, false, not, List, [], ℕ, eqb, length, set, replicate, pick}
 use Rattle.laws.specs.Tests.{every, same}
-use Rattle.model.specs.declared.{Interval.Interval, Pin.TheVariants.At, Run.Run}
+use Rattle.model.specs.declared.{Interval.Interval, Run.Run}
 use Rattle.model.specs.Words.{most_processes, most_under_way, initial, basic, ones, zero_vector, no_pins_of, blank, with_process, with_messages, with_disk}
 use Rattle.model.specs.{Steps.start_state, Sound.zero_from, Sound.nothing_from, Sound.unused_checkpoint, Sound.unused_message}
 use Rattle.whole_runs.specs.{Outcomes.start_outcome, Outcomes.start_report, Listing.asks_for_all, Listing.listing}
@@ -129,7 +129,7 @@ abbrev pub at_interval : ℕ → Bool → Run
 at_interval own mark = with_messages
     (with_process begun 0 (record {
       vector = two_entries own 0;
-      pins = set no_pins_of 0 (At (record { 0 = own - 1 }));
+      pins = set no_pins_of 0 (Some (record { 0 = own - 1 }));
       mark = mark;
       kept = record { index = record { 0 = own - 1 }; vector = two_entries (own - 1) 0; cause = basic; blocks = 1 } ∷ [];
     }))
@@ -140,7 +140,7 @@ at_interval own mark = with_messages
 abbrev pub knowing : Run
 knowing = with_process begun 1 (record {
   vector = two_entries 1 1;
-  pins = set no_pins_of 1 (At (record { 0 = 0 }));
+  pins = set no_pins_of 1 (Some (record { 0 = 0 }));
   mark = false;
   kept = record { index = record { 0 = 0 }; vector = two_entries 1 0; cause = initial; blocks = 1 } ∷ [];
 })

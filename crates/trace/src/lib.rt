@@ -3,9 +3,8 @@
 #![tactic(auto)]
 
 ghost use Rattle.std.specs.Prelude.{◌≡◌, ◌≤◌, ◌<◌};
-ghost use Rattle.laws.specs.Basics.{length};
-ghost use Rattle.model.specs.Trace.{word, fields, if_zero_of, event_of_def, fields_of, word_of_def, bytes_of_def};
-ghost use Rattle.trace.specs.Answers.{record_at, fields_read, event_in, event_read, record_of_def};
+ghost use Rattle.model.specs.Trace.{fields, if_zero_of, event_of_def, fields_of, word_of_def, encoded};
+ghost use Rattle.trace.specs.Answers.{record_at, fields_read, event_in};
 
 use model::{Event, Fields, PROCESSES};
 
@@ -20,55 +19,22 @@ pub const PROCESS_NAMES: u32 = PROCESSES as u32;
 
 pub const KIND: u32 = PROCESS_NAMES * ARGUMENTS;
 
-// What a part of a trace is found to be.
-#[derive(Clone, Copy)]
-pub enum Decoded {
-    Malformed,
-    StandsFor(Event),
-}
-
-// The record of an event. An event that does not fit the fields has none: the bytes are zeros then.
-#[derive(Clone, Copy)]
-pub struct Encoded {
-    pub fits: bool,
-    pub bytes: [u8; 4],
-}
-
-// "It hands a record on as the part of the trace with its four bytes, not as a copy." Where fewer than four bytes are left, the part is empty.
+// "It hands a record on as the part of the trace with its four bytes, not as a copy." Where fewer than four bytes are left, the part is empty: its contract says so of every
+// place, so it answers no Option.
+#[tactic(auto, unfolding(crate::specs::Answers::record_at))]
 pub fn record_part<'a>(trace: &'a [u8], at: usize) -> &'a [u8]
     ensures { result.now ≡ record_at trace.now at }
 {
-    if at <= trace.len() {
-        if 4 <= trace.len() - at {
-            &trace[at..at + 4]
-        } else {
-            &trace[..0]
-        }
-    } else {
-        &trace[..0]
-    }
+    let rest = trace.get(at..).unwrap_or(&[]);
+    rest.get(..4).unwrap_or(&[])
 }
 
-// A byte as a wider number.
-pub fn wide(byte: u8) -> u32
-    ensures { (result ≡ byte) × (result < 256) }
+// The fields of four bytes: a number of 32 bits, most significant byte first.
+#[tactic(auto, unfolding(model::specs::Trace::fields, model::specs::Trace::word))]
+fn fields_in(bytes: &[u8; 4]) -> Fields
+    ensures { result ≡ fields bytes.now }
 {
-    byte as u32
-}
-
-// The number of 32 bits that four bytes are, most significant first.
-fn word_in(part: &[u8]) -> u32
-    requires { length part.now ≡ 4 }
-    ensures { result ≡ word part.now }
-{
-    wide(part[0]) * 16777216 + wide(part[1]) * 65536 + wide(part[2]) * 256 + wide(part[3])
-}
-
-fn fields_in(part: &[u8]) -> Fields
-    requires { length part.now ≡ 4 }
-    ensures { result ≡ fields part.now }
-{
-    let w = word_in(part);
+    let w = u32::from_be_bytes(*bytes);
     Fields {
         kind: w / KIND,
         process: (w / ARGUMENTS % PROCESS_NAMES) as usize,
@@ -77,56 +43,45 @@ fn fields_in(part: &[u8]) -> Fields
 }
 
 // The fields of a part of a trace; zeros where it is no four bytes long.
+#[tactic(auto, unfolding(crate::specs::Answers::fields_read))]
 pub fn read_fields(part: &[u8]) -> Fields
     ensures { result ≡ fields_read part.now }
 {
-    if part.len() != 4 {
-        return Fields {
+    match part.as_array() {
+        Some(bytes) => fields_in(bytes),
+        None => Fields {
             kind: 0,
             process: 0,
             argument: 0,
-        };
-    }
-    fields_in(part)
-}
-
-// The event, if the field that must be zero is.
-fn if_zero(field: usize, e: Event) -> Decoded
-    ensures { event_read result ≡ if_zero_of field e }
-{
-    if field == 0 {
-        Decoded::StandsFor(e)
-    } else {
-        Decoded::Malformed
+        },
     }
 }
 
-fn event_of(r: Fields) -> Decoded
-    ensures { event_read result ≡ event_of_def r }
+#[tactic(auto, unfolding(model::specs::Trace::event_of_def, model::specs::Trace::if_zero_of))]
+fn event_of(r: Fields) -> Option<Event>
+    ensures { result ≡ event_of_def r }
 {
     let process = r.process;
     let argument = r.argument;
-    let kind = r.kind;
-    match kind {
-        0 => if_zero(argument as usize, Event::Checkpoint(process)),
-        1 => Decoded::StandsFor(Event::Send(process, argument)),
-        2 => if_zero(process, Event::Deliver(argument)),
-        3 => if_zero(process, Event::Lose(argument)),
-        4 => if_zero(process, Event::Recover(argument)),
-        _ => Decoded::Malformed,
+    match r.kind {
+        0 => (argument == 0).then_some(Event::Checkpoint(process)),
+        1 => Some(Event::Send(process, argument)),
+        2 => (process == 0).then_some(Event::Deliver(argument)),
+        3 => (process == 0).then_some(Event::Lose(argument)),
+        4 => (process == 0).then_some(Event::Recover(argument)),
+        _ => None,
     }
 }
 
-// The event that a part of a trace stands for. A part that is no four bytes long is malformed.
-pub fn decode(part: &[u8]) -> Decoded
-    ensures { event_read result ≡ event_in part.now }
+// The event that a part of a trace stands for. A part that is no four bytes long is malformed: it stands for none.
+#[tactic(auto, unfolding(crate::specs::Answers::event_in, model::specs::Trace::decoded))]
+pub fn decode(part: &[u8]) -> Option<Event>
+    ensures { result ≡ event_in part.now }
 {
-    if part.len() != 4 {
-        return Decoded::Malformed;
-    }
-    event_of(fields_in(part))
+    event_of(fields_in(part.as_array()?))
 }
 
+#[tactic(auto, unfolding(model::specs::Trace::fields_of))]
 fn fields_of(e: Event) -> Fields
     ensures { result ≡ fields_of e }
 {
@@ -159,6 +114,7 @@ fn fields_of(e: Event) -> Fields
     }
 }
 
+#[tactic(auto, unfolding(model::specs::Trace::word_of_def))]
 fn word_of(r: Fields) -> u32
     requires { (r.kind ≤ 4) × (r.process < 16) × (r.argument < 33554432) }
     ensures { result ≡ word_of_def r }
@@ -166,32 +122,14 @@ fn word_of(r: Fields) -> u32
     r.kind * KIND + r.process as u32 * ARGUMENTS + r.argument
 }
 
-fn bytes_of(w: u32) -> [u8; 4]
-    ensures { result ≡ bytes_of_def w }
-{
-    [
-        (w / 16777216) as u8,
-        (w / 65536 % 256) as u8,
-        (w / 256 % 256) as u8,
-        (w % 256) as u8,
-    ]
-}
-
 // The record of an event, if it fits: the process has 4 bits, the argument 25.
-pub fn encode(e: Event) -> Encoded
-    ensures { result ≡ record_of_def e }
+#[tactic(auto, using(model::proofs::Records::kind_small), unfolding(model::specs::Trace::encoded, model::specs::Trace::fits, model::specs::Trace::bytes_of_def))]
+pub fn encode(e: Event) -> Option<[u8; 4]>
+    ensures { result ≡ encoded e }
 {
     let r = fields_of(e);
-    if r.process < PROCESSES {
-        if r.argument < ARGUMENTS {
-            return Encoded {
-                fits: true,
-                bytes: bytes_of(word_of(r)),
-            };
-        }
+    if r.process < PROCESSES && r.argument < ARGUMENTS {
+        return Some(word_of(r).to_be_bytes());
     }
-    Encoded {
-        fits: false,
-        bytes: [0; 4],
-    }
+    None
 }

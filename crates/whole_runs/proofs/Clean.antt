@@ -1,7 +1,7 @@
 -- Note 6, proved: straight after an accepted recovery or sweep a checkpoint is kept exactly if some failure would use it.
 -- Assumes nothing.
 use Rattle.std.specs.Prelude.{◌≡◌, ◌∷◌, ◌++◌, ◌^◌, ◌<◌}
-use Rattle.laws.specs.Basics.{refl, sym, ◌∙◌, List, [], none, ℕ, arith}
+use Rattle.laws.specs.Basics.{refl, sym, ◌∙◌, List, [], None, ℕ, arith}
 use lib.Pow.{pow_pos}
 use Rattle.laws.specs.Bits.{pow_less}
 use Rattle.model.specs.declared.Run.{Run}
@@ -34,7 +34,7 @@ after_last n s h [] c = refl
 after_last n s h (b ∷ calls) c = after_last n (call s b).run (after n h (exchange s b)) calls c
 
 -- An accepted recovery reaches the run after it.
-recovered_reached : (n : ℕ) (s : Run) (h : Surviving) (r : Ideal) → Reached n s h r → (F : ℕ) (deleted lent : List ℕ) → recover_refusal s F deleted lent ≡ none
+recovered_reached : (n : ℕ) (s : Run) (h : Surviving) (r : Ideal) → Reached n s h r → (F : ℕ) (deleted lent : List ℕ) → recover_refusal s F deleted lent ≡ None
     → Reached n (call s (recover F deleted lent)).run (after n h (exchange s (recover F deleted lent))) (recovered r (failed F))
 unfolding stepped refusal
 recovered_reached n s h r v F deleted lent e = accepted_reached n s h r v (recover F deleted lent) (rw v.state at e)

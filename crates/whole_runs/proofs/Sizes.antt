@@ -2,7 +2,7 @@
 -- found the state sound and the limits kept. The length of a printed line rests on this.
 -- Assumes nothing.
 use Rattle.std.specs.Prelude.{◌≡◌, ◌&&◌, ◌∷◌, ◌+◌, ◌≤◌, ◌<◌}
-use Rattle.laws.specs.Basics.{Bool, true, not, List, [], Option, none, some, ℕ, arith, eqb, leb, length, get_or, length-append, by_bool}
+use Rattle.laws.specs.Basics.{Bool, true, not, List, [], Option, None, Some, ℕ, arith, eqb, leb, length, get_or, length-append, by_bool}
 use lib.ListN.{length-take}
 use Rattle.laws.specs.{Counting.count_le, Lists.select, Lists.last_of, Options.some_same, Options.none≢some, Prefixes.every_select, Prefixes.every_last, Select.select_length}
 use Rattle.laws.specs.{Tests.every, Truth.and_left, Truth.and_right}
@@ -11,8 +11,8 @@ use Rattle.model.specs.declared.Refusal.TheVariants.{MalformedRecord}
 use Rattle.model.specs.Words.{basic, forced, is_pinned, Process, process, own, under_way, live}
 use Rattle.model.specs.Steps.{listed, gone, deletions, storing, checkpointed, checkpoint_deletions, found, forces, taken_in, delivered, deliver_deletions, member, pins_after, gone_at_of, deleted_at, recover_deletions, rolled_back, rolled_back_count}
 use Rattle.model.specs.{Sound.message_sound, Sound.sound, laws.Refusals.by_refusal, laws.Refusals.number_range, laws.Sound.sound_state, laws.Sound.sound_message}
-use Rattle.model.specs.Refusals.{number, checkpoint_refusal, send_refusal, deliver_refusal, lose_refusal, line_refusal, recover_refusal}
-use Rattle.whole_runs.specs.Outcomes.{Report, refusing, accepting, message, deliver_answer, checkpoint_outcome, checkpoint_report, send_outcome, send_report, deliver_outcome, deliver_report, lose_outcome, lose_report, line_outcome, line_report, recover_outcome, recover_report}
+use Rattle.model.specs.Refusals.{checkpoint_refusal, send_refusal, deliver_refusal, lose_refusal, line_refusal, recover_refusal}
+use Rattle.whole_runs.specs.Outcomes.{Report, refusing, accepting, deliver_answer, checkpoint_outcome, checkpoint_report, send_outcome, send_report, deliver_outcome, deliver_report, lose_outcome, lose_report, line_outcome, line_report, recover_outcome, recover_report}
 use Rattle.whole_runs.specs.{Earliest.earliest_refusal, Earliest.earliest_outcome, Listing.call_of, Listing.perform}
 use Rattle.whole_runs.specs.Calls.{Call, checkpoint, send, deliver, lose, recover, line, earliest, answered, call}
 use Rattle.model.proofs.simulation.Accepted.{checkpoint_out, send_out, deliver_out, recover_out}
@@ -27,14 +27,14 @@ unfolding process
 few_kept s h p lt = rw (length-take (get_or s.kept_count p 0) (get_or s.kept.0 p [])) (omega (arith, few_processes s h, ((sound_state s h).processes p lt).kept_count_most))
 
 -- The last element of a list passes a test that every element passes.
-pub last_passes : {A : Type 0} (u : A → Bool) (l : List A) (x : A) → every u l ≡ true → last_of l ≡ some x → u x ≡ true
+pub last_passes : {A : Type 0} (u : A → Bool) (l : List A) (x : A) → every u l ≡ true → last_of l ≡ Some x → u x ≡ true
 unfolding every last_of
 last_passes u [] x h e = absurd (none≢some e)
 last_passes u (y ∷ l) x h e =
     rw (← some_same e) (every_last u l y (and_right (u y) (every u l) h) (and_left (u y) (every u l) h))
 
 -- A message under way goes to a process of the run.
-receiver_in : (s : Run) → sound s ≡ true → (m : ℕ) (x : Message) → found s m ≡ some x → x.receiver < s.count
+receiver_in : (s : Run) → sound s ≡ true → (m : ℕ) (x : Message) → found s m ≡ Some x → x.receiver < s.count
 unfolding found
 receiver_in s h m x e =
     let all = every_select (message_sound s) (λ y. eqb y.number m) (under_way s) (sound_state s h).messages_sound_lem in
@@ -80,15 +80,15 @@ recover_few s F h =
 pub record Small (r : Report) : Type 0 where
   pub refused : r.refused ≤ 99
   pub deletions : r.deletions ≤ 256
-  pub value : (v : ℕ) → r.value ≡ some v → v < 10000000000
+  pub value : (v : ℕ) → r.value ≡ Some v → v < 10000000000
 
 pub small_refused : (x : Refusal) → Small (refusing x)
 small_refused x = record { refused = (number_range x).1; deletions = omega arith; value = λ v e. absurd (none≢some e) }
 
-small_accepted : (v k : ℕ) → v < 10000000000 → k ≤ 256 → Small (accepting (some v) k)
+small_accepted : (v k : ℕ) → v < 10000000000 → k ≤ 256 → Small (accepting (Some v) k)
 small_accepted v k a b = record { refused = omega arith; deletions = b; value = λ w e. omega (arith, some_same e) }
 
-small_none : (k : ℕ) → k ≤ 256 → Small (accepting none k)
+small_none : (k : ℕ) → k ≤ 256 → Small (accepting None k)
 small_none k b = record { refused = omega arith; deletions = b; value = λ v e. absurd (none≢some e) }
 
 checkpoint_small : (s : Run) (i : ℕ) (deleted : List ℕ) → Small (checkpoint_report (checkpoint_outcome s i deleted).answer)
@@ -147,5 +147,5 @@ call_small s (earliest l lent) = earliest_small s l lent
 
 pub record_small : (s : Run) (e : Option Event) → Small (perform s e).reply.report
 unfolding perform
-record_small s none = small_refused MalformedRecord
-record_small s (some e) = call_small s (call_of e)
+record_small s None = small_refused MalformedRecord
+record_small s (Some e) = call_small s (call_of e)

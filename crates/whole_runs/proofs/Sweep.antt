@@ -1,14 +1,15 @@
 -- Note 4: a sweep. Nobody rolls back, of any state; the messages under way stay, of a sound one; the lines stay, of a state that calls from a start reach. And that no
 -- call is refused with 6.
 -- Assumes nothing.
-use Rattle.std.specs.Prelude.{◌≡◌, ◌&&◌, ◌<◌}
-use Rattle.laws.specs.Basics.{refl, sym, ◌∙◌, ap, fun_ext, true, false, not, List, [], Option, none, some, ℕ, zero, suc, arith, eqb, ltb, length, get_or, le-ltb, leb-true, pick, by_bool}
+use Rattle.std.specs.Prelude.{◌≡◌, ◌&&◌, ◌<◌, Ok}
+use Rattle.laws.specs.Basics.{refl, sym, ◌∙◌, ap, fun_ext, true, false, not, List, [], Option, None, Some, ℕ, zero, suc, arith, eqb, ltb, length, get_or, le-ltb, leb-true, pick, by_bool}
 use native.Mathlib.Nat.{div-eq_of_lt, one-le-pow}
 use lib.Seq.{set-get_or}
 use Rattle.laws.specs.{Counting.count_none, Rows.and_true, Rows.every_at, Rows.every_by, Search.any_below, Search.any_out, Search.all_in, Search.all_out, Tables.table_same}
 use Rattle.laws.specs.{Select.all_chosen, Select.last_of_snoc, Truth.never_both}
-use Rattle.model.specs.declared.{Pin.TheVariants.Nothing, Checkpoint.Checkpoint, Message.Message, Run.Run, Refusal.Refusal, LineAnswer.LineAnswer}
-use Rattle.model.specs.declared.RecoverAnswer.{RecoverAnswer}
+use Prim.{tt}
+use Rattle.model.specs.Shapes.{LineAnswer, RecoverAnswer}
+use Rattle.model.specs.declared.{Checkpoint.Checkpoint, Message.Message, Run.Run, Refusal.Refusal}
 use Rattle.model.specs.Words.{entry, Process, live, no_checkpoint, no_message, process, with_process, own, under_way, with_messages, with_disk, failed}
 use Rattle.model.specs.Steps.{with_processes, allowed, states, latest_allowed, member, line_of, rolled_back, vector_after, own_after, pin_after, recovered, lost_by, still_under_way, recover_state, recover_deletions, rolled_back_count}
 use Rattle.model.specs.{Sound.within, Sound.message_sound, Sound.sound, Refusals.missing, Refusals.no_member_of, Refusals.line_refusal, Refusals.recover_refusal}
@@ -22,8 +23,6 @@ use Rattle.model.proofs.{simulation.Parts.under_way_put, Numbers.numbers_are_rig
 use Rattle.model.proofs.{simulation.Lines.line_is, simulation.Recover.recover_is}
 use Rattle.whole_runs.proofs.{whole.Reached.Reached, whole.Refused.number_of, whole.Refused.reports_number, whole.Runs.run_after}
 use Rattle.whole_runs.proofs.WholeRuns.{reachable_reached, reports_start}
-use Rattle.model.specs.declared.LineAnswer.TheVariants as line_answer
-use Rattle.model.specs.declared.RecoverAnswer.TheVariants as recover-answer
 use Rattle.histories.proofs.Run as ideal
 
 -- No process is in the empty set.
@@ -37,7 +36,7 @@ module _ (s : Run) where
   allowed_all c = all_in s.count _ (λ f lt. rw (nobody_failed f))
 
   -- and the latest is the live one.
-  latest_live : (p : ℕ) → latest_allowed s 0 p ≡ some (live p (process s p))
+  latest_live : (p : ℕ) → latest_allowed s 0 p ≡ Some (live p (process s p))
   unfolding latest_allowed states
   latest_live p = rw (all_chosen (allowed s 0) _ (every_by (allowed s 0) _ no_checkpoint (λ k lt. allowed_all _))) (last_of_snoc (process s p).kept (live p (process s p)))
 
@@ -77,7 +76,7 @@ module _ (s : Run) where
       (λ e. let w = any_out s.count _ e in never_both (missing (latest_allowed s 0 w.0)) w.2 (rw (latest_live w.0)))
       (λ e. e)
 
-  sweep_pins : (p f : ℕ) → pin_after s 0 p f ≡ pick (eqb (entry (process s p).vector f).0 (own s f).0) (get_or (process s p).pins f Nothing) Nothing
+  sweep_pins : (p f : ℕ) → pin_after s 0 p f ≡ pick (eqb (entry (process s p).vector f).0 (own s f).0) (get_or (process s p).pins f None) None
   unfolding pin_after own_after own
   sweep_pins p f = rw (vector_stays p, vector_stays f, nobody_back p)
 
@@ -167,8 +166,8 @@ sweep_leaves_lines s v deleted lent F = by_refusal (recover_refusal s 0 deleted 
 -- No number is 6.
 never_six : (o : Option Refusal) (k : ℕ) → k ≡ number_of o → k ≡ 6 → ⊥
 unfolding number_of
-never_six none k e six = omega arith
-never_six (some x) k e six = numbers_are_right.never_six x (sym e ∙ six)
+never_six None k e six = omega arith
+never_six (Some x) k e six = numbers_are_right.never_six x (sym e ∙ six)
 
 pub six_never_occurs : SixNeverOccurs
 six_never_occurs = record {
@@ -178,7 +177,7 @@ six_never_occurs = record {
 
 -- What a line call for the empty set and a sweep leave of a sound state, and as the calls say it.
 module _ (s : Run) where
-  line_swept : (lent : List ℕ) → line_refusal s 0 lent ≡ none → ((line_outcome s 0 lent).answer ≡ line_answer.Written) × ((line_outcome s 0 lent).line ≡ written lent (live_line s))
+  line_swept : (lent : List ℕ) → line_refusal s 0 lent ≡ None → ((line_outcome s 0 lent).answer ≡ Ok tt) × ((line_outcome s 0 lent).line ≡ written lent (live_line s))
   unfolding line_outcome
   line_swept lent fine = rw fine (refl, ap (written lent) (sweep_is_quiet s).line)
 
@@ -190,11 +189,11 @@ module _ (s : Run) where
       (e ∙ ap (λ (F : ℕ). (line_outcome s F lent).answer) empty ∙ w.0, g ∙ ap (λ (F : ℕ). (line_outcome s F lent).line) empty ∙ w.1)
 
   module _ (whole : sound s ≡ true) where
-    recover_swept : (deleted lent : List ℕ) → recover_refusal s 0 deleted lent ≡ none
+    recover_swept : (deleted lent : List ℕ) → recover_refusal s 0 deleted lent ≡ None
         → Swept s lent (recover_outcome s 0 deleted lent).answer (recover_outcome s 0 deleted lent).line (recover_outcome s 0 deleted lent).run
     unfolding recover_outcome
     recover_swept deleted lent fine = rw fine (record {
-      nobody = ap (λ (k : ℕ). recover-answer.Recovered k (length (recover_deletions s 0))) (sweep_is_quiet s).nobody;
+      nobody = ap (λ (k : ℕ). Ok (record { rolled_back = k; deleted = length (recover_deletions s 0) })) (sweep_is_quiet s).nobody;
       live = ap (written lent) (sweep_is_quiet s).line;
       vectors = (sweep_is_quiet s).vectors;
       marks = (sweep_is_quiet s).marks;

@@ -2,7 +2,7 @@
 -- record, so no record of a trace meets 16.
 -- Assumes nothing.
 use Rattle.std.specs.Prelude.{◌≡◌, ◌&&◌, ◌∷◌, ◌++◌, ◌+◌, ◌*◌, ◌≤◌, ◌<◌}
-use Rattle.laws.specs.Basics.{refl, sym, ◌∙◌, ap, Bool, true, false, List, [], Option, none, some, ℕ, suc, arith, eqb, leb, length, get_or, length-append, get_or-replicate, eq-eqb, le-ltb, leb-true, leb-false, by_bool}
+use Rattle.laws.specs.Basics.{refl, sym, ◌∙◌, ap, Bool, true, false, List, [], Option, None, Some, ℕ, suc, arith, eqb, leb, length, get_or, length-append, get_or-replicate, eq-eqb, le-ltb, leb-true, leb-false, by_bool}
 use lib.ListN.{get_or-eq_default}
 use Rattle.laws.specs.{Sums.sum_le, Tests.every, Truth.never_both}
 use Rattle.model.specs.declared.{Run.Run, Event.Event}
@@ -19,7 +19,7 @@ use Rattle.whole_runs.proofs.{whole.Reached.Reached, whole.Runs.run_after, whole
 use Rattle.whole_runs.proofs.WholeRuns.{started_state, after_one, reachable_reached, reached_answer}
 
 -- The start, one call more, one record more.
-pub traced_start : (n : ℕ) → start_refusal n ones ≡ none → Traced (start_outcome n ones).run
+pub traced_start : (n : ℕ) → start_refusal n ones ≡ None → Traced (start_outcome n ones).run
 unfolding Traced state_after
 traced_start n ok = (n, ok, [], refl)
 
@@ -40,7 +40,7 @@ one_most p = by_bool (leb (suc p) most_processes)
     (λ e. omega (arith, one_of p (leb-true (suc p) most_processes e)))
     (λ e. let past : length ones ≤ p = omega (arith, leb-false (suc p) most_processes e) in omega (arith, get_or-eq_default ones 0 past))
 
-module _ (n : ℕ) (ok : start_refusal n ones ≡ none) (calls : List Call) where
+module _ (n : ℕ) (ok : start_refusal n ones ≡ None) (calls : List Call) where
   abbrev r : Ideal
   r = run_after (begun n ones) calls
 
@@ -71,8 +71,8 @@ traced_kept s v = rw v.3 (ones_kept v.0 v.1 v.2)
 module _ (n : ℕ) where
   count_most : (h : Surviving) → ((p : ℕ) → h.block_counts p ≤ 1) → (o : Option ℕ) → count_of h o ≤ 1
   unfolding count_of
-  count_most h few none = omega arith
-  count_most h few (some p) = few p
+  count_most h few None = omega arith
+  count_most h few (Some p) = few p
 
   written_after : (h : Surviving) → ((p : ℕ) → h.block_counts p ≤ 1) → (e : Exchange) → ((after n h e).written ≤ h.written + 1) × ((p : ℕ) → (after n h e).block_counts p ≤ 1)
   unfolding after accepted
@@ -120,15 +120,15 @@ module _ (n : ℕ) (h : Surviving) (room : (p : ℕ) → past_bound h p ≡ fals
   none_is_16 b o (line F lent) = (λ q e. omega arith, (λ q e. omega arith, tt))
   none_is_16 b o (earliest l lent) = (λ q e. omega arith, (λ q e. omega arith, (λ q e. omega arith, (λ q e. omega arith, (λ q e. omega arith, tt)))))
 
-module _ (n : ℕ) (ok : start_refusal n ones ≡ none) where
+module _ (n : ℕ) (ok : start_refusal n ones ≡ None) where
   -- A state that at most that many calls from the start reach.
   abbrev Within : ℕ → Run → Type 0
   Within most s = (calls : List Call) × (length calls ≤ most) × (s ≡ state_after (start_outcome n ones).run calls)
 
   within_record : (most : ℕ) (s : Run) → Within most s → (e : Option Event) → Within (most + 1) (perform s e).run
   unfolding perform
-  within_record most s v none = (v.0, omega (arith, v.1), v.2)
-  within_record most s v (some e) = (
+  within_record most s v None = (v.0, omega (arith, v.1), v.2)
+  within_record most s v (Some e) = (
     v.0 ++ (call_of e ∷ []),
     omega (arith, v.1, length-append v.0 (call_of e ∷ [])),
     ap (λ (t : Run). (call t (call_of e)).run) v.2 ∙ sym (after_one (start_outcome n ones).run v.0 (call_of e)),
@@ -168,8 +168,8 @@ module _ (n : ℕ) (ok : start_refusal n ones ≡ none) where
 
   next_not_16 : (most : ℕ) (s : Run) → Within most s → most ≤ most_records → (e : Option Event) → (perform s e).reply.report.refused ≡ 16 → ⊥
   unfolding perform number
-  next_not_16 most s v few none q = omega arith
-  next_not_16 most s v few (some e) q = not_16 v.0 (omega (arith, v.1)) (call_of e) (rw v.2 at q)
+  next_not_16 most s v few None q = omega arith
+  next_not_16 most s v few (Some e) q = not_16 v.0 (omega (arith, v.1)) (call_of e) (rw v.2 at q)
 
 pub trace_meets_no_bound : TraceMeetsNoBound
 unfolding TraceMeetsNoBound state_after

@@ -1,9 +1,10 @@
 -- Demand 3, proved: right over whole runs. And what later work cites of states that calls from a start reach.
 -- Assumes nothing.
-use Rattle.std.specs.Prelude.{◌≡◌, ◌&&◌, ◌∷◌, ◌++◌, ◌^◌, ◌<◌}
-use Rattle.laws.specs.Basics.{refl, sym, ◌∙◌, ap, subst, Bool, true, not, List, [], none, some, ℕ, arith, eqb, leb, get_or, eq-eqb, eqb-true, by_eq}
+use Rattle.std.specs.Prelude.{◌≡◌, ◌&&◌, ◌∷◌, ◌++◌, ◌^◌, ◌<◌, Ok}
+use Rattle.laws.specs.Basics.{refl, sym, ◌∙◌, ap, subst, Bool, true, not, List, [], None, Some, ℕ, arith, eqb, leb, get_or, eq-eqb, eqb-true, by_eq}
 use Rattle.laws.specs.{Counting.count_mono, Elements.same_test, Options.some_same, Options.none≢some, Ranges.any_same, Sums.sum_same}
-use Rattle.model.specs.declared.{Named.Named, Run.Run, StartAnswer.TheVariants.Started}
+use Prim.{tt}
+use Rattle.model.specs.declared.{Named.Named, Run.Run}
 use Rattle.model.specs.declared.Refusal.TheVariants.{CountOutsideRange, BlockCountOutsideRange}
 use Rattle.model.specs.{Words.most_processes, Words.blank, Steps.started, Steps.opening, Steps.with_processes, Steps.start_state, Sound.is_block_count_of, Sound.sound}
 use Rattle.histories.specs.History.{checkpoints}
@@ -34,7 +35,7 @@ begin_keeps n p k hp = same_test (keeps (begin n) p k) (eqb k 0)
     (λ e. let w = keeps_out (begin n) p k e in by_eq p w.0
     (λ c. eq-eqb k 0 (some_same (sym w.2 ∙ rw (← c) (begin_pin_own n p))))
     (λ ne. absurd (none≢some (sym (begin_pin_other n p w.0 ne) ∙ w.2))))
-    (λ e. keeps_in (begin n) p p k (rw (begin_n n) hp) (begin_pin_own n p ∙ ap some (sym (eqb-true k 0 e))))
+    (λ e. keeps_in (begin n) p p k (rw (begin_n n) hp) (begin_pin_own n p ∙ ap Some (sym (eqb-true k 0 e))))
 
 begun_keeps : (n : ℕ) (block_counts : List ℕ) (p k : ℕ) → p < n → eqb k 0 ≡ keeps (begun n block_counts) p k
 begun_keeps n block_counts p k hp = sym (ledger_keeps (begin n) (open_ledger n block_counts) p k ∙ begin_keeps n p k hp)
@@ -54,18 +55,18 @@ begin_agrees n block_counts = record {
 }
 
 -- An accepted start reaches the state that it returns.
-pub started_state : (n : ℕ) (block_counts : List ℕ) → start_refusal n block_counts ≡ none → (start_outcome n block_counts).run ≡ start_state n block_counts
+pub started_state : (n : ℕ) (block_counts : List ℕ) → start_refusal n block_counts ≡ None → (start_outcome n block_counts).run ≡ start_state n block_counts
 unfolding start_outcome
 started_state n block_counts ok = rw ok
 
-started_answer : (n : ℕ) (block_counts : List ℕ) → start_refusal n block_counts ≡ none → (start_outcome n block_counts).answer ≡ Started
+started_answer : (n : ℕ) (block_counts : List ℕ) → start_refusal n block_counts ≡ None → (start_outcome n block_counts).answer ≡ Ok tt
 unfolding start_outcome
 started_answer n block_counts ok = rw ok
 
 begun_memory : (n : ℕ) (block_counts : List ℕ) → Memory (begun n block_counts)
 begun_memory n block_counts = let m = begin_memory n in record { marks = m.marks; sources = m.sources }
 
-pub start_reached : (n : ℕ) (block_counts : List ℕ) → start_refusal n block_counts ≡ none → Reached n (start_outcome n block_counts).run (beginning n block_counts) (begun n block_counts)
+pub start_reached : (n : ℕ) (block_counts : List ℕ) → start_refusal n block_counts ≡ None → Reached n (start_outcome n block_counts).run (beginning n block_counts) (begun n block_counts)
 start_reached n block_counts ok =
     let w = start_out n block_counts ok in
     record {
@@ -79,7 +80,7 @@ start_reached n block_counts ok =
     }
 
 -- Each accepted call is a step of the run as functions.
-step : (n : ℕ) (h : Surviving) (r : Ideal) → Inv r → Limits r → Memory r → r.n ≡ n → Agrees h r → (c : Call) → refusal (state_of r) c ≡ none → Step n h (state_of r) r (stepped r c) c
+step : (n : ℕ) (h : Surviving) (r : Ideal) → Inv r → Limits r → Memory r → r.n ≡ n → Agrees h r → (c : Call) → refusal (state_of r) c ≡ None → Step n h (state_of r) r (stepped r c) c
 unfolding refusal stepped
 step n h r v fit memory size g (checkpoint i deleted) e = basic_step n h r v fit memory size g i deleted e
 step n h r v fit memory size g (send i j) e = send_step n h r v fit memory size g i j e
@@ -95,7 +96,7 @@ on_state : (n : ℕ) (s : Run) (h : Surviving) (c : Call) (r r' : Ideal) → s �
 on_state n s h c r r' e v = rw e v
 
 -- An accepted call reaches its step, a refused one what was reached before.
-pub accepted_reached : (n : ℕ) (s : Run) (h : Surviving) (r : Ideal) → Reached n s h r → (c : Call) → refusal (state_of r) c ≡ none
+pub accepted_reached : (n : ℕ) (s : Run) (h : Surviving) (r : Ideal) → Reached n s h r → (c : Call) → refusal (state_of r) c ≡ None
     → Reached n (call s c).run (after n h (exchange s c)) (stepped r c)
 accepted_reached n s h r v c e =
     let t = step n h r v.inv v.limits v.memory v.size v.agrees c e in
@@ -167,7 +168,7 @@ answers_from n (c ∷ calls) s h r v (x ∷ earlier) later e q =
     let w = same_first (exchange s c) x (transcript (call s c).run calls) (earlier ++ (e ∷ later)) q in
     rw (← w.0) (answers_from n calls (call s c).run (after n h (exchange s c)) (unless_refused (refusal (state_of r) c) r (stepped r c)) (call_reached n s h r v c) earlier later e w.1)
 
-pub answers_right : (n : ℕ) (block_counts : List ℕ) → start_refusal n block_counts ≡ none → (calls : List Call) → AnswersAreRight n block_counts (transcript (start_outcome n block_counts).run calls)
+pub answers_right : (n : ℕ) (block_counts : List ℕ) → start_refusal n block_counts ≡ None → (calls : List Call) → AnswersAreRight n block_counts (transcript (start_outcome n block_counts).run calls)
 unfolding AnswersAreRight surviving
 answers_right n block_counts ok calls = answers_from n calls (start_outcome n block_counts).run (beginning n block_counts) (begun n block_counts) (start_reached n block_counts ok)
 
@@ -222,7 +223,7 @@ unfolding CountsBelowDecide start_outcome
 counts_below_decide n a b same = rw (same_refusal n a b same, same_start n a b same)
 
 -- Reachable states: the start, what a call makes of one, and that each is sound.
-pub reachable_start : (n : ℕ) (block_counts : List ℕ) → start_refusal n block_counts ≡ none → Reachable (start_outcome n block_counts).run
+pub reachable_start : (n : ℕ) (block_counts : List ℕ) → start_refusal n block_counts ≡ None → Reachable (start_outcome n block_counts).run
 unfolding Reachable state_after
 reachable_start n block_counts ok = (n, block_counts, ok, [], refl)
 
@@ -235,7 +236,7 @@ pub reachable_call : (s : Run) → Reachable s → (c : Call) → Reachable (cal
 unfolding Reachable
 reachable_call s v c = (v.0, v.1, v.2, v.3 ++ (c ∷ []), ap (λ (t : Run). (call t c).run) v.4 ∙ sym (after_one (start_outcome v.0 v.1).run v.3 c))
 
-pub reachable_reached : (n : ℕ) (block_counts : List ℕ) → start_refusal n block_counts ≡ none → (calls : List Call)
+pub reachable_reached : (n : ℕ) (block_counts : List ℕ) → start_refusal n block_counts ≡ None → (calls : List Call)
     → Reached n (state_after (start_outcome n block_counts).run calls) (surviving_from n (beginning n block_counts) (transcript (start_outcome n block_counts).run calls)) (run_after (begun n block_counts) calls)
 reachable_reached n block_counts ok calls = calls_reached n (start_outcome n block_counts).run (beginning n block_counts) (begun n block_counts) (start_reached n block_counts ok) calls
 

@@ -2,7 +2,7 @@
 -- Document 01: the surviving history "is built from the calls and their answers, and from nothing in the state".
 -- Assumes nothing.
 use Rattle.std.specs.Prelude.{◌≡◌, ◌&&◌, ◌||◌, ◌∷◌, ◌++◌, ◌⊎◌, ◌+◌, ◌-◌, ◌*◌, ◌^◌, ◌≤◌, ◌<◌}
-use Rattle.laws.specs.Basics.{Bool, true, false, not, List, [], Option, none, some, ℕ, suc, eqb, ltb, leb, length, get_or, drop, pick}
+use Rattle.laws.specs.Basics.{Bool, true, false, not, List, [], Option, None, Some, ℕ, suc, eqb, ltb, leb, length, get_or, drop, pick}
 use mathlib.Core.List.{Memᴰ}
 use Rattle.laws.specs.{Lists.table, Lists.gather, Search.any_below, Tests.count_below, Tests.some_of}
 use Rattle.model.specs.declared.Named.{Named}
@@ -92,13 +92,13 @@ reasons n h forcing ordered (earliest l lent) =
 -- The value of an accepted call: "checkpoint: index; send: message number; deliver: forced index, if any; .. recover: how many rolled back".
 -- A process rolled back "where the index written for a process is that of a checkpoint in its list".
 unfoldable pub value_of : ℕ → Surviving → Bool → Call → List ℕ → Option ℕ
-value_of n h forcing (checkpoint i deleted) indexes = some (live_of h i)
-value_of n h forcing (send i j) indexes = some (h.sends + 1)
-value_of n h forcing (deliver m deleted) indexes = pick forcing (some (live_of h (h.receiver m))) none
-value_of n h forcing (lose m) indexes = none
-value_of n h forcing (recover F deleted lent) indexes = some (count_below n (λ p. ltb (get_or indexes p 0) (live_of h p)))
-value_of n h forcing (line F lent) indexes = none
-value_of n h forcing (earliest l lent) indexes = none
+value_of n h forcing (checkpoint i deleted) indexes = Some (live_of h i)
+value_of n h forcing (send i j) indexes = Some (h.sends + 1)
+value_of n h forcing (deliver m deleted) indexes = pick forcing (Some (live_of h (h.receiver m))) None
+value_of n h forcing (lose m) indexes = None
+value_of n h forcing (recover F deleted lent) indexes = Some (count_below n (λ p. ltb (get_or indexes p 0) (live_of h p)))
+value_of n h forcing (line F lent) indexes = None
+value_of n h forcing (earliest l lent) indexes = None
 
 -- The deletion list and the line list that a call is lent; one that it is not lent is empty. The failed set of a call that names one.
 unfoldable pub lent_deletions : Call → List ℕ
@@ -120,13 +120,13 @@ lent_line (line F lent) = lent
 lent_line (earliest l lent) = lent
 
 unfoldable pub failed_set : Call → Option ℕ
-failed_set (checkpoint i deleted) = none
-failed_set (send i j) = none
-failed_set (deliver m deleted) = none
-failed_set (lose m) = none
-failed_set (recover F deleted lent) = some F
-failed_set (line F lent) = some F
-failed_set (earliest l lent) = none
+failed_set (checkpoint i deleted) = None
+failed_set (send i j) = None
+failed_set (deliver m deleted) = None
+failed_set (lose m) = None
+failed_set (recover F deleted lent) = Some F
+failed_set (line F lent) = Some F
+failed_set (earliest l lent) = None
 
 -- "what lies past the pairs is unchanged", "the rest of it is unchanged": numbers at the front of a lent list, the rest as it was lent.
 abbrev pub at_front : List ℕ → List ℕ → List ℕ
@@ -227,7 +227,7 @@ pub record AnswerIsRight (n : ℕ) (h : Surviving) (e : Exchange) : Type 0 where
   pub number : e.reply.report.refused ≡ lowest (reasons n h forcing ordered e.made)
   -- "A refusal returns its number ..; lent lists and buffers keep every entry." Note 1: "and 0 with a refusal"
   pub refused : (e.reply.report.refused ≡ 0 → ⊥)
-      → (e.reply.report.value ≡ none) × (e.reply.report.deletions ≡ 0) × (e.reply.deleted ≡ lent_deletions e.made) × (e.reply.line ≡ lent_line e.made)
+      → (e.reply.report.value ≡ None) × (e.reply.report.deletions ≡ 0) × (e.reply.deleted ≡ lent_deletions e.made) × (e.reply.line ≡ lent_line e.made)
       × (e.reply.rose ≡ 0)
   -- if accepted: the value; the pairs, their number and the rest of the list; the line and the rest of its list
   pub value : e.reply.report.refused ≡ 0 → e.reply.report.value ≡ value_of n h forcing e.made e.reply.line
@@ -237,7 +237,7 @@ pub record AnswerIsRight (n : ℕ) (h : Surviving) (e : Exchange) : Type 0 where
   -- the set of entries that rose; 0 of a call that is no delivery
   pub rose_right : e.reply.report.refused ≡ 0 → (m : ℕ) (deleted : List ℕ) → e.made ≡ deliver m deleted → RightRisen n h m e.reply.rose
   pub rose_none : ((m : ℕ) (deleted : List ℕ) → e.made ≡ deliver m deleted → ⊥) → e.reply.rose ≡ 0
-  pub line_right : e.reply.report.refused ≡ 0 → (F : ℕ) → failed_set e.made ≡ some F → RightLine n h F (λ p. get_or e.reply.line p 0)
+  pub line_right : e.reply.report.refused ≡ 0 → (F : ℕ) → failed_set e.made ≡ Some F → RightLine n h F (λ p. get_or e.reply.line p 0)
   pub earliest_right : e.reply.report.refused ≡ 0 → (l : List Named) (lent : List ℕ) → e.made ≡ earliest l lent → RightEarliest n h l (λ p. get_or e.reply.line p 0)
   -- "20 for two of which one comes causally before the other": then no consistent line passes through all of them
   pub none_through : e.reply.report.refused ≡ 20 → (l : List Named) (lent : List ℕ) → e.made ≡ earliest l lent → NoneThrough n h l

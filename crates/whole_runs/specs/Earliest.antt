@@ -1,15 +1,16 @@
 -- Document 02, Note 8, "The earliest state to show in a debugger": "Developers pick some kept checkpoints and want the earliest consistent line through all of
 -- them." The line, the refusals and the outcome of the call. What is promised of the line is in Answers and WholeRuns.
 -- Assumes nothing.
-use Rattle.std.specs.Prelude.{◌||◌, ◌∷◌}
+use Rattle.std.specs.Prelude.{◌||◌, ◌∷◌, Ok}
 use Rattle.laws.specs.Basics.{Bool, false, not, List, [], Option, ℕ, max, eqb, ltb, leb, length}
 use Rattle.laws.specs.{Lists.select, Lists.or_else, Lists.last_of, Lists.table, Tests.some_of}
-use Rattle.model.specs.declared.{Interval.Interval, Checkpoint.Checkpoint, Named.Named, Run.Run, Refusal.Refusal, LineAnswer.LineAnswer}
+use Prim.{tt}
+use Rattle.model.specs.Shapes.{LineAnswer}
+use Rattle.model.specs.declared.{Interval.Interval, Checkpoint.Checkpoint, Named.Named, Run.Run, Refusal.Refusal}
 use Rattle.model.specs.declared.Refusal.TheVariants.{ListTooShort, NoSuchProcess, UnfitNamedList, NotKept, CausallyOrdered}
 use Rattle.model.specs.Words.{entry, comes_before, no_checkpoint, process, keeps_in}
 use Rattle.model.specs.Refusals.{first_of, unsound, short_line}
-use Rattle.whole_runs.specs.Outcomes.{Outcome, judged, written}
-use Rattle.model.specs.declared.LineAnswer.TheVariants as line_answer
+use Rattle.whole_runs.specs.Outcomes.{Outcome, judged, refused_outcome, written}
 
 -- "They hand over a list of named checkpoints, each a process and an index". The named checkpoint among those that its process keeps, and its vector.
 unfoldable pub is_named : Named → Checkpoint → Bool
@@ -61,6 +62,5 @@ earliest_refusal s l line = first_of (
 
 -- "It changes no state."
 unfoldable pub earliest_outcome : Run → List Named → List ℕ → Outcome LineAnswer
-earliest_outcome s l line = judged (earliest_refusal s l line)
-    (λ r. record { run = s; answer = line_answer.Refused r; rose = 0; deleted = []; line = line })
-    (record { run = s; answer = line_answer.Written; rose = 0; deleted = []; line = written line (earliest_line s l) })
+earliest_outcome s l line = judged (earliest_refusal s l line) (refused_outcome s [] line)
+    (record { run = s; answer = Ok tt; rose = 0; deleted = []; line = written line (earliest_line s l) })

@@ -1,7 +1,7 @@
 -- Document 01, "The trace": what the replay program prints, byte by byte, and Note 11 of document 02: where it stops.
 -- Assumes nothing.
 use Rattle.std.specs.Prelude.{◌&&◌, ◌||◌, ◌∷◌, ◌++◌, ◌+◌, ◌/◌, ◌%◌}
-use Rattle.laws.specs.Basics.{Bool, true, List, [], Option, none, some, ℕ, zero, suc, eqb, ltb, replicate, pick}
+use Rattle.laws.specs.Basics.{Bool, true, List, [], Option, None, Some, ℕ, zero, suc, eqb, ltb, replicate, pick}
 use Rattle.laws.specs.Tests.{same}
 use Rattle.model.specs.declared.{Run.Run, Event.Event, Refusal.Refusal}
 use Rattle.model.specs.declared.Event.TheVariants.{Checkpoint, Send, Deliver, Lose, Recover}
@@ -33,8 +33,8 @@ line_feed = 10
 
 -- "a value (.. deliver: forced index or a hyphen; lose: a hyphen; ..)"
 unfoldable pub value_text : Option ℕ → List ℕ
-value_text none = hyphen ∷ []
-value_text (some v) = decimal v
+value_text None = hyphen ∷ []
+value_text (Some v) = decimal v
 
 -- "the count of deletions, and each as process:index": count pairs from the front of the deletion list.
 unfoldable pub deletions_text : ℕ → List ℕ → List ℕ
@@ -67,8 +67,8 @@ call_of (Recover F) = recover F (replicate most_deletions 0) (replicate most_pro
 
 -- One record: the state after it, and the reply that its line prints. "14: .. given before any other number for that record."
 unfoldable pub perform : Run → Option Event → Answered
-perform s none = record { run = s; reply = record { report = refusing MalformedRecord; rose = 0; deleted = []; line = [] } }
-perform s (some e) = call s (call_of e)
+perform s None = record { run = s; reply = record { report = refusing MalformedRecord; rose = 0; deleted = []; line = [] } }
+perform s (Some e) = call s (call_of e)
 
 -- "The program ends after record 1,000,000,000 and reads nothing past it."
 abbrev pub most_records : ℕ
@@ -116,8 +116,8 @@ state_after_records s (a ∷ b ∷ c ∷ d ∷ l) = state_after_records (perform
 -- "The first byte is n." "12: no first byte." "A bad first byte prints record number 0 and the refusal and ends".
 -- Note 5: "a trace run uses 1", as the block count of each process.
 unfoldable pub started : Bool → Option Refusal → ℕ → List ℕ → List ℕ
-started all (some r) n l = refusal_text 0 r
-started all none n l = records all 0 (start_state n ones) l
+started all (Some r) n l = refusal_text 0 r
+started all None n l = records all 0 (start_state n ones) l
 
 unfoldable pub listing : Bool → List ℕ → List ℕ
 listing all [] = refusal_text 0 NoFirstByte

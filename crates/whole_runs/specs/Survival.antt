@@ -1,7 +1,7 @@
 -- Document 01, "The surviving history": "It is built from the calls and their answers, and from nothing in the state".
 -- Assumes nothing.
 use Rattle.std.specs.Prelude.{◌&&◌, ◌||◌, ◌∷◌, ◌++◌, ◌+◌, ◌*◌}
-use Rattle.laws.specs.Basics.{Bool, true, false, not, List, [], Option, none, some, ℕ, eqb, ltb, leb, get_or, pick}
+use Rattle.laws.specs.Basics.{Bool, true, false, not, List, [], Option, None, Some, ℕ, eqb, ltb, leb, get_or, pick}
 use Rattle.laws.specs.{Search.any_below, Sums.sum_below, Update.upd}
 use Rattle.model.specs.Words.{initial, basic, forced}
 use Rattle.histories.specs.History.{HistoryEvent, stored, sent, received, Lists, checkpoints, up_to, still_sent}
@@ -44,8 +44,8 @@ added lists p e = upd lists p (lists p ++ (e ∷ []))
 
 -- "the next checkpoint, if the answer names a forced one"
 unfoldable pub forced_first : Lists → ℕ → Option ℕ → Lists
-forced_first lists p none = lists
-forced_first lists p (some index) = added lists p stored
+forced_first lists p None = lists
+forced_first lists p (Some index) = added lists p stored
 
 -- "At an accepted recover, where the index written for a process is that of a checkpoint in its list, all after that checkpoint goes from the list.
 -- Other lists stay."
@@ -116,17 +116,17 @@ kept_after h lists r p k = ltb k (checkpoints (lists p)) && (h.kept p k || leb (
 
 -- Note 5: the process whose checkpoint an accepted call stored, if it stored one: of a delivery, "if the answer names a forced one".
 unfoldable pub forced_at : Surviving → ℕ → Option ℕ → Option ℕ
-forced_at h m none = none
-forced_at h m (some index) = some (h.receiver m)
+forced_at h m None = None
+forced_at h m (Some index) = Some (h.receiver m)
 
 unfoldable pub stored_by : Surviving → Call → Reply → Option ℕ
-stored_by h (checkpoint i deleted) r = some i
-stored_by h (send i j) r = none
+stored_by h (checkpoint i deleted) r = Some i
+stored_by h (send i j) r = None
 stored_by h (deliver m deleted) r = forced_at h m r.report.value
-stored_by h (lose m) r = none
-stored_by h (recover F deleted lent) r = none
-stored_by h (line F lent) r = none
-stored_by h (earliest l lent) r = none
+stored_by h (lose m) r = None
+stored_by h (recover F deleted lent) r = None
+stored_by h (line F lent) r = None
+stored_by h (earliest l lent) r = None
 
 -- Note 5: "its cause (0 initial, 1 basic, 2 forced)", by the call that stored it. The others store none.
 unfoldable pub cause_of : Call → ℕ
@@ -141,14 +141,14 @@ cause_of (earliest l lent) = 0
 -- The causes after it: the new checkpoint is "numbered one above the last there". Where a recovery took that number from the list, it is stored again, and the
 -- cause is the new one's.
 unfoldable pub cause_with : Surviving → ℕ → Option ℕ → ℕ → ℕ → ℕ
-cause_with h cause none = h.cause
-cause_with h cause (some p) = upd h.cause p (upd (h.cause p) (checkpoints (h.lists p)) cause)
+cause_with h cause None = h.cause
+cause_with h cause (Some p) = upd h.cause p (upd (h.cause p) (checkpoints (h.lists p)) cause)
 
 -- Note 5: "Written is defined from the history: each checkpoint ever stored, rolled back or not, counts once." So the blocks of the one that a call stored are
 -- added, and nothing is taken back.
 unfoldable pub count_of : Surviving → Option ℕ → ℕ
-count_of h none = 0
-count_of h (some p) = h.block_counts p
+count_of h None = 0
+count_of h (Some p) = h.block_counts p
 
 -- Note 5: "deleted is defined from the pairs handed out": for each pair the block count of its process.
 unfoldable pub handed_blocks : Surviving → Reply → ℕ

@@ -1,9 +1,10 @@
 -- Demand 3, "Right over whole runs", as one type. Its proof is in proofs/.
 -- Assumes nothing.
-use Rattle.std.specs.Prelude.{◌≡◌, ◌&&◌, ◌∷◌, ◌++◌, ◌⊎◌, ◌+◌, ◌*◌, ◌^◌, ◌≤◌, ◌<◌}
-use Rattle.laws.specs.Basics.{true, not, List, [], Option, none, some, ℕ, eqb, length, get_or}
+use Rattle.std.specs.Prelude.{◌≡◌, ◌&&◌, ◌∷◌, ◌++◌, ◌⊎◌, ◌+◌, ◌*◌, ◌^◌, ◌≤◌, ◌<◌, Ok}
+use Rattle.laws.specs.Basics.{true, not, List, [], Option, None, Some, ℕ, eqb, length, get_or}
 use Rattle.laws.specs.{Search.all_below, Sums.sum_below, Tests.count_below, Tests.every, Tests.some_of}
-use Rattle.model.specs.declared.{Checkpoint.Checkpoint, Named.Named, Run.Run, Event.Event, StartAnswer.TheVariants.Started}
+use Prim.{tt}
+use Rattle.model.specs.declared.{Checkpoint.Checkpoint, Named.Named, Run.Run, Event.Event}
 use Rattle.model.specs.declared.Refusal.TheVariants.{ListTooShort, CausallyOrdered}
 use Rattle.model.specs.{Words.ones, Words.last_stored_of, Words.comes_before, Words.names, Words.process, Words.keeps_in, Words.own, Words.failed, Sound.sound}
 use Rattle.model.specs.{Steps.start_state, Steps.allowed, Steps.line_of, Refusals.start_refusal, Refusals.line_refusal, Refusals.recover_refusal}
@@ -21,10 +22,10 @@ reported s F p = get_or (line_of s F) p 0
 pub record LineIsRight (n : ℕ) (s : Run) (h : Surviving) (F : ℕ) : Type 0 where
   -- the state is sound; "on such a state this call meets no number but 3"
   pub state_sound : sound s ≡ true
-  pub line_accepted : (lent : List ℕ) → n ≤ length lent → line_refusal s F lent ≡ none
-  pub line_short : (lent : List ℕ) → length lent < n → line_refusal s F lent ≡ some ListTooShort
-  pub recover_accepted : (deleted lent : List ℕ) → 2 * n * n ≤ length deleted → n ≤ length lent → recover_refusal s F deleted lent ≡ none
-  pub recover_short : (deleted lent : List ℕ) → (length deleted < 2 * n * n) ⊎ (length lent < n) → recover_refusal s F deleted lent ≡ some ListTooShort
+  pub line_accepted : (lent : List ℕ) → n ≤ length lent → line_refusal s F lent ≡ None
+  pub line_short : (lent : List ℕ) → length lent < n → line_refusal s F lent ≡ Some ListTooShort
+  pub recover_accepted : (deleted lent : List ℕ) → 2 * n * n ≤ length deleted → n ≤ length lent → recover_refusal s F deleted lent ≡ None
+  pub recover_short : (deleted lent : List ℕ) → (length deleted < 2 * n * n) ⊎ (length lent < n) → recover_refusal s F deleted lent ≡ Some ListTooShort
   -- both calls write the same line
   pub line_writes : (lent : List ℕ) → n ≤ length lent → (p : ℕ) → p < n → get_or (line_outcome s F lent).line p 0 ≡ reported s F p
   pub recover_writes : (deleted lent : List ℕ) → 2 * n * n ≤ length deleted → n ≤ length lent → (p : ℕ) → p < n
@@ -67,52 +68,52 @@ CountsBelowDecide = (n : ℕ) (a b : List ℕ) → ((p : ℕ) → p < n → get_
 -- is, by the surviving history before it, is in Answers; which checkpoints are kept, by the lists alone, is in Needed. Together they leave nothing in an
 -- answer free.
 unfoldable pub RightOverWholeRuns : Type 0
-RightOverWholeRuns = (n : ℕ) (block_counts : List ℕ) → start_refusal n block_counts ≡ none → (calls : List Call) →
+RightOverWholeRuns = (n : ℕ) (block_counts : List ℕ) → start_refusal n block_counts ≡ None → (calls : List Call) →
     let s₀ = (start_outcome n block_counts).run in
     let s = state_after s₀ calls in
     let h = surviving n block_counts (transcript s₀ calls) in
-    ((start_outcome n block_counts).answer ≡ Started) × (AnswersAreRight n block_counts (transcript s₀ calls)) × (KeptIsRight n s h) × (BlocksAreRight n s h)
+    ((start_outcome n block_counts).answer ≡ Ok tt) × (AnswersAreRight n block_counts (transcript s₀ calls)) × (KeptIsRight n s h) × (BlocksAreRight n s h)
     × ((F : ℕ) → F < 2 ^ n → LineIsRight n s h F)
 
 -- A state that calls from an accepted start reach.
 unfoldable pub Reachable : Run → Type 0
-Reachable s = (n : ℕ) × (block_counts : List ℕ) × (start_refusal n block_counts ≡ none) × (calls : List Call) × (s ≡ state_after (start_outcome n block_counts).run calls)
+Reachable s = (n : ℕ) × (block_counts : List ℕ) × (start_refusal n block_counts ≡ None) × (calls : List Call) × (s ≡ state_after (start_outcome n block_counts).run calls)
 
 -- Note 5: "a trace run uses 1". A state that calls from an accepted start with these block counts reach. The replay of a trace has no other states.
 unfoldable pub Traced : Run → Type 0
-Traced s = (n : ℕ) × (start_refusal n ones ≡ none) × (calls : List Call) × (s ≡ state_after (start_outcome n ones).run calls)
+Traced s = (n : ℕ) × (start_refusal n ones ≡ None) × (calls : List Call) × (s ≡ state_after (start_outcome n ones).run calls)
 
 -- No record of a trace meets 16: whatever bytes stand before it, up to record 1,000,000,000, the last that the program reads.
 unfoldable pub TraceMeetsNoBound : Type 0
-TraceMeetsNoBound = (n : ℕ) → start_refusal n ones ≡ none → (bytes : List ℕ) → length bytes < 4 * most_records → (next : Option Event)
+TraceMeetsNoBound = (n : ℕ) → start_refusal n ones ≡ None → (bytes : List ℕ) → length bytes < 4 * most_records → (next : Option Event)
     → (perform (state_after_records (start_state n ones) bytes) next).reply.report.refused ≡ 16 → ⊥
 
 -- Demand 3 as a line or recover call says it of the state s that it is handed: whatever calls from an accepted start led to s, the line for the
 -- failed set F and the checkpoints that are kept are right, judged by the surviving history of those calls.
 unfoldable pub LinePromise : Run → ℕ → Type 0
-LinePromise s F = (n : ℕ) (block_counts : List ℕ) → start_refusal n block_counts ≡ none → (calls : List Call) → s ≡ state_after (start_outcome n block_counts).run calls → F < 2 ^ n →
+LinePromise s F = (n : ℕ) (block_counts : List ℕ) → start_refusal n block_counts ≡ None → (calls : List Call) → s ≡ state_after (start_outcome n block_counts).run calls → F < 2 ^ n →
     let h = surviving n block_counts (transcript (start_outcome n block_counts).run calls) in
     (LineIsRight n s h F) × (KeptIsRight n s h)
 
 -- Note 8: what is promised of a state s and the surviving history h before a call for the named checkpoints l, with the line list as it is lent.
 pub record EarliestIsRight (n : ℕ) (s : Run) (h : Surviving) (l : List Named) (lent : List ℕ) : Type 0 where
   -- the line of an accepted call is right by the history
-  pub right : earliest_refusal s l lent ≡ none → RightEarliest n h l (greatest s l)
+  pub right : earliest_refusal s l lent ≡ None → RightEarliest n h l (greatest s l)
   -- 20 is given only where no consistent line passes through all of them
-  pub none_through : earliest_refusal s l lent ≡ some CausallyOrdered → NoneThrough n h l
+  pub none_through : earliest_refusal s l lent ≡ Some CausallyOrdered → NoneThrough n h l
 
 -- Note 8 as the call says it of the state that it is handed: "On every state reached from a start".
 unfoldable pub EarliestPromise : Run → List Named → List ℕ → Type 0
-EarliestPromise s l lent = (n : ℕ) (block_counts : List ℕ) → start_refusal n block_counts ≡ none → (calls : List Call) → s ≡ state_after (start_outcome n block_counts).run calls
+EarliestPromise s l lent = (n : ℕ) (block_counts : List ℕ) → start_refusal n block_counts ≡ None → (calls : List Call) → s ≡ state_after (start_outcome n block_counts).run calls
     → EarliestIsRight n s (surviving n block_counts (transcript (start_outcome n block_counts).run calls)) l lent
 
 -- Demand 3 as a call c on the state s says it of the state t that it returns: whatever calls from an accepted start led to s, what t keeps and its blocks
 -- are right, judged by the surviving history of those calls and of this one after them, refused or accepted.
 unfoldable pub StatePromise : Run → Call → Run → Type 0
-StatePromise s c t = (n : ℕ) (block_counts : List ℕ) → start_refusal n block_counts ≡ none → (calls : List Call) → s ≡ state_after (start_outcome n block_counts).run calls →
+StatePromise s c t = (n : ℕ) (block_counts : List ℕ) → start_refusal n block_counts ≡ None → (calls : List Call) → s ≡ state_after (start_outcome n block_counts).run calls →
     let h = surviving n block_counts (transcript (start_outcome n block_counts).run (calls ++ (c ∷ []))) in
     (KeptIsRight n t h) × (BlocksAreRight n t h)
 
 -- The same as an accepted start says it of the state t that it returns, by the history of no call.
 unfoldable pub StartPromise : ℕ → List ℕ → Run → Type 0
-StartPromise n block_counts t = start_refusal n block_counts ≡ none → let h = surviving n block_counts [] in (KeptIsRight n t h) × (BlocksAreRight n t h)
+StartPromise n block_counts t = start_refusal n block_counts ≡ None → let h = surviving n block_counts [] in (KeptIsRight n t h) × (BlocksAreRight n t h)

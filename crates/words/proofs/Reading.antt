@@ -1,10 +1,10 @@
 -- Reading after puts: what was put, and what was not touched.
 -- Assumes nothing.
-use Rattle.std.specs.Prelude.{◌≡◌, ◌∷◌, ◌+◌, ◌-◌, ◌*◌, ◌/◌, ◌%◌, ◌≤◌, ◌<◌}
+use Rattle.std.specs.Prelude.{◌≡◌, ◌∷◌, ◌+◌, ◌-◌, ◌*◌, ◌/◌, ◌%◌, ◌≤◌, ◌<◌, Some}
 use Rattle.laws.specs.Basics.{refl, sym, ◌∙◌, ap, true, List, [], ℕ, zero, suc, arith, eqb, length, get_or, drop, set, length-set, get_or-set_same, get_or-set_other, eq-eqb, ne_eqb, eqb-true, by_eq}
 use native.Mathlib.Nat.{add-zero, div-add-mod}
 use native.Mathlib.Numerals.{add-one}
-use Rattle.model.specs.{Words.names, declared.Pin.TheVariants.At, declared.CheckpointIndex.CheckpointIndex}
+use Rattle.model.specs.{Words.names, declared.CheckpointIndex.CheckpointIndex}
 use Rattle.words.specs.{Layout.word, Layout.index_of_def, Layout.pin_of_def, Puts.Put, Puts.put_from, Puts.puts}
 
 module _ (w : List ℕ) (at : ℕ) (f : ℕ → ℕ) where
@@ -82,17 +82,17 @@ pub wide4_back : (x : ℕ) → x % 65_536 + 65_536 * (x / 65_536 % 65_536) + 4_2
 wide4_back x = omega arith
 
 -- The pin of a word that is not 0.
-pub pin_some : (x : ℕ) → 1 ≤ x → pin_of_def x ≡ At (index_of_def x)
+pub pin_some : (x : ℕ) → 1 ≤ x → pin_of_def x ≡ Some (index_of_def x)
 unfolding pin_of_def
 pin_some zero h = absurd (omega arith)
-pin_some (suc k) h = ap (λ (m : ℕ). At (record { 0 = m })) (let e : k ≡ suc k - 1 = omega arith in e)
+pin_some (suc k) h = ap (λ (m : ℕ). Some (record { 0 = m })) (let e : k ≡ suc k - 1 = omega arith in e)
 
 -- The word of a checkpoint's index.
 pub index_back : (a : CheckpointIndex) → index_of_def (a.0 + 1) ≡ a
 index_back a = ap (λ (m : ℕ). record { 0 = m }) (let e : a.0 + 1 - 1 ≡ a.0 = omega arith in e)
 
-pub pin_back : (a : CheckpointIndex) → pin_of_def (a.0 + 1) ≡ At a
-pin_back a = pin_some (a.0 + 1) (omega arith) ∙ ap At (index_back a)
+pub pin_back : (a : CheckpointIndex) → pin_of_def (a.0 + 1) ≡ Some a
+pin_back a = pin_some (a.0 + 1) (omega arith) ∙ ap Some (index_back a)
 
 -- A pin names a checkpoint exactly if the two words are the same.
 pub names_word : (x y : ℕ) → 1 ≤ y → names (pin_of_def x) (index_of_def y) ≡ eqb x y

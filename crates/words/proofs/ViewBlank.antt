@@ -1,9 +1,9 @@
 -- Words of zeros but for n and for block counts: "a state of zeros with every pin none", with its count. A start goes on from here, process by process.
 -- Assumes nothing.
-use Rattle.std.specs.Prelude.{◌≡◌, ◌+◌, ◌≤◌, ◌<◌}
+use Rattle.std.specs.Prelude.{◌≡◌, ◌+◌, ◌≤◌, ◌<◌, None}
 use Rattle.laws.specs.Basics.{refl, sym, ◌∙◌, ap, true, false, List, [], ℕ, arith, ltb, length, replicate, get_or-replicate, le-ltb, pick}
 use Rattle.laws.specs.{Choice.pick_same, Lists.select, Lists.table, Prefixes.placed_none, Tables.table_same, Tables.table_replicate}
-use Rattle.model.specs.declared.{Interval.Interval, Pin.TheVariants.Nothing}
+use Rattle.model.specs.declared.Interval.{Interval}
 use Rattle.model.specs.Words.{most_processes, most_under_way, zero_vector, no_pins_of, no_checkpoint, no_message, blank}
 use Rattle.words.specs.Layout.{word, count_of, kept_count_at_of, mark_at, blocks_at_of, part_at, pins_at_of, index_at_of, cause_at_of, stored_at, low_at, high_at, sender_at_of, receiver_at_of, carried_at, pin_of_def, vector_in, pins_in, mark_in, checkpoint_in, is_kept_in, kept_in, messages_in, of_processes, decoded, end_fits_of, fits, run_of}
 use Rattle.words.specs.Clean.{Clean}
@@ -16,7 +16,7 @@ module _ (w : List ℕ) (front : (k : ℕ) → 1 ≤ k → k < 48 → word w k �
 
   no_pins : (at : ℕ) → 64 ≤ at → pins_in w at ≡ no_pins_of
   unfolding pins_in pin_of_def
-  no_pins at low = table_same 16 (λ f. pin_of_def (word w (at + f))) (λ f. Nothing) (λ f lt. rw (rest (at + f) (omega arith))) ∙ sym (table_replicate 16 Nothing)
+  no_pins at low = table_same 16 (λ f. pin_of_def (word w (at + f))) (λ f. None) (λ f lt. rw (rest (at + f) (omega arith))) ∙ sym (table_replicate 16 None)
 
   no_mark : (p : ℕ) → p < 16 → mark_in w p ≡ false
   unfolding mark_in

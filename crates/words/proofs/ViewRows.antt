@@ -1,19 +1,20 @@
 -- What the rows of words hold whose run is sound: no entry above the own entry that it is of, zeros at n and above, each pin at a kept checkpoint and each kept
 -- checkpoint pinned.
 -- Assumes nothing.
-use Rattle.std.specs.Prelude.{◌≡◌, ◌+◌, ◌≤◌, ◌<◌}
+use Rattle.std.specs.Prelude.{◌≡◌, ◌+◌, ◌≤◌, ◌<◌, None}
 use Rattle.laws.specs.Basics.{ap, Bool, true, List, ℕ, arith, eqb, leb, get_or, eqb-true, leb-true}
 use Rattle.laws.specs.{Lists.table, Rows.every_at, Rows.every_beyond, Rows.some_where, Search.all_out, Tables.length_table, Tables.get_d_table, Tests.every}
-use Rattle.model.specs.declared.{Interval.Interval, Pin.Pin, Pin.TheVariants.Nothing, Checkpoint.Checkpoint}
+use Rattle.model.specs.Shapes.{Pin}
+use Rattle.model.specs.declared.{Interval.Interval, Checkpoint.Checkpoint}
 use Rattle.model.specs.{Words.entry, Words.names, Words.is_pinned, Words.no_checkpoint, Words.process, Words.own, Sound.within, Sound.zero_from, Sound.sound}
 use Rattle.words.specs.Layout.{word, count_of, kept_count_at_of, part_at, pins_at_of, index_at_of, stored_at, pin_of_def, vector_in, pins_in, checkpoint_in, run_of}
 use Rattle.words.specs.Parts.{process_in}
 use Rattle.words.proofs.{Reading.pinned_word, Same.vector_length, Same.vector_word, Same.pins_length, View.count_is_lem}
 use Rattle.words.proofs.ViewSound.{sound_fits, sound_few, sound_known, sound_process_is, sound_own_is, sound_kept_is, sound_part}
 
-pins_word : (w : List ℕ) (at f : ℕ) → f < 16 → get_or (pins_in w at) f Nothing ≡ pin_of_def (word w (at + f))
+pins_word : (w : List ℕ) (at f : ℕ) → f < 16 → get_or (pins_in w at) f None ≡ pin_of_def (word w (at + f))
 unfolding pins_in
-pins_word w at f lt = get_d_table 16 (λ q. pin_of_def (word w (at + q))) f Nothing lt
+pins_word w at f lt = get_d_table 16 (λ q. pin_of_def (word w (at + q))) f None lt
 
 module _ (w : List ℕ) (h : sound (run_of w) ≡ true) where
   count : (run_of w).count ≡ count_of w
@@ -61,6 +62,6 @@ module _ (w : List ℕ) (h : sound (run_of w) ≡ true) where
     kept_pinned k less =
         let e = kept_fact (is_pinned (process (run_of w) p).pins) (sound_known w h p lt).kept_pinned k less in
         let some = rw (sound_process_is w h p lt) at e in
-        let found = some_where (λ (pin : Pin). names pin (checkpoint_in w p k).index) (pins_in w (pins_at_of p)) Nothing some in
+        let found = some_where (λ (pin : Pin). names pin (checkpoint_in w p k).index) (pins_in w (pins_at_of p)) None some in
         let under : found.0 < 16 = omega (arith, found.1, pins_length w (pins_at_of p)) in
         (found.0, under, pinned_word (word w (pins_at_of p + found.0)) (word w (index_at_of p k)) ((sound_part w h p lt).used k less) (rw (pins_word w (pins_at_of p) found.0 under) at found.2))

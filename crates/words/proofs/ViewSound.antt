@@ -1,11 +1,11 @@
 -- What words hold whose run is sound: each clause of document 01's "A sound state", place by place.
 -- Assumes nothing.
-use Rattle.std.specs.Prelude.{◌≡◌, ◌&&◌, ◌+◌, ◌-◌, ◌≤◌, ◌<◌}
-use Rattle.laws.specs.Basics.{sym, ◌∙◌, ap, true, List, map, some, ℕ, suc, arith, eqb, leb, length, get_or, take, length-take-le, eqb-true, eqb-false, leb-true, not-true, by_bool, by_eq}
+use Rattle.std.specs.Prelude.{◌≡◌, ◌&&◌, ◌+◌, ◌-◌, ◌≤◌, ◌<◌, None}
+use Rattle.laws.specs.Basics.{sym, ◌∙◌, ap, true, List, map, Some, ℕ, suc, arith, eqb, leb, length, get_or, take, length-take-le, eqb-true, eqb-false, leb-true, not-true, by_bool, by_eq}
 use lib.Seq.{get_or-take}
 use Rattle.laws.specs.{Lists.select, Lists.last_of, Lists.table, Lists.placed, Prefixes.placed_length, Rows.by_lt, Rows.every_at, Rows.every_beyond, Tests.every}
 use Rattle.laws.specs.{Select.last_of_snoc, Tables.length_table, Tables.get_d_table, Truth.and_out}
-use Rattle.model.specs.declared.{Interval.Interval, Pin.TheVariants.Nothing, Checkpoint.Checkpoint, Message.Message}
+use Rattle.model.specs.declared.{Interval.Interval, Checkpoint.Checkpoint, Message.Message}
 use Rattle.model.specs.Words.{most_processes, most_under_way, most_messages, most_block_count, most_blocks, entry, Process, no_checkpoint, no_message, block_count, blank, process, own, under_way}
 use Rattle.model.specs.Sound.{ascending, message_sound, unused_message, cause_sound, is_block_count_of, record_sound, sound}
 use Rattle.model.specs.laws.Sound.{SoundProcess, SoundState, sound_message, sound_state}
@@ -49,7 +49,7 @@ pub record SoundWords (w : List ℕ) : Type 0 where
   pub size : length w ≡ 6464
   pub end : end_of w ≤ 64
   -- "Count 1 to 16."
-  pub some : 1 ≤ count_of w
+  pub some_process : 1 ≤ count_of w
   pub few : count_of w ≤ 16
   pub parts : (p : ℕ) → p < count_of w → SoundPart w p
   -- "Messages ascend by number, from 1 to the last used, at most 64; sender and receiver are in the run and differ. The last used number is at most
@@ -68,7 +68,7 @@ module _ (w : List ℕ) (h : sound (run_of w) ≡ true) where
   pub sound_fits : fits w ≡ true
   unfolding blank
   sound_fits = by_bool (fits w) (λ e. e)
-      (λ e. absurd (let some : 1 ≤ (run_of w).count = (sound_state (run_of w) h).count_some in let none : 1 ≤ (blank 0).count = rw (run_unfit w e) at some in omega arith))
+      (λ e. absurd (let some_process : 1 ≤ (run_of w).count = (sound_state (run_of w) h).count_some in let no_process : 1 ≤ (blank 0).count = rw (run_unfit w e) at some_process in omega arith))
 
   state : SoundState (run_of w)
   state = sound_state (run_of w) h
@@ -161,7 +161,7 @@ module _ (w : List ℕ) (h : sound (run_of w) ≡ true) where
     some_own : 1 ≤ word w (part_at p + p)
     some_own = omega (arith, sound_known.own_some, ap (λ (x : Interval). x.0) sound_own_is)
 
-    last_of_lem : (n : ℕ) → n ≡ suc (n - 1) → last_of (table n (checkpoint_in w p)) ≡ some (checkpoint_in w p (n - 1))
+    last_of_lem : (n : ℕ) → n ≡ suc (n - 1) → last_of (table n (checkpoint_in w p)) ≡ Some (checkpoint_in w p (n - 1))
     unfolding table
     last_of_lem n e = ap (λ (m : ℕ). last_of (table m (checkpoint_in w p))) e ∙ last_of_snoc (table (n - 1) (checkpoint_in w p)) (checkpoint_in w p (n - 1))
 
@@ -179,7 +179,7 @@ module _ (w : List ℕ) (h : sound (run_of w) ≡ true) where
     own_pinned : word w (pins_at_of p + p) ≡ word w (part_at p + p)
     unfolding process_in pins_in
     own_pinned =
-        let e = rw (sound_process_is, sound_own_is, get_d_table 16 (λ f. pin_of_def (word w (pins_at_of p + f))) p Nothing room) at sound_known.own_pin in
+        let e = rw (sound_process_is, sound_own_is, get_d_table 16 (λ f. pin_of_def (word w (pins_at_of p + f))) p None room) at sound_known.own_pin in
         pinned_word (word w (pins_at_of p + p)) (word w (part_at p + p)) some_own e
 
     pub sound_part : SoundPart w p
@@ -272,7 +272,7 @@ module _ (w : List ℕ) (h : sound (run_of w) ≡ true) where
     fit = sound_fits;
     size = fits_size w sound_fits;
     end = end_most w (fits_end w sound_fits);
-    some = sound_some;
+    some_process = sound_some;
     few = sound_few;
     parts = sound_part;
     counted = sound_counted;

@@ -1,10 +1,11 @@
 -- Which run the words stand for that a caller lends: 6,464 words of 16 bits, each thing at a fixed place. The decoder is total: every list of words is a state.
 -- What stands in a place that is not in use counts for nothing: it is read as zero. A row that is in use is read whole, all its 16 entries.
 -- Assumes nothing.
-use Rattle.std.specs.Prelude.{◌&&◌, ◌||◌, ◌+◌, ◌-◌, ◌*◌}
+use Rattle.std.specs.Prelude.{◌&&◌, ◌||◌, ◌+◌, ◌-◌, ◌*◌, None, Some}
 use Rattle.laws.specs.Basics.{Bool, false, not, List, ℕ, zero, suc, eqb, ltb, leb, length, get_or, replicate, pick}
 use Rattle.laws.specs.Lists.{select, table, placed}
-use Rattle.model.specs.declared.{Interval.Interval, CheckpointIndex.CheckpointIndex, Pin.Pin, Pin.TheVariants.Nothing, Pin.TheVariants.At, Message.Message}
+use Rattle.model.specs.Shapes.{Pin}
+use Rattle.model.specs.declared.{Interval.Interval, CheckpointIndex.CheckpointIndex, Message.Message}
 use Rattle.model.specs.declared.{Checkpoint.Checkpoint, Run.Run}
 use Rattle.model.specs.Words.{most_processes, most_under_way, zero_vector, no_pins_of, no_checkpoint, no_message, blank}
 
@@ -82,8 +83,8 @@ abbrev pub index_of_def : ℕ → CheckpointIndex
 index_of_def x = record { 0 = x - 1 }
 
 unfoldable pub pin_of_def : ℕ → Pin
-pin_of_def zero = Nothing
-pin_of_def (suc k) = At (record { 0 = k })
+pin_of_def zero = None
+pin_of_def (suc k) = Some (record { 0 = k })
 
 -- A row of words, a vector and pins, by the place of their first word.
 unfoldable pub row_in : List ℕ → ℕ → List ℕ

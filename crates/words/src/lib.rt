@@ -3,9 +3,8 @@
 
 #![tactic(auto)]
 
-ghost use Rattle.std.specs.Prelude.{◌≡◌, ◌∷◌, ◌+◌, ◌≤◌, ◌<◌};
+ghost use Rattle.std.specs.Prelude.{◌≡◌, ◌∷◌, ◌+◌, ◌≤◌, ◌<◌, Some};
 ghost use Rattle.laws.specs.Basics.{[], length};
-ghost use Rattle.model.specs.declared.Pin.TheVariants.{At};
 ghost use Rattle.model.specs.Words.{most_interval, most_processes};
 ghost use Rattle.words.specs.Layout.{interval_of, index_of_def, pin_of_def, row_in, vector_in, wide2, wide4};
 ghost use Rattle.words.specs.Puts.{puts, row_put, vector_put, zero_put, puts2, puts4};
@@ -41,17 +40,13 @@ pub fn index_of(x: u16) -> CheckpointIndex
 pub fn pin_of(x: u16) -> Pin
     ensures { result ≡ pin_of_def x }
 {
-    if x == 0 {
-        Pin::Nothing
-    } else {
-        Pin::At(index_of(x))
-    }
+    if x == 0 { None } else { Some(index_of(x)) }
 }
 
 // The word of a pin, or of a kept checkpoint, by its index.
 pub fn pin_word(index: CheckpointIndex) -> u16
     requires { index.0 < most_interval }
-    ensures { (result ≡ index.0 + 1) × (pin_of_def result ≡ At index) × (index_of_def result ≡ index) }
+    ensures { (result ≡ index.0 + 1) × (pin_of_def result ≡ Some index) × (index_of_def result ≡ index) }
 {
     index.0 + 1
 }

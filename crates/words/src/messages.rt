@@ -9,13 +9,6 @@ ghost use Rattle.words.specs.messages.Places.{place_below, lows_below, place_of,
 use crate::places;
 use model::{MESSAGES, Message};
 
-// The place of a message that is under way.
-#[derive(Clone, Copy)]
-pub enum Found {
-    Nothing,
-    At(usize),
-}
-
 // The end of the places in use where all of them are.
 const LAST_PLACE: u16 = MESSAGES as u16;
 
@@ -69,7 +62,7 @@ fn lows_before(w: &[u16], low: u16, to: usize) -> u16
 }
 
 // The place of message m among the first ones, which are tested one after the other, the last one first.
-fn search_before(w: &[u16], m: u32, end: usize) -> Found
+fn search_before(w: &[u16], m: u32, end: usize) -> Option<usize>
     requires { (length w.now ≡ state_size) × (end ≤ most_under_way) }
     ensures { result ≡ found_at (place_below w.now m end) }
 {
@@ -77,34 +70,34 @@ fn search_before(w: &[u16], m: u32, end: usize) -> Found
     while 0 < past {
         let number = number_at(w, past - 1);
         if number == m {
-            return Found::At(past - 1);
+            return Some(past - 1);
         }
         past -= 1;
     }
-    Found::Nothing
+    None
 }
 
 // The place of message m. A place that is not in use has the number 0, which no message has. The low words are looked at first, so many together that some may stand past
 // the end, and the one place that they lead to is tested. Where two places have the same low word, or one past the end has it, each place in use is tested.
-pub fn place_of(w: &[u16], m: u32) -> Found
+pub fn place_of(w: &[u16], m: u32) -> Option<usize>
     requires { (length w.now ≡ state_size) × (end_of w.now ≤ most_under_way) }
     ensures { result ≡ found_at (place_of w.now m) }
 {
     if m == 0 {
-        return Found::Nothing;
+        return None;
     }
     let end = w[places::END] as usize;
     let whole = TOGETHER * ((end + TOGETHER - 1) / TOGETHER);
     let past = lows_before(w, (m % 65536) as u16, whole) as usize;
     if past == 0 {
-        return Found::Nothing;
+        return None;
     }
     if end < past {
         return search_before(w, m, end);
     }
     let number = number_at(w, past - 1);
     if number == m {
-        return Found::At(past - 1);
+        return Some(past - 1);
     }
     search_before(w, m, end)
 }

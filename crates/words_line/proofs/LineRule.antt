@@ -1,7 +1,7 @@
 -- The line rule on the words says what Steps says of the run that sound words stand for.
 -- Assumes nothing.
 use Rattle.std.specs.Prelude.{◌≡◌, ◌||◌, ◌∷◌, ◌++◌, ◌+◌, ◌-◌, ◌≤◌, ◌<◌}
-use Rattle.laws.specs.Basics.{refl, sym, ◌∙◌, ap, Bool, true, false, not, List, [], append-nil, none, some, ℕ, zero, suc, arith, eqb, ltb, leb, length, get_or, replicate, length-replicate, get_or-replicate, eq-eqb, ne_eqb, eqb-false, lt-ltb, le-ltb, le-leb, lt-leb, pick, by_bool, by_eq}
+use Rattle.laws.specs.Basics.{refl, sym, ◌∙◌, ap, Bool, true, false, not, List, [], append-nil, None, Some, ℕ, zero, suc, arith, eqb, ltb, leb, length, get_or, replicate, length-replicate, get_or-replicate, eq-eqb, ne_eqb, eqb-false, lt-ltb, le-ltb, le-leb, lt-leb, pick, by_bool, by_eq}
 use Rattle.laws.specs.{Lists.select, Lists.last_of, Lists.or_else, Lists.table, Loops.below_length, Loops.below_at, Loops.below_above, Rows.by_lt}
 use Rattle.laws.specs.{Ranges.all_same, Below.all_not_any, Search.all_below, Search.any_below, Search.any_none, Select.select_append, Select.last_of_snoc}
 use Rattle.laws.specs.Tables.{table_same}
@@ -43,7 +43,7 @@ unfolding pasts_in
 pasts_length w n limits = below_length (past_latest w limits) (replicate 16 0) n ∙ length-replicate {A = ℕ} 16 0
 
 -- The last of a table that passes.
-pub last_more : {A : Type 0} (t : A → Bool) (n : ℕ) (g : ℕ → A) → t (g n) ≡ true → last_of (select t (table (suc n) g)) ≡ some (g n)
+pub last_more : {A : Type 0} (t : A → Bool) (n : ℕ) (g : ℕ → A) → t (g n) ≡ true → last_of (select t (table (suc n) g)) ≡ Some (g n)
 unfolding table select
 last_more t n g e = ap last_of (select_append t (table n g) (g n ∷ []) ∙ rw e) ∙ last_of_snoc (select t (table n g)) (g n)
 
@@ -186,9 +186,9 @@ module _ (w : List ℕ) (h : sound (run_of w) ≡ true) (F : ℕ) where
     pub indexes_at : (p : ℕ) → p < count_of w → get_or (indexes_in w (count_of w) (pasts_in w (count_of w) limits)) p (record { 0 = 0 }) ≡ (member s F p).index
     unfolding indexes_in
     indexes_at p lt =
-        let none : CheckpointIndex = record { 0 = 0 } in
-        let size : length (replicate 16 none) ≡ 16 = length-replicate 16 none in
-        below_at (λ p. index_in_of w p (get_or (pasts_in w (count_of w) limits) p 0)) (replicate 16 none) (count_of w) p none lt (omega (arith, few))
+        let no_index : CheckpointIndex = record { 0 = 0 } in
+        let size : length (replicate 16 no_index) ≡ 16 = length-replicate 16 no_index in
+        below_at (λ p. index_in_of w p (get_or (pasts_in w (count_of w) limits) p 0)) (replicate 16 no_index) (count_of w) p no_index lt (omega (arith, few))
         ∙ ap (index_in_of w p) (past_at p lt)
         ∙ sym (index_at_lem p lt)
 

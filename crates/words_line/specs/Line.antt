@@ -2,7 +2,7 @@
 -- proofs/LineRule has that they say what Steps says of the run.
 -- Assumes nothing.
 use Rattle.std.specs.Prelude.{◌+◌, ◌-◌, ◌≤◌, ◌<◌}
-use Rattle.laws.specs.Basics.{Bool, not, List, Option, none, some, ℕ, zero, suc, eqb, ltb, leb, length, get_or, replicate, pick}
+use Rattle.laws.specs.Basics.{Bool, not, List, Option, None, Some, ℕ, zero, suc, eqb, ltb, leb, length, get_or, replicate, pick}
 use Rattle.laws.specs.{Loops.set_below, Search.all_below}
 use Rattle.model.specs.declared.{Interval.Interval, CheckpointIndex.CheckpointIndex, Checkpoint.Checkpoint}
 use Rattle.model.specs.Words.{most_processes, entry, live_index_of, live, zero_vector, failed}
@@ -32,8 +32,8 @@ unfoldable pub state_in : List ℕ → ℕ → ℕ → Checkpoint
 state_in w p k = pick (ltb k (word w (kept_count_at_of p))) (checkpoint_in w p k) (live p (process_in w p))
 
 unfoldable pub state_before : List ℕ → ℕ → ℕ → Option Checkpoint
-state_before w p zero = none
-state_before w p (suc k) = some (state_in w p k)
+state_before w p zero = None
+state_before w p (suc k) = Some (state_in w p k)
 
 -- What the functions rely on: own entries at least 1, at most 16 kept checkpoints, each with an index.
 abbrev pub OwnSome : ℕ → List ℕ → Type 0

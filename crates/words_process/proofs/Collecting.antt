@@ -5,7 +5,8 @@ use Rattle.laws.specs.Basics.{refl, sym, ◌∙◌, ap, Bool, true, false, not, 
 use native.Mathlib.Numerals.{add-one}
 use Rattle.laws.specs.{Elements.every_table, Lists.select, Lists.table, Rows.by_lt, Tables.table_same, Tests.some_of, Written.sets_two}
 use Rattle.laws.specs.Select.{select_append, select_one, all_chosen, none_chosen}
-use Rattle.model.specs.declared.{Checkpoint.Checkpoint, Pin.Pin}
+use Rattle.model.specs.Shapes.{Pin}
+use Rattle.model.specs.declared.Checkpoint.{Checkpoint}
 use Rattle.model.specs.{Words.names, Words.is_pinned, Steps.listed}
 use Rattle.whole_runs.specs.Outcomes.{pairs}
 use Rattle.words.specs.{Layout.word, Layout.blocks_at_of, Layout.index_at_of, Layout.cause_at_of, Layout.stored_at, Layout.index_of_def, Layout.checkpoint_in, Puts.puts}

@@ -1,11 +1,12 @@
 -- Rows of pins as words: which checkpoints they name, and the pins after a checkpoint and a receipt.
 -- Assumes nothing.
-use Rattle.std.specs.Prelude.{◌≡◌, ◌||◌, ◌+◌, ◌-◌, ◌≤◌, ◌<◌}
+use Rattle.std.specs.Prelude.{◌≡◌, ◌||◌, ◌+◌, ◌-◌, ◌≤◌, ◌<◌, None, Some}
 use Rattle.laws.specs.Basics.{refl, sym, ◌∙◌, ap, Bool, true, false, List, ℕ, zero, suc, arith, eqb, length, get_or, set, get_or-set_same, get_or-set_other, eq-eqb, ne_eqb, eqb-true, pick, by_bool, by_eq}
 use lib.Pow.{pow_pos}
 use Rattle.laws.specs.{Bits.bits_of, Bits.bit_past, Bits.bits_at, Elements.same_test, Search.any_below, Select.some_table, Tests.some_of}
 use Rattle.laws.specs.{Tables.length_table, Tables.get_d_table, Tables.table_same, Tables.table_set, Update.upd, Update.upd_same, Update.upd_other}
-use Rattle.model.specs.declared.{Interval.Interval, CheckpointIndex.CheckpointIndex, Pin.Pin, Pin.TheVariants.Nothing, Pin.TheVariants.At}
+use Rattle.model.specs.Shapes.{Pin}
+use Rattle.model.specs.declared.{Interval.Interval, CheckpointIndex.CheckpointIndex}
 use Rattle.model.specs.{Words.entry, Words.below, Words.names, Words.in_set, Steps.taken_pin, Steps.taken_pins, Steps.risen}
 use Rattle.words_process.specs.{receipts.Receipt.pins_first, Pins.pin_row, Pins.moved_row, Pins.risen_or_own}
 use Rattle.words.specs.Layout.{index_of_def, pin_of_def, row_in, pins_in}
@@ -32,9 +33,9 @@ pub row_length : (r : List ℕ) → length (pin_row r) ≡ 16
 unfolding pin_row
 row_length r = length_table 16 (λ f. pin_of_def (get_or r f 0))
 
-pub row_pin : (r : List ℕ) (f : ℕ) → f < 16 → get_or (pin_row r) f Nothing ≡ pin_of_def (get_or r f 0)
+pub row_pin : (r : List ℕ) (f : ℕ) → f < 16 → get_or (pin_row r) f None ≡ pin_of_def (get_or r f 0)
 unfolding pin_row
-row_pin r f lt = get_d_table 16 (λ f. pin_of_def (get_or r f 0)) f Nothing lt
+row_pin r f lt = get_d_table 16 (λ f. pin_of_def (get_or r f 0)) f None lt
 
 -- The pins of words are those of their row.
 pub pins_row : (w : List ℕ) (at : ℕ) → pins_in w at ≡ pin_row (row_in w at)
@@ -61,12 +62,12 @@ module _ (r : List ℕ) (i x : ℕ) (lt : i < 16) where
 
   -- The pins after a receipt: those of the entries that rise become the own pin, which is that of the checkpoint stored first, if one is.
   module _ (own carried : List Interval) (stores : Bool) (index : CheckpointIndex) (is : x ≡ pick stores (index.0 + 1) (get_or r i 0)) where
-    first : (f : ℕ) → f < 16 → get_or (pins_first stores i index (pin_row r)) f Nothing ≡ pick (eqb f i) (pin_of_def x) (pin_of_def (get_or r f 0))
+    first : (f : ℕ) → f < 16 → get_or (pins_first stores i index (pin_row r)) f None ≡ pick (eqb f i) (pin_of_def x) (pin_of_def (get_or r f 0))
     unfolding pins_first
     first f less = by_bool stores
         (λ e. rw e (by_eq f i
-        (λ q. rw (q, eq-eqb i i refl) (get_or-set_same (pin_row r) i (At index) Nothing (rw row_length lt) ∙ sym (ap pin_of_def (rw e at is) ∙ pin_back index)))
-        (λ ne. rw (ne_eqb f i ne) (get_or-set_other (pin_row r) i f (At index) Nothing ne ∙ row_pin r f less))))
+        (λ q. rw (q, eq-eqb i i refl) (get_or-set_same (pin_row r) i (Some index) None (rw row_length lt) ∙ sym (ap pin_of_def (rw e at is) ∙ pin_back index)))
+        (λ ne. rw (ne_eqb f i ne) (get_or-set_other (pin_row r) i f (Some index) None ne ∙ row_pin r f less))))
         (λ e. rw e (row_pin r f less ∙ by_eq f i
         (λ q. rw (q, eq-eqb i i refl) (ap pin_of_def (sym (rw e at is))))
         (λ ne. rw (ne_eqb f i ne))))
@@ -82,7 +83,7 @@ module _ (r : List ℕ) (i x : ℕ) (lt : i < 16) where
         ∙ ap (λ (b : Bool). pin_of_def (pick (b || eqb f i) x (get_or r f 0))) (bits_at (λ g. below (entry own g) (entry carried g)) 16 f less)
         ∙ pick_out (below (entry own f) (entry carried f) || eqb f i) x (get_or r f 0)
         ∙ sym (choose (below (entry own f) (entry carried f)) (eqb f i) (pin_of_def (get_or r f 0)))
-        ∙ sym (ap (λ (y : Pin). pick (below (entry own f) (entry carried f)) y (get_or (pins_first stores i index (pin_row r)) f Nothing)) (first i lt ∙ ap (λ (b : Bool). pick b (pin_of_def x) (pin_of_def (get_or r i 0))) (eq-eqb i i refl))
+        ∙ sym (ap (λ (y : Pin). pick (below (entry own f) (entry carried f)) y (get_or (pins_first stores i index (pin_row r)) f None)) (first i lt ∙ ap (λ (b : Bool). pick b (pin_of_def x) (pin_of_def (get_or r i 0))) (eq-eqb i i refl))
         ∙ ap (λ (y : Pin). pick (below (entry own f) (entry carried f)) (pin_of_def x) y) (first f less)))
       where
         pick_out : (b : Bool) (x y : ℕ) → pin_of_def (pick b x y) ≡ pick b (pin_of_def x) (pin_of_def y)

@@ -4,7 +4,8 @@ use Rattle.std.specs.Prelude.{◌≡◌, ◌∷◌, ◌++◌, ◌+◌, ◌-◌, 
 use Rattle.laws.specs.Basics.{refl, sym, ◌∙◌, ap, Bool, true, false, not, List, [], ℕ, zero, arith, eqb, length, get_or, set, pick, by_eq}
 use native.Mathlib.Numerals.{add-one}
 use Rattle.laws.specs.{Lists.select, Lists.table, Rows.by_lt, Tables.table_same}
-use Rattle.model.specs.declared.{Interval.Interval, Checkpoint.Checkpoint, CheckpointIndex.CheckpointIndex, Disk.Disk, Pin.Pin}
+use Rattle.model.specs.Shapes.{Pin}
+use Rattle.model.specs.declared.{Interval.Interval, Checkpoint.Checkpoint, CheckpointIndex.CheckpointIndex, Disk.Disk}
 use Rattle.model.specs.{Words.is_pinned, Steps.billed}
 use Rattle.words_process.specs.{receipts.Receipt.kept_then_of, Kept.stored_puts, Kept.Used, Kept.AllPinned, Kept.SamePlace, Kept.ZeroPlace, Kept.Collected}
 use Rattle.words.specs.{Clean.CleanKept, Frames.OnlyProcess, Frames.OnlyDisk, Parts.process_in, Puts.Put, Puts.puts, Puts.one, Puts.row_put}

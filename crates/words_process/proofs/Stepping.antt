@@ -1,14 +1,14 @@
 -- A checkpoint and a receipt of a process of a sound state: the pins move first, then what no pin names is deleted, then the new checkpoint is stored. The definitions
 -- store first and delete then; both leave the same.
 -- Assumes nothing.
-use Rattle.std.specs.Prelude.{◌≡◌, ◌∷◌, ◌++◌, ◌+◌, ◌-◌, ◌*◌, ◌≤◌, ◌<◌}
+use Rattle.std.specs.Prelude.{◌≡◌, ◌∷◌, ◌++◌, ◌+◌, ◌-◌, ◌*◌, ◌≤◌, ◌<◌, None, Some}
 use Rattle.laws.specs.Basics.{refl, sym, ◌∙◌, ap, Bool, true, false, not, List, [], ℕ, arith, length, get_or, set, length-set, sets, get_or-set_other, eqb-true, pick}
 use native.Mathlib.Nat.{mul-le-mul_left}
 use lib.Seq.{ext_get_or}
 use Rattle.laws.specs.{Lists.select, Lists.table, Lists.last_of, Lists.or_else, Rows.by_lt, Rows.every_at, Rows.some_at, Rows.some_where}
 use Rattle.laws.specs.Tables.{length_table, get_d_table, table_same}
-use Rattle.model.specs.declared.{Interval.Interval, Checkpoint.Checkpoint, CheckpointIndex.CheckpointIndex, Disk.Disk, Pin.Pin}
-use Rattle.model.specs.declared.Pin.TheVariants.{Nothing, At}
+use Rattle.model.specs.Shapes.{Pin}
+use Rattle.model.specs.declared.{Interval.Interval, Checkpoint.Checkpoint, CheckpointIndex.CheckpointIndex, Disk.Disk}
 use Rattle.model.specs.Words.{basic, forced, entry, live_index_of, names, is_pinned, Process, blocks_of, block_count, no_checkpoint, process}
 use Rattle.model.specs.Sound.{ascending, sound}
 use Rattle.model.specs.Steps.{listed, settled, gone, deletions, billed, storing, checkpointed, advanced, taken_vector, taken_pins, risen}
@@ -192,7 +192,7 @@ module _ (w : List ℕ) (h : sound (run_of w) ≡ true) (i : ℕ) (lt : i < coun
           ),
           (
             λ s. rw (places_there x) (free s),
-            omega (arith, enough, vectored_kept_count w words.size i in_range x, facts.kept_count_most, mul-le-mul_left {m = 1} {n = count_of w} (2 * count_of w) words.some),
+            omega (arith, enough, vectored_kept_count w words.size i in_range x, facts.kept_count_most, mul-le-mul_left {m = 1} {n = count_of w} (2 * count_of w) words.some_process),
           ),
         ),
       )
@@ -204,19 +204,19 @@ module _ (w : List ℕ) (h : sound (run_of w) ≡ true) (i : ℕ) (lt : i < coun
       places_there x = places_by (vectored w words.size i in_range x) i ∙ vectored_places w words.size i in_range x kept_count_most
 
   -- A checkpoint but the last is named by a pin that is not the own one.
-  other_pin : (k : ℕ) → k < word w (kept_count_at_of i) - 1 → (f : ℕ) × (f < 16) × (f ≡ i → ⊥) × (names (get_or P.pins f Nothing) (checkpoint_in w i k).index ≡ true)
+  other_pin : (k : ℕ) → k < word w (kept_count_at_of i) - 1 → (f : ℕ) × (f < 16) × (f ≡ i → ⊥) × (names (get_or P.pins f None) (checkpoint_in w i k).index ≡ true)
   unfolding is_pinned process_in pins_in checkpoint_in
   other_pin k less =
       let all = rw (same, facts.kept_is) at (sound_known w h i lt).kept_pinned in
       let one = every_at (is_pinned P.pins) (table (word w (kept_count_at_of i)) (checkpoint_in w i)) k no_checkpoint (omega (arith, length_table (word w (kept_count_at_of i)) (checkpoint_in w i))) all in
       let here = rw (get_d_table (word w (kept_count_at_of i)) (checkpoint_in w i) k no_checkpoint (omega arith)) at one in
-      let found = some_where (λ pin. names pin (checkpoint_in w i k).index) P.pins Nothing here in
+      let found = some_where (λ pin. names pin (checkpoint_in w i k).index) P.pins None here in
       let f = found.0 in
       let small : f < 16 = omega (arith, found.1, pins_length w (pins_at_of i)) in (
         f,
         small,
         λ e.
-            let by = rw (get_d_table 16 (λ g. pin_of_def (word w (pins_at_of i + g))) f Nothing small) at found.2 in
+            let by = rw (get_d_table 16 (λ g. pin_of_def (word w (pins_at_of i + g))) f None small) at found.2 in
             let is = eqb-true (word w (pins_at_of i + f)) (word w (index_at_of i k)) (sym (names_word (word w (pins_at_of i + f)) (word w (index_at_of i k)) (facts.used k (omega arith))) ∙ by) in
             omega (arith, is, ap (λ (g : ℕ). word w (pins_at_of i + g)) e, facts.own_pin, facts.last_index, facts.ascend k (word w (kept_count_at_of i) - 1) less (omega (arith, facts.kept_count_some))),
         found.2,
@@ -226,18 +226,18 @@ module _ (w : List ℕ) (h : sound (run_of w) ≡ true) (i : ℕ) (lt : i < coun
   unfolding is_pinned process_in
   others_name a k less =
       let o = other_pin k less in
-      some_at (λ pin. names pin (checkpoint_in w i k).index) (set P.pins i a) o.0 Nothing (omega (arith, o.1, length-set P.pins i a, pins_length w (pins_at_of i)))
-      (rw (get_or-set_other P.pins i o.0 a Nothing o.2) o.3)
+      some_at (λ pin. names pin (checkpoint_in w i k).index) (set P.pins i a) o.0 None (omega (arith, o.1, length-set P.pins i a, pins_length w (pins_at_of i)))
+      (rw (get_or-set_other P.pins i o.0 a None o.2) o.3)
 
   -- A checkpoint.
   module _ (r : List ℕ) (index : CheckpointIndex) (is : index ≡ live_index_of (entry vec i)) (row : r ≡ moved_row (risen_or_own 0 i) (row_in w (pins_at_of i)) (index.0 + 1)) where
     abbrev stored : Checkpoint
     stored = storing basic i P
 
-    pins_are : pin_row r ≡ set P.pins i (At index)
+    pins_are : pin_row r ≡ set P.pins i (Some index)
     unfolding process_in
     pins_are = ap pin_row row ∙ own_moved (row_in w (pins_at_of i)) i (index.0 + 1) in_range ∙ ap (λ (p : Pin). set (pin_row (row_in w (pins_at_of i))) i p) (pin_back index)
-        ∙ ap (λ (l : List Pin). set l i (At index)) (sym (pins_row w (pins_at_of i)))
+        ∙ ap (λ (l : List Pin). set l i (Some index)) (sym (pins_row w (pins_at_of i)))
 
     in_row : i < length P.pins
     unfolding process_in
@@ -246,9 +246,9 @@ module _ (w : List ℕ) (h : sound (run_of w) ≡ true) (i : ℕ) (lt : i < coun
     there : i < length (pin_row r)
     there = omega (arith, row_length r, in_range)
 
-    own_there : get_or (pin_row r) i Nothing ≡ At stored.index
+    own_there : get_or (pin_row r) i None ≡ Some stored.index
     unfolding storing process_in
-    own_there = rw pins_are (moved_own_lem P.pins i index in_row) ∙ ap At is
+    own_there = rw pins_are (moved_own_lem P.pins i index in_row) ∙ ap Some is
 
     stored_is : stored_in w i index basic vec ≡ stored
     unfolding stored_in storing process_in
@@ -265,13 +265,13 @@ module _ (w : List ℕ) (h : sound (run_of w) ≡ true) (i : ℕ) (lt : i < coun
           ∙ (λ k. select (is_pinned (pin_row r)) (sym kept_places k) ++ (sym stored_is k ∷ []))) j;
     })
       where
-        own_pins : set P.pins i (At (live_index_of (entry vec i))) ≡ pin_row r
-        own_pins = ap (λ (a : CheckpointIndex). set P.pins i (At a)) (sym is) ∙ sym pins_are
+        own_pins : set P.pins i (Some (live_index_of (entry vec i))) ≡ pin_row r
+        own_pins = ap (λ (a : CheckpointIndex). set P.pins i (Some a)) (sym is) ∙ sym pins_are
 
     pub checkpoint_gone : unpinned_in w i (pin_row r) ≡ gone (checkpointed basic i P)
     unfolding unpinned_in gone checkpointed process_in
     checkpoint_gone = ap (λ (l : List Checkpoint). select (λ c. not (is_pinned (pin_row r) c)) l) kept_places ∙ sym (deleted_before (pin_row r) i stored there own_there P.kept)
-        ∙ ap (λ (l : List Pin). select (λ c. not (is_pinned l c)) (P.kept ++ (stored ∷ []))) (pins_are ∙ ap (λ (a : CheckpointIndex). set P.pins i (At a)) is)
+        ∙ ap (λ (l : List Pin). select (λ c. not (is_pinned l c)) (P.kept ++ (stored ∷ []))) (pins_are ∙ ap (λ (a : CheckpointIndex). set P.pins i (Some a)) is)
 
     last_under : (or_else (last_of P.kept) no_checkpoint).index.0 < stored.index.0
     unfolding storing process_in
@@ -283,7 +283,7 @@ module _ (w : List ℕ) (h : sound (run_of w) ≡ true) (i : ℕ) (lt : i < coun
     -- The pins that do not move name each checkpoint but the last.
     pub checkpoint_pinned : AllPinned w i (pin_row r) (word w (kept_count_at_of i) - 1)
     unfolding AllPinned
-    checkpoint_pinned k less = rw pins_are (others_name (At index) k less)
+    checkpoint_pinned k less = rw pins_are (others_name (Some index) k less)
 
   -- A receipt, before which a checkpoint is stored if `stores`.
   module _ (stores : Bool) (carried : List Interval) (r : List ℕ) (index : CheckpointIndex) (is : index ≡ live_index_of (entry vec i)) (x : ℕ)

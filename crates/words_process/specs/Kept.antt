@@ -3,7 +3,8 @@
 use Rattle.std.specs.Prelude.{◌≡◌, ◌∷◌, ◌+◌, ◌*◌, ◌≤◌, ◌<◌}
 use Rattle.laws.specs.Basics.{true, List, [], ℕ, length}
 use Rattle.laws.specs.Lists.{select, table}
-use Rattle.model.specs.{declared.Interval.Interval, declared.CheckpointIndex.CheckpointIndex, declared.Pin.Pin, Words.is_pinned, Words.most_processes}
+use Rattle.model.specs.Shapes.{Pin}
+use Rattle.model.specs.{declared.Interval.Interval, declared.CheckpointIndex.CheckpointIndex, Words.is_pinned, Words.most_processes}
 use Rattle.words.specs.Layout.{word, index_at_of, cause_at_of, stored_at, row_in, checkpoint_in}
 use Rattle.words.specs.Puts.{Put, puts, one, row_put, vector_put, zero_put}
 

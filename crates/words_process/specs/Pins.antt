@@ -3,7 +3,7 @@
 use Rattle.std.specs.Prelude.{◌||◌}
 use Rattle.laws.specs.Basics.{Bool, List, ℕ, eqb, get_or, pick}
 use Rattle.laws.specs.Lists.{table}
-use Rattle.model.specs.declared.Pin.{Pin}
+use Rattle.model.specs.Shapes.{Pin}
 use Rattle.model.specs.Words.{most_processes, in_set}
 use Rattle.words.specs.Layout.{pin_of_def}
 

@@ -3,7 +3,8 @@
 -- Assumes nothing.
 use Rattle.laws.specs.Basics.{Bool, false, not, List, ℕ, pick}
 use Rattle.laws.specs.Lists.{select, table}
-use Rattle.model.specs.declared.{Interval.Interval, CheckpointIndex.CheckpointIndex, Pin.Pin, Checkpoint.Checkpoint}
+use Rattle.model.specs.Shapes.{Pin}
+use Rattle.model.specs.declared.{Interval.Interval, CheckpointIndex.CheckpointIndex, Checkpoint.Checkpoint}
 use Rattle.model.specs.{Words.forced, Words.is_pinned, Words.Process, Steps.checkpointed, Steps.taken_in}
 use Rattle.words_process.specs.receipts.Receipt.{kept_then_of}
 use Rattle.words.specs.Layout.{word, kept_count_at_of, blocks_at_of, part_at, vector_in, mark_in, checkpoint_in}

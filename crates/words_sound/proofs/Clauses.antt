@@ -1,11 +1,11 @@
 -- The clauses of document 01 about one process, over the checkpoints and pins that the words hold, as tests of the words.
 -- Assumes nothing.
-use Rattle.std.specs.Prelude.{◌≡◌, ◌&&◌, ◌||◌, ◌∷◌, ◌++◌, ◌+◌, ◌-◌, ◌*◌, ◌≤◌, ◌<◌}
+use Rattle.std.specs.Prelude.{◌≡◌, ◌&&◌, ◌||◌, ◌∷◌, ◌++◌, ◌+◌, ◌-◌, ◌*◌, ◌≤◌, ◌<◌, Some}
 use Rattle.laws.specs.Basics.{refl, sym, ◌∙◌, ap, Bool, not, List, [], map, ℕ, zero, suc, arith, eqb, ltb, leb, eq-eqb, ne_eqb, eqb-true, lt-ltb, ltb-true, le-leb, leb-true, pick, by_bool}
 use Rattle.laws.specs.{Elements.same_test, Lists.or_else, Lists.last_of, Lists.table, Ranges.all_same, Ranges.any_same, Tests.every}
 use Rattle.laws.specs.{Rows.all_both, Rows.and_swap, Rows.and_true, Search.all_below, Search.any_below, Search.all_in, Search.all_out}
 use Rattle.laws.specs.Select.{map_append, last_of_snoc, some_table}
-use Rattle.model.specs.declared.{Interval.Interval, Pin.TheVariants.At, Checkpoint.Checkpoint}
+use Rattle.model.specs.declared.{Interval.Interval, Checkpoint.Checkpoint}
 use Rattle.model.specs.Words.{most_processes, entry, names, is_pinned, no_checkpoint, blocks_of}
 use Rattle.model.specs.Sound.{ascending, pin_sound, is_nothing_of, nothing_from, cause_sound}
 use Rattle.words.specs.Layout.{word, count_of, blocks_at_of, pins_at_of, cause_at_of, stored_at, index_of_def, pin_of_def, vector_in, pins_in, checkpoint_in}
@@ -65,7 +65,7 @@ module _ (w : List ℕ) (p : ℕ) where
     unfolding pin_of_def pin_sound checkpoint_in
     pin_fits_lem zero = refl
     pin_fits_lem (suc x) =
-        some_table (λ (c : Checkpoint). names (At (record { 0 = x })) c.index) h (checkpoint_in w p)
+        some_table (λ (c : Checkpoint). names (Some (record { 0 = x })) c.index) h (checkpoint_in w p)
         ∙ any_same h (λ k. eqb x (index_in_of w p k - 1)) (λ k. eqb (suc x) (index_in_of w p k)) (λ k lt. one_less x (index_in_of w p k) (some k lt))
         ∙ rw (ne_eqb (suc x) 0 (omega arith))
 

@@ -1,12 +1,13 @@
 -- All that document 01 asks of one process is what is tested of its words.
 -- Assumes nothing.
-use Rattle.std.specs.Prelude.{◌≡◌, ◌&&◌, ◌∷◌, ◌+◌, ◌-◌, ◌≤◌, ◌<◌}
+use Rattle.std.specs.Prelude.{◌≡◌, ◌&&◌, ◌∷◌, ◌+◌, ◌-◌, ◌≤◌, ◌<◌, None}
 use Rattle.laws.specs.Basics.{refl, sym, ◌∙◌, ap, Bool, true, false, not, List, [], map, ℕ, arith, eqb, ltb, leb, get_or, drop, eqb-true, eqb-false, le-ltb, leb-true, not-true, not-false, pick, by_bool}
 use Rattle.laws.specs.Conjunctions.{Conjunction, none, test, ◌and◌, each, holds, asks, same_tests, part_fails}
 use Rattle.laws.specs.{Lists.or_else, Lists.last_of, Lists.table, Ranges.all_same, Rows.every_both, Rows.all_both, Rows.all_stop, Rows.and_true}
 use Rattle.laws.specs.{Search.all_below, Search.any_below, Search.all_out, Search.all_fails, Tables.get_d_table, Tests.every, Tests.all_of}
 use Rattle.laws.specs.Truth.{and_left, and_right, and_no_right}
-use Rattle.model.specs.declared.{Interval.Interval, Pin.Pin, Pin.TheVariants.Nothing, Checkpoint.Checkpoint, Run.Run}
+use Rattle.model.specs.Shapes.{Pin}
+use Rattle.model.specs.declared.{Interval.Interval, Checkpoint.Checkpoint, Run.Run}
 use Rattle.model.specs.Words.{Process, most_processes, entry, last_stored_of, names, is_pinned, no_checkpoint, block_count, process, own}
 use Rattle.model.specs.Sound.{within, ascending, kept_sound, pin_sound, pins_sound, zero_from, nothing_from, unused_checkpoint, row_unused, cause_sound, is_block_count_of, record_sound}
 use Rattle.words.specs.Layout.{word, count_of, kept_count_at_of, blocks_at_of, part_at, pins_at_of, cause_at_of, stored_at, pin_of_def, vector_in, pins_in, checkpoint_in, is_kept_in, decoded}
@@ -46,7 +47,7 @@ module _ (w : List ℕ) (high : count_of w ≤ 16) (p : ℕ) (lt : p < count_of 
       ∷ ascending 0 (map (λ c. c.index.0) P.kept)
       ∷ every (λ c. eqb (entry c.vector p).0 c.index.0) P.kept
       ∷ eqb (or_else (last_of P.kept) no_checkpoint).index.0 (last_stored_of (own s p)).0
-      ∷ names (get_or P.pins p Nothing) (last_stored_of (own s p))
+      ∷ names (get_or P.pins p None) (last_stored_of (own s p))
       ∷ every (pin_sound P.kept) P.pins
       ∷ every (is_pinned P.pins) P.kept
       ∷ nothing_from s.count P.pins
@@ -67,7 +68,7 @@ module _ (w : List ℕ) (high : count_of w ≤ 16) (p : ℕ) (lt : p < count_of 
       ∷ ascending 0 (map (λ c. c.index.0) P.kept)
       ∷ every (λ c. eqb (entry c.vector p).0 c.index.0) P.kept
       ∷ eqb (or_else (last_of P.kept) no_checkpoint).index.0 (last_stored_of (own s p)).0
-      ∷ names (get_or P.pins p Nothing) (last_stored_of (own s p))
+      ∷ names (get_or P.pins p None) (last_stored_of (own s p))
       ∷ every (pin_sound P.kept) P.pins
       ∷ every (is_pinned P.pins) P.kept
       ∷ nothing_from s.count P.pins
@@ -202,13 +203,13 @@ module _ (w : List ℕ) (high : count_of w ≤ 16) (p : ℕ) (lt : p < count_of 
         ∙ ap (λ (x : ℕ). eqb (or_else (last_of (table kept_count_of_def (checkpoint_in w p))) no_checkpoint).index.0 (x - 1)) own_is
         ∙ clauses.kept_last w p kept_count_of_def (own_in w p) kept some_own some
 
-    pin_at : get_or (pins_in w (pins_at_of p)) p Nothing ≡ pin_of_def (pin_in w p p)
+    pin_at : get_or (pins_in w (pins_at_of p)) p None ≡ pin_of_def (pin_in w p p)
     unfolding pins_in
-    pin_at = get_d_table most_processes (λ f. pin_of_def (pin_in w p f)) p Nothing (omega arith)
+    pin_at = get_d_table most_processes (λ f. pin_of_def (pin_in w p f)) p None (omega arith)
 
-    own_pinned : names (get_or P.pins p Nothing) (last_stored_of (own s p)) ≡ eqb (pin_in w p p) (own_in w p)
+    own_pinned : names (get_or P.pins p None) (last_stored_of (own s p)) ≡ eqb (pin_in w p p) (own_in w p)
     own_pinned =
-        ap (λ (l : List Pin). names (get_or l p Nothing) (last_stored_of (own s p))) pins_are
+        ap (λ (l : List Pin). names (get_or l p None) (last_stored_of (own s p))) pins_are
         ∙ ap (λ (x : Pin). names x (last_stored_of (own s p))) pin_at
         ∙ ap (λ (x : ℕ). names (pin_of_def (pin_in w p p)) (record { 0 = x - 1 })) own_is
         ∙ names_word (pin_in w p p) (own_in w p) some_own

@@ -1,18 +1,9 @@
--- `admissions::above` meets its contract. The loop's invariant: what is left of the set is its bits from k on.
+-- `admissions::above` meets its contract: no bit of a set is at 32 or above.
 -- Assumes nothing.
-use Rattle.std.specs.Prelude.{◌≡◌, ◌-◌, ◌/◌, ◌^◌, ◌≤◌}
-use Rattle.laws.specs.Basics.{arith, rules}
-use Rattle.laws.specs.Bits.{bits_all, bits_next}
+use Rattle.laws.specs.Basics.{sym, arith}
+use native.Mathlib.Nat.{div-eq_of_lt, pow-le-pow_right}
 use Rattle.admissions.proofs.above.Goals as goal
 
-pub loop-k-init : goal.loop-k-init
-loop-k-init c =
-    (search rules, bits_all _)
-
-pub loop-k-preserved : goal.loop-k-preserved
-loop-k-preserved c =
-    (search rules, bits_next c.args.set c.loop-k.k _ c.loop-k.invariant.1)
-
-pub returns : goal.returns
-returns c =
-    let l = c.loop-k in let e : l.k ≡ c.args.p = omega arith in rw e at l.invariant.1
+pub returns-else-p-lt32 : goal.returns-else-p-lt32
+returns-else-p-lt32 c =
+    sym (div-eq_of_lt (omega (arith, c.ranges.set.fits, pow-le-pow_right {n = 2} (omega arith) {i = 32} {j = c.args.p} c.if-p-lt32.false)))

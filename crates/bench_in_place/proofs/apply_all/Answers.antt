@@ -20,7 +20,7 @@ apply-applied-requires c =
 pub overflow_add-accepted : goal.overflow_add-accepted
 overflow_add-accepted c =
     let takes : Takes c.args.trace.now c.loop-part.taken = next_taken _ _ c.takes_next.ensures c.loop-part-test.true in
-    let summary = c.apply-applied.result.summary in omega (arith, takes.few, c.loop-part.invariant.0.less, at_most_one (eqb summary.refused 0) _ c.one_if-one.ensures)
+    omega (arith, takes.few, c.loop-part.invariant.0.less, at_most_one _ _ c.one_if-one.ensures)
 
 pub overflow_add-taken : goal.overflow_add-taken
 overflow_add-taken c =
@@ -36,7 +36,7 @@ pub loop-part-preserved : goal.loop-part-preserved
 unfolding report_in
 loop-part-preserved c =
     let takes : Takes c.args.trace.now c.loop-part.taken = next_taken _ _ c.takes_next.ensures c.loop-part-test.true in
-    let l = c.loop-part in let a = c.apply-applied in let read = c.decode-d.ensures ∙ ap event_in c.record_after-part.ensures in let one = c.one_if-one.ensures ∙ ap (λ (r : Report). pick (eqb r.refused 0) 1 0) a.ensures.performs.says.report in (
+    let l = c.loop-part in let a = c.apply-applied in let read = c.decode-d.ensures ∙ ap event_in c.record_after-part.ensures in let one = c.one_if-one.ensures ∙ ap (λ k. pick (eqb k 0) 1 0) c.number.ensures ∙ ap (λ (r : Report). pick (eqb r.refused 0) 1 0) a.ensures.performs.says.report in (
       one_taken _ _ _ _ _ l.invariant.0 takes _ read _ a.ensures.performs.state _ one,
       a.ensures.sound_value,
       performs_reachable _ _ _ _ _ a.ensures.performs l.invariant.2,

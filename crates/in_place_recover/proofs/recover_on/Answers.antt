@@ -1,8 +1,8 @@
 -- `in_place_recover::recover_on` meets its contract: the lengths of the lists, the verdict on the failed set, then the recovery. Assumes nothing.
-use Rattle.std.specs.Prelude.{◌≡◌, ◌||◌, ◌*◌}
+use Rattle.std.specs.Prelude.{◌≡◌, ◌||◌, ◌*◌, Ok}
 use Rattle.laws.specs.Basics.{refl, sym, ◌∙◌, false, arith, ltb, length, rules, ltb-false}
 use Rattle.laws.specs.Truth.{or_none}
-use Rattle.admissions.specs.declared.Admission.TheVariants.{Accepted}
+use Prim.{tt}
 use Rattle.words.specs.Layout.{count_of}
 use Rattle.words.proofs.ViewSound.{sound_words}
 use Rattle.in_place_recover.proofs.{Recovering.lists_short, Recovering.set_refused}
@@ -27,7 +27,7 @@ returns-then-short c =
 pub recover_within-requires : goal.recover_within-requires
 recover_within-requires c =
     let long : let a = c.args in let n = count_of a.w.now in (ltb (length a.deleted.now) (2 * n * n) || ltb (length a.line.now) n) ≡ false = sym c.is_too_short-short.ensures ∙ c.if-short.false in
-    let accepted : c.recovery_admission-admission.result ≡ Accepted = search rules in
+    let accepted : c.recovery_admission-admission.result ≡ Ok tt = search rules in
     let n = count_of c.args.w.now in let room = or_none (ltb (length c.args.deleted.now) (2 * n * n)) (ltb (length c.args.line.now) n) long in (
       c.requires,
       refl,
@@ -36,7 +36,7 @@ recover_within-requires c =
       sym c.recovery_admission-admission.ensures ∙ accepted,
     )
 
-pub returns-in-Refused : goal.returns-in-Refused
-returns-in-Refused c =
+pub returns-in-Err : goal.returns-in-Err
+returns-in-Err c =
     let long : let a = c.args in let n = count_of a.w.now in (ltb (length a.deleted.now) (2 * n * n) || ltb (length a.line.now) n) ≡ false = sym c.is_too_short-short.ensures ∙ c.if-short.false in
-    let z = set_refused c.args.w.now c.requires c.args.failed c.args.deleted.now c.args.line.now long _ (sym c.recovery_admission-admission.ensures ∙ c.in-Refused.is) in record { w_after = z.0; value = z.1.0; deleted_after = z.1.1.0; line_after = z.1.1.1.0; w_unchanged = z.1.1.1.1.0; leaves = z.1.1.1.1.1 }
+    let z = set_refused c.args.w.now c.requires c.args.failed c.args.deleted.now c.args.line.now long _ (sym c.recovery_admission-admission.ensures ∙ c.in-Err.is) in record { w_after = z.0; value = z.1.0; deleted_after = z.1.1.0; line_after = z.1.1.1.0; w_unchanged = z.1.1.1.1.0; leaves = z.1.1.1.1.1 }

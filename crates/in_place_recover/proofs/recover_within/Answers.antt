@@ -1,8 +1,8 @@
 -- `in_place_recover::recover_within` meets its contract: the members, by which each process is restored, then the messages. Assumes nothing.
-use Rattle.std.specs.Prelude.{◌≡◌, ◌||◌, ◌*◌, ◌≤◌, ◌<◌}
+use Rattle.std.specs.Prelude.{◌≡◌, ◌||◌, ◌*◌, ◌≤◌, ◌<◌, Ok}
 use Rattle.laws.specs.Basics.{refl, sym, ◌∙◌, ap, false, ℕ, arith, ltb, length, rules, le-ltb, not-true, not-false}
 use Rattle.model.specs.Refusals.{no_member_of}
-use Rattle.admissions.specs.declared.Admission.TheVariants.{Accepted}
+use Prim.{tt}
 use Rattle.admissions.specs.Admissions.{recovery_admission_of}
 use Rattle.words.specs.Layout.{word, count_of, run_of}
 use Rattle.words.proofs.ViewSound.{sound_words}
@@ -27,7 +27,7 @@ find_members-all-requires c =
 pub returns-then-not-all : goal.returns-then-not-all
 returns-then-not-all c =
     let long : let a = c.args in let n = count_of a.w.now in (ltb (length a.deleted.now) (2 * n * n) || ltb (length a.line.now) n) ≡ false = neither c.args.n (count_of c.args.w.now) (length c.args.deleted.now) (length c.args.line.now) c.requires.1 c.requires.2 c.requires.3 in
-    let passed : recovery_admission_of (count_of c.args.w.now) c.args.failed ≡ Accepted = ap (λ (k : ℕ). recovery_admission_of k c.args.failed) (sym c.requires.1) ∙ c.requires.4 in
+    let passed : recovery_admission_of (count_of c.args.w.now) c.args.failed ≡ Ok tt = ap (λ (k : ℕ). recovery_admission_of k c.args.failed) (sym c.requires.1) ∙ c.requires.4 in
     let w = c.args.w.now in let e = members_missing w c.requires.0 c.args.n c.requires.1 c.args.failed _ c.limits_of-limits.ensures _ c.find_members-all.ensures.value c.if-not-all.true in let z = no_member w c.requires.0 c.args.failed c.args.deleted.now c.args.line.now long passed e in record { w_after = z.0; value = z.1.0; deleted_after = z.1.1.0; line_after = z.1.1.1.0; w_unchanged = z.1.1.1.1.0; leaves = z.1.1.1.1.1 }
 
 pub indexes_of-indexes-requires : goal.indexes_of-indexes-requires
@@ -74,7 +74,7 @@ sift-requires c =
 pub returns : goal.returns
 returns c =
     let long : let a = c.args in let n = count_of a.w.now in (ltb (length a.deleted.now) (2 * n * n) || ltb (length a.line.now) n) ≡ false = neither c.args.n (count_of c.args.w.now) (length c.args.deleted.now) (length c.args.line.now) c.requires.1 c.requires.2 c.requires.3 in
-    let passed : recovery_admission_of (count_of c.args.w.now) c.args.failed ≡ Accepted = ap (λ (k : ℕ). recovery_admission_of k c.args.failed) (sym c.requires.1) ∙ c.requires.4 in
+    let passed : recovery_admission_of (count_of c.args.w.now) c.args.failed ≡ Ok tt = ap (λ (k : ℕ). recovery_admission_of k c.args.failed) (sym c.requires.1) ∙ c.requires.4 in
     let there : no_member_of (run_of c.args.w.now) c.args.failed ≡ false = members_there c.args.w.now c.requires.0 c.args.n c.requires.1 c.args.failed _ c.limits_of-limits.ensures _ c.find_members-all.ensures.value c.if-not-all.false in
     let pasts_are : let w = c.args.w.now in c.find_members-all.new.pasts ≡ pasts_in w (count_of w) (limits_in w (count_of w) c.args.failed) = found-are c.args.w.now c.requires.0 c.args.n c.requires.1 c.args.failed _ c.limits_of-limits.ensures _ c.find_members-all.ensures.pasts_after in
     let w = c.args.w.now in let z = recovers w c.requires.0 c.args.failed c.args.deleted.now c.args.line.now long passed there c.args.n _ _ _ c.requires.1 pasts_are

@@ -3,7 +3,8 @@
 use Rattle.std.specs.Prelude.{◌≡◌, ◌&&◌, ◌≤◌}
 use Rattle.laws.specs.Basics.{refl, sym, ◌∙◌, ap, Bool, true, false, false≢true, List, ℕ, arith, length, le-leb, pick, by_bool}
 use Rattle.laws.specs.Loops.{iter}
-use Rattle.model.specs.{declared.Interval.Interval, declared.Pin.Pin, declared.Checkpoint.Checkpoint, declared.Run.Run, Sound.sound, Words.blank, laws.Sound.sound_state}
+use Rattle.model.specs.Shapes.{Pin}
+use Rattle.model.specs.{declared.Interval.Interval, declared.Checkpoint.Checkpoint, declared.Run.Run, Sound.sound, Words.blank, laws.Sound.sound_state}
 use Rattle.words.specs.{Layout.word, Layout.decoded, Layout.fits, Layout.run_of, Puts.puts}
 use Rattle.words.proofs.Reading.{touched}
 use Rattle.library_calls.specs.run_words.Fits.{kept_fits, rows_fit_of, messages_fit_of, fits_words}

@@ -1,9 +1,10 @@
 -- What words hold that a state fills, thing by thing, where the state fits them.
 -- Assumes nothing.
-use Rattle.std.specs.Prelude.{◌≡◌, ◌&&◌, ◌∷◌, ◌+◌, ◌*◌, ◌/◌, ◌%◌, ◌≤◌, ◌<◌}
+use Rattle.std.specs.Prelude.{◌≡◌, ◌&&◌, ◌∷◌, ◌+◌, ◌*◌, ◌/◌, ◌%◌, ◌≤◌, ◌<◌, None}
 use Rattle.laws.specs.Basics.{◌∙◌, ap, Bool, true, false, List, [], ℕ, arith, ltb, leb, length, get_or, lt-ltb, le-leb, by_bool}
 use Rattle.laws.specs.Loops.{iter}
-use Rattle.model.specs.declared.{Interval.Interval, Pin.Pin, Pin.TheVariants.Nothing, Checkpoint.Checkpoint, Message.Message, Run.Run}
+use Rattle.model.specs.Shapes.{Pin}
+use Rattle.model.specs.declared.{Interval.Interval, Checkpoint.Checkpoint, Message.Message, Run.Run}
 use Rattle.model.specs.Words.{entry, past_end}
 use Rattle.words.specs.Layout.{word, wide2, wide4, kept_count_at_of, mark_at, blocks_at_of, part_at, pins_at_of, index_at_of, cause_at_of, stored_at, low_at, high_at, sender_at_of, receiver_at_of, carried_at}
 use Rattle.words.specs.Puts.{Put, puts}
@@ -22,7 +23,7 @@ message s k = get_or s.messages k past_messages
 -- Process p in words.
 pub record HoldsProcess (v : List ℕ) (s : Run) (p : ℕ) : Type 0 where
   pub vector : (f : ℕ) → f < 16 → word v (part_at p + f) ≡ (entry (get_or s.vectors.0 p []) f).0
-  pub pins : (f : ℕ) → f < 16 → word v (pins_at_of p + f) ≡ pin_word (get_or (get_or s.pins.0 p []) f Nothing)
+  pub pins : (f : ℕ) → f < 16 → word v (pins_at_of p + f) ≡ pin_word (get_or (get_or s.pins.0 p []) f None)
   pub kept_count : word v (kept_count_at_of p) ≡ get_or s.kept_count p 0
   pub blocks : word v (blocks_at_of p) ≡ (stored s p 0).blocks
   pub mark : word v (mark_at p) ≡ mark_word_of (get_or s.sent p false)

@@ -1,12 +1,13 @@
 -- A state that fits its words is read back from words that hold it.
 -- Assumes nothing.
-use Rattle.std.specs.Prelude.{◌≡◌, ◌&&◌, ◌∷◌, ◌+◌, ◌-◌, ◌*◌, ◌/◌, ◌%◌, ◌≤◌, ◌<◌}
+use Rattle.std.specs.Prelude.{◌≡◌, ◌&&◌, ◌∷◌, ◌+◌, ◌-◌, ◌*◌, ◌/◌, ◌%◌, ◌≤◌, ◌<◌, None, Some}
 use Rattle.laws.specs.Basics.{refl, sym, ◌∙◌, ap, Bool, true, false, not, List, [], ℕ, zero, suc, arith, eqb, ltb, leb, length, get_or, replicate, ne_eqb, eqb-true, lt-ltb, le-ltb, le-leb, leb-true, not-true, pick, by_eq}
 use lib.Seq.{ext_get_or}
 use Rattle.laws.specs.{Elements.every_table, Lists.table, Lists.placed, Lists.select, Prefixes.placed_length, Rows.by_lt, Rows.every_at, Select.all_chosen}
 use Rattle.laws.specs.{Search.all_below, Search.all_out, Tables.length_table, Tables.get_d_table, Tables.table_is, Tables.table_replicate}
 use Rattle.laws.specs.Truth.{and_out, or_in_right}
-use Rattle.model.specs.declared.{Interval.Interval, Pin.Pin, Pin.TheVariants.Nothing, Pin.TheVariants.At, Checkpoint.Checkpoint, Message.Message, Run.Run}
+use Rattle.model.specs.Shapes.{Pin}
+use Rattle.model.specs.declared.{Interval.Interval, Checkpoint.Checkpoint, Message.Message, Run.Run}
 use Rattle.model.specs.Words.{most_processes, most_under_way, entry, zero_vector, no_pins_of, no_checkpoint, no_message, past_end}
 use Rattle.model.specs.Sound.{zero_from, is_nothing_of, nothing_from, unused_checkpoint, unused_message}
 use Rattle.words.specs.Layout.{word, count_of, kept_count_at_of, part_at, pins_at_of, index_at_of, stored_at, high_at, carried_at, index_of_def, pin_of_def, vector_in, pins_in, mark_in, checkpoint_in, is_kept_in, kept_in, message_in, is_message, messages_in, of_processes, decoded, end_fits_of, run_of}
@@ -29,8 +30,8 @@ zero_vector_lem v e long =
 pub no_pins : (pins : List Pin) → nothing_from 0 pins ≡ true → length pins ≡ 16 → pins ≡ no_pins_of
 unfolding nothing_from
 no_pins pins e long =
-    table_is Nothing pins 16 (λ k. Nothing) long (λ k lt. nothing_is (get_or pins k Nothing) (every_at is_nothing_of pins k Nothing (omega arith) e))
-    ∙ sym (table_replicate 16 Nothing)
+    table_is None pins 16 (λ k. None) long (λ k lt. nothing_is (get_or pins k None) (every_at is_nothing_of pins k None (omega arith) e))
+    ∙ sym (table_replicate 16 None)
 
 pub zero_checkpoint : (c : Checkpoint) → unused_checkpoint c ≡ true → length c.vector ≡ 16 → c ≡ no_checkpoint
 unfolding unused_checkpoint
@@ -67,8 +68,8 @@ same_entry (x ∷ l) (suc k) d e lt = same_entry l k d e (omega arith)
 -- Words of a pin and of a mark.
 pin_word_back : (pin : Pin) → pin_fits pin ≡ true → pin_of_def (pin_word pin) ≡ pin
 unfolding pin_fits pin_word pin_of_def
-pin_word_back Nothing fit = refl
-pin_word_back (At a) fit = rw fit (pin_back a)
+pin_word_back None fit = refl
+pin_word_back (Some a) fit = rw fit (pin_back a)
 
 mark_back : (mark : Bool) → not (eqb (mark_word_of mark) 0) ≡ mark
 unfolding mark_word_of
@@ -111,10 +112,10 @@ module _ (v : List ℕ) (s : Run) (h : Holds v s) (z : Sized s) (fit : fits_word
 
   -- A process of the run.
   module _ (p : ℕ) (lt : p < s.count) (room : p < 16) where
-    used_row : (get_or s.kept_count p 0 ≤ 16) × (all_below 16 (λ f. pin_fits (get_or (get_or s.pins.0 p []) f Nothing)) ≡ true)
+    used_row : (get_or s.kept_count p 0 ≤ 16) × (all_below 16 (λ f. pin_fits (get_or (get_or s.pins.0 p []) f None)) ≡ true)
     unfolding row_fits_of
     used_row =
-        let g = and_out (leb (get_or s.kept_count p 0) 16) (all_below 16 (λ f. pin_fits (get_or (get_or s.pins.0 p []) f Nothing))) (rw (lt-ltb p s.count lt) at (row_fits p room)) in
+        let g = and_out (leb (get_or s.kept_count p 0) 16) (all_below 16 (λ f. pin_fits (get_or (get_or s.pins.0 p []) f None))) (rw (lt-ltb p s.count lt) at (row_fits p room)) in
         (leb-true (get_or s.kept_count p 0) 16 g.0, g.1)
 
     there : HoldsProcess v s p
@@ -125,8 +126,8 @@ module _ (v : List ℕ) (s : Run) (h : Holds v s) (z : Sized s) (fit : fits_word
 
     pins_row : get_or s.pins.0 p [] ≡ pins_in v (pins_at_of p)
     unfolding pins_in
-    pins_row = table_is Nothing (get_or s.pins.0 p []) 16 (λ f. pin_of_def (word v (pins_at_of p + f))) (z.pin_row p room)
-        (λ f l. sym (ap pin_of_def (there.pins f l) ∙ pin_word_back (get_or (get_or s.pins.0 p []) f Nothing) (all_out 16 (λ q. pin_fits (get_or (get_or s.pins.0 p []) q Nothing)) used_row.1 f l)))
+    pins_row = table_is None (get_or s.pins.0 p []) 16 (λ f. pin_of_def (word v (pins_at_of p + f))) (z.pin_row p room)
+        (λ f l. sym (ap pin_of_def (there.pins f l) ∙ pin_word_back (get_or (get_or s.pins.0 p []) f None) (all_out 16 (λ q. pin_fits (get_or (get_or s.pins.0 p []) q None)) used_row.1 f l)))
 
     mark_row : get_or s.sent p false ≡ mark_in v p
     unfolding mark_in

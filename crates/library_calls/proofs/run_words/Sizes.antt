@@ -10,12 +10,14 @@ use denote.Builtin.{Array}
 use denote.Laws.{Is}
 use denote.Struct.Declared.{row}
 use denote.Struct.Laws.{owed}
-use Rattle.model.specs.declared.{Pin.Pin, Interval.Interval, Checkpoint.Checkpoint, Message.Message, Run.Run}
+use Rattle.model.specs.Shapes.{Pin}
+use Rattle.model.specs.declared.{Interval.Interval, Checkpoint.Checkpoint, Message.Message, Run.Run}
 use Rattle.model.specs.Words.{no_checkpoint, past_end, entry}
 use Rattle.library_calls.specs.run_words.Fits.{past_messages}
 use Rattle.model.specs.contracts.Run as run
+use Rattle.model.specs.contracts.CheckpointIndex as index
 use Rattle.model.specs.contracts.Interval as interval
-use Rattle.model.specs.contracts.Pin as pin
+use Rattle.std.specs.contracts.option.Option as option
 use Rattle.model.specs.contracts.Checkpoint as checkpoint
 use Rattle.model.specs.contracts.Message as message
 use Rattle.model.proofs.Run.TheLaws as run-laws
@@ -66,7 +68,7 @@ sizes s vs p =
       vectors = vectors;
       vector_row = vector_row;
       pins = pins;
-      pin_row = λ p lt. each_at (Array pin.the_row tt 16).own_val s.pins.0 pins-known.0 pins-known.1.1 (λ (r : List Pin). length r ≡ 16) (λ r us q. q.1.0.1) p [] (omega arith);
+      pin_row = λ p lt. each_at (Array (option.the_row index.the_row) tt 16).own_val s.pins.0 pins-known.0 pins-known.1.1 (λ (r : List Pin). length r ≡ 16) (λ r us q. q.1.0.1) p [] (omega arith);
       sent = sent_known.1.0.1;
       kept = kept;
       kept_row = kept_row;

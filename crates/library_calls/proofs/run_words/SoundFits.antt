@@ -1,11 +1,12 @@
 -- A sound state fits its words.
 -- Assumes nothing.
-use Rattle.std.specs.Prelude.{◌≡◌, ◌&&◌, ◌-◌, ◌/◌, ◌%◌, ◌≤◌, ◌<◌}
-use Rattle.laws.specs.Basics.{refl, sym, ◌∙◌, ap, true, false, not, List, [], Option, some, ℕ, suc, arith, eqb, length, get_or, take, length-take-le, ne_eqb, eqb-true, lt-ltb, le-ltb, le-leb, by_eq}
+use Rattle.std.specs.Prelude.{◌≡◌, ◌&&◌, ◌-◌, ◌/◌, ◌%◌, ◌≤◌, ◌<◌, None}
+use Rattle.laws.specs.Basics.{refl, sym, ◌∙◌, ap, true, false, not, List, [], Option, Some, ℕ, suc, arith, eqb, length, get_or, take, length-take-le, ne_eqb, eqb-true, lt-ltb, le-ltb, le-leb, by_eq}
 use lib.Seq.{get_or-take}
 use Rattle.laws.specs.{Lists.or_else, Lists.last_of, Rows.by_lt, Rows.every_at, Rows.every_beyond, Rows.some_where, Rows.last_take, Search.all_in, Tests.every}
 use Rattle.laws.specs.Truth.{and_out, and_both}
-use Rattle.model.specs.declared.{Pin.Pin, Pin.TheVariants.Nothing, Pin.TheVariants.At, Checkpoint.Checkpoint, CheckpointIndex.CheckpointIndex, Run.Run}
+use Rattle.model.specs.Shapes.{Pin}
+use Rattle.model.specs.declared.{Checkpoint.Checkpoint, CheckpointIndex.CheckpointIndex, Run.Run}
 use Rattle.model.specs.declared.Message.{Message}
 use Rattle.model.specs.Words.{names, no_checkpoint, past_end, block_count, process, own, under_way}
 use Rattle.model.specs.Sound.{cause_sound, is_block_count_of, record_sound, pin_sound, message_sound, zero_from, nothing_from, unused_checkpoint, unused_message, sound}
@@ -54,7 +55,7 @@ module _ (s : Run) (h : sound s ≡ true) (z : Sized s) where
     last_at : (stored s p (kept_count_of_def - 1)).index.0 ≡ (own s p).0 - 1
     last_at =
         let e : kept_count_of_def ≡ suc (kept_count_of_def - 1) = omega (arith, known.kept_count_some) in
-        let l : last_of (take kept_count_of_def row) ≡ some (stored s p (kept_count_of_def - 1)) = ap (λ (n : ℕ). last_of (take n row)) e ∙ last_take row (kept_count_of_def - 1) past_end (omega (arith, z.kept_row p room, kept_count_few, known.kept_count_some)) in
+        let l : last_of (take kept_count_of_def row) ≡ Some (stored s p (kept_count_of_def - 1)) = ap (λ (n : ℕ). last_of (take n row)) e ∙ last_take row (kept_count_of_def - 1) past_end (omega (arith, z.kept_row p room, kept_count_few, known.kept_count_some)) in
         let m : or_else (last_of (process s p).kept) no_checkpoint ≡ stored s p (kept_count_of_def - 1) = ap (λ (q : List Checkpoint). or_else (last_of q) no_checkpoint) kept_is ∙ ap (λ (o : Option Checkpoint). or_else o no_checkpoint) l in
         sym (ap (λ (c : Checkpoint). c.index.0) m) ∙ known.kept_last
 
@@ -100,20 +101,20 @@ module _ (s : Run) (h : sound s ≡ true) (z : Sized s) where
 
     pin_fits_lem : (pin : Pin) → pin_sound (process s p).kept pin ≡ true → pin_fits pin ≡ true
     unfolding pin_sound pin_fits
-    pin_fits_lem Nothing e = refl
-    pin_fits_lem (At a) e =
-        let o = some_where (λ (c : Checkpoint). names (At a) c.index) (take kept_count_of_def row) past_end (rw kept_is at e) in
+    pin_fits_lem None e = refl
+    pin_fits_lem (Some a) e =
+        let o = some_where (λ (c : Checkpoint). names (Some a) c.index) (take kept_count_of_def row) past_end (rw kept_is at e) in
         let less : o.0 < kept_count_of_def = omega (arith, o.1, long) in
         let same : a.0 ≡ (stored s p o.0).index.0 = eqb-true a.0 (stored s p o.0).index.0 (rw (at o.0 less) at o.2) in
         index_fits_lem a (omega (arith, index_small o.0 less))
 
-    pins_fit : (f : ℕ) → f < 16 → pin_fits (get_or (get_or s.pins.0 p []) f Nothing) ≡ true
+    pins_fit : (f : ℕ) → f < 16 → pin_fits (get_or (get_or s.pins.0 p []) f None) ≡ true
     unfolding process
-    pins_fit f less = pin_fits_lem (get_or (get_or s.pins.0 p []) f Nothing) (every_at (pin_sound (process s p).kept) (get_or s.pins.0 p []) f Nothing (omega (arith, z.pin_row p room)) known.pins_kept)
+    pins_fit f less = pin_fits_lem (get_or (get_or s.pins.0 p []) f None) (every_at (pin_sound (process s p).kept) (get_or s.pins.0 p []) f None (omega (arith, z.pin_row p room)) known.pins_kept)
 
     used_row : row_fits_of p s.count (get_or s.vectors.0 p []) (get_or s.pins.0 p []) kept_count_of_def (get_or s.sent p false) ≡ true
     unfolding row_fits_of
-    used_row = rw (lt-ltb p s.count lt, le-leb kept_count_of_def 16 kept_count_few) (all_in 16 (λ f. pin_fits (get_or (get_or s.pins.0 p []) f Nothing)) pins_fit)
+    used_row = rw (lt-ltb p s.count lt, le-leb kept_count_of_def 16 kept_count_few) (all_in 16 (λ f. pin_fits (get_or (get_or s.pins.0 p []) f None)) pins_fit)
 
   module _ (p : ℕ) (le : s.count ≤ p) (lt : p < 16) where
     none_kept_count : get_or s.kept_count p 0 ≡ 0
@@ -145,7 +146,7 @@ module _ (s : Run) (h : sound s ≡ true) (z : Sized s) where
         let long : length (take s.underway s.messages) ≡ s.underway = length-take-le s.underway s.messages (omega (arith, z.messages, st.underway_most)) in
         let at : get_or (take s.underway s.messages) k past_messages ≡ message s k = get_or-take s.underway s.messages k past_messages less in
         let one = ascending_least (λ (x : Message). x.number) past_messages 1 (take s.underway s.messages) k (rw under_way_is at st.messages_ascend) (omega (arith, long)) in
-        let some : 1 ≤ (message s k).number = rw at at one in
+        let numbered : 1 ≤ (message s k).number = rw at at one in
         let all = every_at (message_sound s) (take s.underway s.messages) k past_messages (omega (arith, long)) (rw under_way_is at st.messages_sound_lem) in
         let m = sound_message s (message s k) (rw at at all) in
         rw (lt-ltb k s.underway less, ne_eqb (message s k).number 0 (λ e. omega arith), lt-ltb (message s k).sender 65_536 (omega (arith, m.from, few)), lt-ltb (message s k).receiver 65_536 (omega (arith, m.to, few))))

@@ -1,9 +1,10 @@
 -- One step of the filling, in its cases: what a function returns and leaves of the words is what the definitions say.
 -- Assumes nothing.
-use Rattle.std.specs.Prelude.{◌≡◌, ◌&&◌, ◌∷◌, ◌+◌, ◌/◌, ◌%◌, ◌≤◌, ◌<◌}
+use Rattle.std.specs.Prelude.{◌≡◌, ◌&&◌, ◌∷◌, ◌+◌, ◌/◌, ◌%◌, ◌≤◌, ◌<◌, None}
 use Rattle.laws.specs.Basics.{refl, ◌∙◌, ap, Bool, true, false, not, List, [], ℕ, arith, eqb, get_or, set, lt-ltb, le-ltb, le-leb, lt-leb}
 use Rattle.laws.specs.Search.{all_below}
-use Rattle.model.specs.declared.{Interval.Interval, Pin.Pin, Pin.TheVariants.Nothing, Checkpoint.Checkpoint, Message.Message, Disk.Disk}
+use Rattle.model.specs.Shapes.{Pin}
+use Rattle.model.specs.declared.{Interval.Interval, Checkpoint.Checkpoint, Message.Message, Disk.Disk}
 use Rattle.model.specs.{Words.past_end, Sound.zero_from, Sound.nothing_from, Sound.unused_checkpoint, Sound.unused_message}
 use Rattle.words.specs.Layout.{kept_count_at_of, mark_at, blocks_at_of, part_at, pins_at_of, index_at_of, cause_at_of, stored_at}
 use Rattle.words.specs.Puts.{puts, vector_put, puts2, puts4}
@@ -45,7 +46,7 @@ module _ (p n : ℕ) (vector : List Interval) (pins : List Pin) (kept_count_of_d
   unfolding row_fits_of row_filled
   row_refused lt more = rw (lt-ltb p n lt, lt-leb kept_count_of_def 16 more) (refl, refl)
 
-  pub row_put : (r : Bool) (v : List ℕ) → p < n → kept_count_of_def ≤ 16 → r ≡ all_below 16 (λ f. pin_fits (get_or pins f Nothing)) → v ≡ puts w (process_puts p vector pins kept_count_of_def mark)
+  pub row_put : (r : Bool) (v : List ℕ) → p < n → kept_count_of_def ≤ 16 → r ≡ all_below 16 (λ f. pin_fits (get_or pins f None)) → v ≡ puts w (process_puts p vector pins kept_count_of_def mark)
       → (r ≡ row_fits_of p n vector pins kept_count_of_def mark) × (v ≡ row_filled p n vector pins kept_count_of_def mark w)
   unfolding row_fits_of row_filled
   row_put r v lt few e q = rw (lt-ltb p n lt, le-leb kept_count_of_def 16 few) (e, q)

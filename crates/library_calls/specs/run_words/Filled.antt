@@ -1,9 +1,10 @@
 -- The words of a state that fits, thing by thing: what is put where, in the order in which it is put.
 -- Assumes nothing.
-use Rattle.std.specs.Prelude.{◌≡◌, ◌&&◌, ◌∷◌, ◌++◌, ◌+◌, ◌/◌, ◌%◌}
+use Rattle.std.specs.Prelude.{◌≡◌, ◌&&◌, ◌∷◌, ◌++◌, ◌+◌, ◌/◌, ◌%◌, None, Some}
 use Rattle.laws.specs.Basics.{Bool, true, false, List, [], ℕ, ltb, leb, get_or, pick}
 use Rattle.laws.specs.Loops.{iter}
-use Rattle.model.specs.declared.{Interval.Interval, Pin.Pin, Pin.TheVariants.Nothing, Pin.TheVariants.At, Checkpoint.Checkpoint, Message.Message, Disk.Disk}
+use Rattle.model.specs.Shapes.{Pin}
+use Rattle.model.specs.declared.{Interval.Interval, Checkpoint.Checkpoint, Message.Message, Disk.Disk}
 use Rattle.model.specs.declared.Run.{Run}
 use Rattle.model.specs.{Sound.sound, Words.most_processes, Words.past_end, Words.most_under_way, Words.kept_places}
 use Rattle.words.specs.Layout.{run_of, kept_count_at_of, mark_at, blocks_at_of, part_at, pins_at_of, index_at_of, cause_at_of, stored_at, low_at, high_at, sender_at_of, receiver_at_of, carried_at}
@@ -12,11 +13,11 @@ use Rattle.library_calls.specs.run_words.Fits.{past_messages, index_fits, messag
 
 -- The word of a pin: one above the index that it names, 0 if it names none.
 unfoldable pub pin_word : Pin → ℕ
-pin_word Nothing = 0
-pin_word (At a) = pick (index_fits a) (a.0 + 1) 0
+pin_word None = 0
+pin_word (Some a) = pick (index_fits a) (a.0 + 1) 0
 
 abbrev pub pins_put : ℕ → List Pin → Put
-pins_put at pins = record { at = at; size = most_processes; fill = λ f. pin_word (get_or pins f Nothing) }
+pins_put at pins = record { at = at; size = most_processes; fill = λ f. pin_word (get_or pins f None) }
 
 unfoldable pub mark_word_of : Bool → ℕ
 mark_word_of mark = pick mark 1 0

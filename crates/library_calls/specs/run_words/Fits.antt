@@ -1,9 +1,10 @@
 -- "A state fits its words if, read back, it is the same `Run`; one that does not is not sound (numbers that are too wide, unequal block counts, anything in unused places)".
 -- Assumes nothing.
-use Rattle.std.specs.Prelude.{◌&&◌, ◌/◌, ◌%◌}
+use Rattle.std.specs.Prelude.{◌&&◌, ◌/◌, ◌%◌, None, Some}
 use Rattle.laws.specs.Basics.{Bool, true, false, not, List, [], ℕ, eqb, ltb, leb, get_or, pick}
 use Rattle.laws.specs.Search.{all_below}
-use Rattle.model.specs.declared.{Interval.Interval, CheckpointIndex.CheckpointIndex, Pin.Pin, Pin.TheVariants.Nothing, Pin.TheVariants.At, Message.Message}
+use Rattle.model.specs.Shapes.{Pin}
+use Rattle.model.specs.declared.{Interval.Interval, CheckpointIndex.CheckpointIndex, Message.Message}
 use Rattle.model.specs.{declared.Checkpoint.Checkpoint, declared.Run.Run, Sound.zero_from, Sound.nothing_from, Sound.unused_checkpoint, Sound.unused_message}
 use Rattle.model.specs.Words.{most_processes, most_under_way, past_end, most_interval, kept_places}
 
@@ -16,8 +17,8 @@ unfoldable pub index_fits : CheckpointIndex → Bool
 index_fits a = not (eqb a.0 most_interval)
 
 unfoldable pub pin_fits : Pin → Bool
-pin_fits Nothing = true
-pin_fits (At a) = index_fits a
+pin_fits None = true
+pin_fits (Some a) = index_fits a
 
 -- and a sender and a receiver are one word each. A message in use has a number that is not 0.
 unfoldable pub message_fits : Message → Bool
@@ -34,7 +35,7 @@ place_fits k kept_count_of_def blocks c = pick (ltb k kept_count_of_def) (checkp
 -- in the row of a process at n and above,
 unfoldable pub row_fits_of : ℕ → ℕ → List Interval → List Pin → ℕ → Bool → Bool
 row_fits_of p n vector pins kept_count_of_def mark = pick (ltb p n)
-    (leb kept_count_of_def most_processes && all_below most_processes (λ f. pin_fits (get_or pins f Nothing)))
+    (leb kept_count_of_def most_processes && all_below most_processes (λ f. pin_fits (get_or pins f None)))
     (zero_from 0 vector && nothing_from 0 pins && eqb kept_count_of_def 0 && not mark)
 
 -- and after the messages under way.

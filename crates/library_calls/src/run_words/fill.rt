@@ -1,9 +1,8 @@
 // Words filled from a state. A state fits its words if, read back, it is the same: specs/Fits says when, and a sound one does. Where it does not fit, the words stand for no
 // sound state either, so that a call in place refuses them as it would the state. One pass puts each thing and tests it, so that each is read once.
-ghost use Rattle.std.specs.Prelude.{◌≡◌, ◌&&◌, ◌∷◌, ◌+◌, ◌≤◌, ◌<◌};
+ghost use Rattle.std.specs.Prelude.{◌≡◌, ◌&&◌, ◌∷◌, ◌+◌, ◌≤◌, ◌<◌, None};
 ghost use Rattle.laws.specs.Basics.{true, [], leb, length, get_or, pick};
 ghost use Rattle.laws.specs.{Loops.iter, Search.all_below};
-ghost use Rattle.model.specs.declared.Pin.TheVariants.{Nothing};
 ghost use Rattle.model.specs.Sound.{zero_from, is_nothing_of, nothing_from, unused_checkpoint, unused_message};
 ghost use Rattle.model.specs.Words.{most_processes, most_under_way, kept_places};
 ghost use Rattle.words.specs.{Layout.state_size, Puts.puts};
@@ -35,8 +34,8 @@ fn is_pin_fit(pin: Pin) -> bool
     ensures { result ≡ pin_fits pin }
 {
     match pin {
-        Pin::Nothing => true,
-        Pin::At(a) => is_index_fit(a),
+        None => true,
+        Some(a) => is_index_fit(a),
     }
 }
 
@@ -50,14 +49,14 @@ fn word_of_pin(pin: Pin) -> u16
     ensures { result ≡ pin_word pin }
 {
     match pin {
-        Pin::Nothing => 0,
-        Pin::At(a) => word_of_index(a),
+        None => 0,
+        Some(a) => word_of_index(a),
     }
 }
 
 fn put_pins(w: &mut [u16], at: usize, pins: [Pin; PROCESSES]) -> bool
     requires { at + most_processes ≤ length w.old }
-    ensures { (result ≡ all_below most_processes (λ f. pin_fits (get_or pins f Nothing))) × (w.new ≡ puts w.old (pins_put at pins ∷ [])) }
+    ensures { (result ≡ all_below most_processes (λ f. pin_fits (get_or pins f None))) × (w.new ≡ puts w.old (pins_put at pins ∷ [])) }
 {
     let mut all = true;
     for f in 0..PROCESSES {
@@ -86,8 +85,8 @@ fn is_nothing(pin: Pin) -> bool
     ensures { result ≡ is_nothing_of pin }
 {
     match pin {
-        Pin::Nothing => true,
-        Pin::At(a) => false,
+        None => true,
+        Some(a) => false,
     }
 }
 
@@ -186,7 +185,7 @@ fn put_process(
     mark: bool,
 ) -> bool
     requires { (length w.old ≡ state_size) × (p < most_processes) × (kept_count ≤ most_processes) }
-    ensures { (result ≡ all_below most_processes (λ f. pin_fits (get_or pins f Nothing))) × (w.new ≡ puts w.old (process_puts p vector pins kept_count mark)) }
+    ensures { (result ≡ all_below most_processes (λ f. pin_fits (get_or pins f None))) × (w.new ≡ puts w.old (process_puts p vector pins kept_count mark)) }
 {
     words::put_vector(w, places::PARTS + places::PART * p, vector);
     let fit = put_pins(w, places::PINS + places::PART * p, pins);

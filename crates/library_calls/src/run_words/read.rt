@@ -13,7 +13,7 @@ fn pins_at(w: &[u16], at: usize) -> [Pin; PROCESSES]
     requires { at + most_processes ≤ length w.now }
     ensures { result ≡ pins_in w.now at }
 {
-    let none = Pin::Nothing;
+    let none = None;
     let mut pins = [none; PROCESSES];
     for f in 0..PROCESSES {
         let pin = words::pin_of(w[at + f]);

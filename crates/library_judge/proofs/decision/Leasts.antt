@@ -1,83 +1,71 @@
 -- What the least crossing says of all messages.
 -- Assumes nothing.
 use Rattle.std.specs.Prelude.{◌≡◌, ◌≤◌, ◌<◌}
-use Rattle.laws.specs.Basics.{refl, sym, ◌∙◌, ap, true, false, false≢true, List, ℕ, zero, suc, arith, ltb, lt-ltb, le-ltb, ltb-true, ltb-false, by_bool, by_eq}
-use Rattle.laws.specs.Loops.{iter}
-use Rattle.library_judge.specs.declared.decision.crossing.Least.{Least}
-use Rattle.library_judge.specs.decision.Crossings.{crosses_at, known_at, crossing_of, lesser_of, least_crossing_of, no_least}
+use Rattle.laws.specs.Basics.{refl, sym, ◌∙◌, true, false, false≢true, List, Option, None, Some, ℕ, zero, suc, arith, get_or, min, by_bool, by_eq}
+use Rattle.laws.specs.{Loops.iter, Options.some_same, Options.none≢some}
+use Rattle.library_judge.specs.declared.pattern.{State.State, Sent.Sent}
+use Rattle.library_judge.specs.decision.Rows.{no_sent}
+use Rattle.library_judge.specs.decision.Crossings.{crosses_at, known_at, crossing_of, lesser_of, least_crossing_of}
 
-module _ (vectors from to : List ℕ) (f : ℕ) where
-  pub record LeastOf (last : ℕ) (r : Least) : Type 0 where
-    pub one : r.found ≡ true → (m : ℕ) × (m < last) × (crosses_at vectors from to f m ≡ true) × (known_at vectors to f m ≡ r.least)
-    pub all : (m : ℕ) → m < last → crosses_at vectors from to f m ≡ true → (r.found ≡ true) × (r.least ≤ known_at vectors to f m)
+module _ (states : List State) (messages : List Sent) (f : ℕ) where
+  pub record LeastOf (last : ℕ) (r : Option ℕ) : Type 0 where
+    pub one : (v : ℕ) → r ≡ Some v → (m : ℕ) × (m < last) × (crosses_at states messages f m ≡ true) × (known_at states messages f m ≡ v)
+    pub all : (m : ℕ) → m < last → crosses_at states messages f m ≡ true → (v : ℕ) × (r ≡ Some v) × (v ≤ known_at states messages f m)
 
-  none_yet : LeastOf 0 no_least
-  none_yet = record { one = λ e. absurd (false≢true e); all = λ m h e. absurd (omega arith) }
+  none_yet : LeastOf 0 None
+  none_yet = record { one = λ v e. absurd (none≢some e); all = λ m h e. absurd (omega arith) }
 
-  skip : (m : ℕ) (a : Least) → LeastOf m a → crosses_at vectors from to f m ≡ false → LeastOf (suc m) a
+  skip : (m : ℕ) (a : Option ℕ) → LeastOf m a → crosses_at states messages f m ≡ false → LeastOf (suc m) a
   skip m a w e = record {
-    one = λ d. let v = w.one d in (v.0, omega (arith, v.1), v.2, v.3);
+    one = λ v d. let o = w.one v d in (o.0, omega (arith, o.1), o.2, o.3);
     all = λ x h d. by_eq x m
         (λ q. absurd (false≢true (sym e ∙ (rw q at d))))
         (λ ne. w.all x (omega arith) d);
   }
 
-  lesser_no : (a b : Least) → b.found ≡ false → lesser_of a b ≡ a
-  unfolding lesser_of
-  lesser_no a b e = rw e
+  -- One more message crosses: it is the first, or the lesser of two is known.
+  first_one : (m : ℕ) → LeastOf m None → crosses_at states messages f m ≡ true → LeastOf (suc m) (Some (known_at states messages f m))
+  first_one m w e = record {
+    one = λ v d. (m, omega arith, e, some_same d);
+    all = λ x h d. by_eq x m
+        (λ q. rw q (known_at states messages f m, refl, omega arith))
+        (λ ne. absurd (none≢some (w.all x (omega arith) d).1));
+  }
 
-  lesser_first : (a b : Least) → a.found ≡ false → b.found ≡ true → lesser_of a b ≡ b
-  unfolding lesser_of
-  lesser_first a b d e = rw (d, e)
-
-  lesser_less : (a b : Least) → a.found ≡ true → b.found ≡ true → b.least < a.least → lesser_of a b ≡ b
-  unfolding lesser_of
-  lesser_less a b d e h = rw (d, e, lt-ltb b.least a.least h)
-
-  lesser_more : (a b : Least) → a.found ≡ true → b.found ≡ true → a.least ≤ b.least → lesser_of a b ≡ a
-  unfolding lesser_of
-  lesser_more a b d e h = rw (d, e, le-ltb b.least a.least h)
-
-  -- the new one is the least
-  take_new : (m : ℕ) (a : Least) (b : Least) → LeastOf m a → crosses_at vectors from to f m ≡ true → b ≡ record { found = true; least = known_at vectors to f m }
-      → (a.found ≡ true → b.least ≤ a.least) → LeastOf (suc m) b
-  take_new m a b w e is less = rw is (record {
-    one = λ d. (m, omega arith, e, refl);
+  one_more : (m a : ℕ) → LeastOf m (Some a) → crosses_at states messages f m ≡ true → LeastOf (suc m) (Some (min a (known_at states messages f m)))
+  one_more m a w e = let k = known_at states messages f m in record {
+    one = λ v d. let least : min a k ≡ v = some_same d in by_eq (min a k) a
+        (λ q. let o = w.one a refl in (o.0, omega (arith, o.1), o.2, omega (arith, o.3, q, least)))
+        (λ ne. (m, omega arith, e, omega (arith, ne, least)));
     all = λ x h d. (
+      min a k,
       refl,
       by_eq x m
           (λ q. rw q (omega arith))
-          (λ ne. let v = w.all x (omega arith) d in omega (arith, v.1, less v.0, ap (λ (y : Least). y.least) is)),
+          (λ ne. let o = w.all x (omega arith) d in let same : a ≡ o.0 = some_same o.1 in omega (arith, o.2, same)),
     );
-  })
-
-  keep_old : (m : ℕ) (a : Least) → LeastOf m a → a.found ≡ true → a.least ≤ known_at vectors to f m → LeastOf (suc m) a
-  keep_old m a w t le = record {
-    one = λ d. let v = w.one d in (v.0, omega (arith, v.1), v.2, v.3);
-    all = λ x h d. (t, by_eq x m (λ q. rw q le) (λ ne. (w.all x (omega arith) d).1));
   }
 
-  one_more_step : (m : ℕ) (a : Least) → LeastOf m a → LeastOf (suc m) (lesser_of a (crossing_of vectors from to f m))
-  one_more_step m a w = by_bool (crosses_at vectors from to f m)
-      (λ e.
-      let new : Least = record { found = true; least = known_at vectors to f m } in
-      let is : crossing_of vectors from to f m ≡ new = crossing_yes e in
-      rw is (by_bool a.found
-      (λ d. by_bool (ltb (known_at vectors to f m) a.least)
-      (λ l. let h = ltb-true (known_at vectors to f m) a.least l in rw (lesser_less a new d refl h) (take_new m a new w e refl (λ _. omega arith)))
-      (λ l. let h = ltb-false (known_at vectors to f m) a.least l in rw (lesser_more a new d refl h) (keep_old m a w d h)))
-      (λ d. rw (lesser_first a new d refl) (take_new m a new w e refl (λ q. absurd (false≢true (sym d ∙ q)))))))
-      (λ e.
-      let is : crossing_of vectors from to f m ≡ no_least = crossing_no e in
-      rw (is, lesser_no a no_least refl) (skip m a w e))
+  one_more_step : (m : ℕ) (a : Option ℕ) → LeastOf m a → LeastOf (suc m) (lesser_of a (crossing_of states f (get_or messages m no_sent)))
+  unfolding lesser_of
+  one_more_step m a w = by_bool (crosses_at states messages f m)
+      (λ e. rw (crossing_yes e) (with_one a w e))
+      (λ e. rw (crossing_no e) (without a w e))
     where
-      crossing_yes : crosses_at vectors from to f m ≡ true → crossing_of vectors from to f m ≡ record { found = true; least = known_at vectors to f m }
+      crossing_yes : crosses_at states messages f m ≡ true → crossing_of states f (get_or messages m no_sent) ≡ Some (known_at states messages f m)
       crossing_yes e = unfold crossing_of in rw e
 
-      crossing_no : crosses_at vectors from to f m ≡ false → crossing_of vectors from to f m ≡ no_least
+      crossing_no : crosses_at states messages f m ≡ false → crossing_of states f (get_or messages m no_sent) ≡ None
       crossing_no e = unfold crossing_of in rw e
 
-  pub least_of : (last : ℕ) → LeastOf last (least_crossing_of vectors from to f last)
+      with_one : (a : Option ℕ) → LeastOf m a → crosses_at states messages f m ≡ true → LeastOf (suc m) (lesser_of a (Some (known_at states messages f m)))
+      with_one None w e = first_one m w e
+      with_one (Some x) w e = one_more m x w e
+
+      without : (a : Option ℕ) → LeastOf m a → crosses_at states messages f m ≡ false → LeastOf (suc m) (lesser_of a None)
+      without a w e = skip m a w e
+
+  pub least_of : (last : ℕ) → LeastOf last (least_crossing_of states messages f last)
   unfolding least_crossing_of iter
   least_of zero = none_yet
-  least_of (suc m) = one_more_step m (least_crossing_of vectors from to f m) (least_of m)
+  least_of (suc m) = one_more_step m (least_crossing_of states messages f m) (least_of m)

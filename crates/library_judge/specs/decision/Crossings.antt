@@ -1,53 +1,57 @@
--- Which received messages cross, on the tables: `from` has the row of each message's send, `to` the row of its receipt and 1, or 0.
+-- Which received messages cross.
 -- Assumes nothing.
 use Rattle.std.specs.Prelude.{◌≡◌, ◌&&◌, ◌+◌, ◌-◌, ◌≤◌, ◌<◌}
-use Rattle.laws.specs.Basics.{sym, ◌∙◌, ap, Bool, true, false, not, List, ℕ, eqb, ltb, length, get_or, pick}
+use Rattle.laws.specs.Basics.{◌∙◌, ap, Bool, not, List, Option, None, Some, ℕ, eqb, ltb, min, length, get_or, pick}
 use Rattle.laws.specs.Loops.{iter, iter_none, iter_more}
-use Rattle.library_judge.specs.declared.{decision.crossing.Least.Least, decision.crossing.Near.Near}
-use Rattle.library_judge.specs.decision.Rows.{entry_at, table_size, most_rows}
+use Rattle.theory_patterns.specs.declared.End.{End}
+use Rattle.library_judge.specs.declared.pattern.{State.State, Sent.Sent}
+use Rattle.library_judge.specs.decision.Rows.{no_sent, entry_at, receipt_mark}
 
--- Every row that a message names is in the table.
-pub record Sized (last : ℕ) (vectors from to : List ℕ) : Type 0 where
-  pub room : table_size ≤ length vectors
-  pub sends : last ≤ length from
-  pub receipts : last ≤ length to
-  pub from_row : (m : ℕ) → m < last → get_or from m 0 < most_rows
-  pub to_row : (m : ℕ) → m < last → get_or to m 0 ≤ most_rows
+-- The rows that a message names are there.
+abbrev pub Inside : ℕ → Sent → Type 0
+Inside rows x = (x.from < rows) × (receipt_mark x.fate ≤ rows)
+
+-- Every row that a message names is.
+abbrev pub Sized : List State → List Sent → Type 0
+Sized states messages = (m : ℕ) → m < length messages → Inside (length states) (get_or messages m no_sent)
 
 -- What the state that ends the receiver's interval knows of f.
-abbrev pub known_at : List ℕ → List ℕ → ℕ → ℕ → ℕ
-known_at vectors to f m = entry_at vectors (get_or to m 0 - 1) f
+abbrev pub known_by : List State → ℕ → Sent → ℕ
+known_by states f x = entry_at states (receipt_mark x.fate - 1) f
 
--- The message in place m is received and crosses for f.
-unfoldable pub crosses_at : List ℕ → List ℕ → List ℕ → ℕ → ℕ → Bool
-crosses_at vectors from to f m = not (eqb (get_or to m 0) 0) && ltb (known_at vectors to f m) (entry_at vectors (get_or from m 0) f)
+abbrev pub known_at : List State → List Sent → ℕ → ℕ → ℕ
+known_at states messages f m = known_by states f (get_or messages m no_sent)
 
-abbrev pub no_least : Least
-no_least = record { found = false; least = 0 }
+-- A message is received and crosses for f.
+unfoldable pub crosses_by : List State → ℕ → Sent → Bool
+crosses_by states f x = not (eqb (receipt_mark x.fate) 0) && ltb (known_by states f x) (entry_at states x.from f)
 
-unfoldable pub crossing_of : List ℕ → List ℕ → List ℕ → ℕ → ℕ → Least
-crossing_of vectors from to f m = pick (crosses_at vectors from to f m) (record { found = true; least = known_at vectors to f m }) no_least
+abbrev pub crosses_at : List State → List Sent → ℕ → ℕ → Bool
+crosses_at states messages f m = crosses_by states f (get_or messages m no_sent)
 
-unfoldable pub lesser_of : Least → Least → Least
-lesser_of a b = pick b.found (pick a.found (pick (ltb b.least a.least) b a) b) a
+unfoldable pub crossing_of : List State → ℕ → Sent → Option ℕ
+crossing_of states f x = pick (crosses_by states f x) (Some (known_by states f x)) None
 
-unfoldable pub least_crossing_of : List ℕ → List ℕ → List ℕ → ℕ → ℕ → Least
-least_crossing_of vectors from to f last = iter last (λ m a. lesser_of a (crossing_of vectors from to f m)) no_least
+-- The lesser of two that may be there.
+unfoldable pub lesser_of : Option ℕ → Option ℕ → Option ℕ
+lesser_of a None = a
+lesser_of None (Some y) = Some y
+lesser_of (Some x) (Some y) = Some (min x y)
 
-module _ (vectors from to : List ℕ) (f : ℕ) where
-  pub least_none : no_least ≡ least_crossing_of vectors from to f 0
+unfoldable pub least_crossing_of : List State → List Sent → ℕ → ℕ → Option ℕ
+least_crossing_of states messages f last = iter last (λ m a. lesser_of a (crossing_of states f (get_or messages m no_sent))) None
+
+module _ (states : List State) (messages : List Sent) (f : ℕ) where
+  pub least_none : None ≡ least_crossing_of states messages f 0
   unfolding least_crossing_of
-  least_none = iter_none (λ m a. lesser_of a (crossing_of vectors from to f m)) no_least
+  least_none = iter_none (λ m a. lesser_of a (crossing_of states f (get_or messages m no_sent))) None
 
-  pub least_more : (m : ℕ) (a b r : Least) → a ≡ least_crossing_of vectors from to f m → b ≡ crossing_of vectors from to f m → r ≡ lesser_of a b → r ≡ least_crossing_of vectors from to f (m + 1)
+  pub least_more : (m : ℕ) (a b r : Option ℕ) → a ≡ least_crossing_of states messages f m → b ≡ crossing_of states f (get_or messages m no_sent) → r ≡ lesser_of a b → r ≡ least_crossing_of states messages f (m + 1)
   unfolding least_crossing_of
-  least_more m a b r e g h = iter_more (λ m a. lesser_of a (crossing_of vectors from to f m)) no_least a m r e (h ∙ ap (lesser_of a) g)
+  least_more m a b r e g h = iter_more (λ m a. lesser_of a (crossing_of states f (get_or messages m no_sent))) None a m r e (h ∙ ap (lesser_of a) g)
 
--- The first process for which a message crosses.
-pub record NearEnd (vectors from to : List ℕ) (last n : ℕ) (r : Near) : Type 0 where
-  pub at : r.found ≡ true → (r.process < n) × (least_crossing_of vectors from to r.process last ≡ record { found = true; least = r.index })
-  pub before : r.found ≡ true → (f : ℕ) → f < r.process → (least_crossing_of vectors from to f last).found ≡ false
-  pub none : r.found ≡ false → (f : ℕ) → f < n → (least_crossing_of vectors from to f last).found ≡ false
-
-pub found_is : (r v : Least) → r ≡ v → r.found ≡ true → v ≡ record { found = true; least = r.least }
-found_is r v e t = sym e ∙ ap (λ (b : Bool). record { found = b; least = r.least }) t
+-- The first process for which a message crosses, and the least entry there.
+abbrev pub NearEnd : List State → List Sent → ℕ → Option End → Type 0
+NearEnd states messages n None = (f : ℕ) → f < n → least_crossing_of states messages f (length messages) ≡ None
+NearEnd states messages n (Some e) = (e.process < n) × (least_crossing_of states messages e.process (length messages) ≡ Some e.index.0)
+    × ((f : ℕ) → f < e.process → least_crossing_of states messages f (length messages) ≡ None)

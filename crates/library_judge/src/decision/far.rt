@@ -1,41 +1,33 @@
 // The far end: the first process whose least reached row does not know the near end.
-ghost use Rattle.std.specs.Prelude.{◌≡◌, ◌+◌, ◌*◌, ◌≤◌, ◌<◌};
+ghost use Rattle.std.specs.Prelude.{◌≤◌, ◌<◌};
+ghost use Rattle.laws.specs.Basics.{length};
 ghost use Rattle.model.specs.Words.{most_processes};
 ghost use Rattle.library_judge.specs.decision.Far.{Reaching, FarEnd};
 
-use crate::decision::NO_ROW;
-use model::PROCESSES;
-
-#[derive(Clone, Copy)]
-pub struct Far {
-    pub found: bool,
-    pub process: usize,
-    pub index: u16,
-}
+use crate::pattern::State;
+use model::{CheckpointIndex, PROCESSES};
+use theory_patterns::End;
 
 // The first process whose least reached row does not know the near end, and that row's own entry.
-pub fn far_end(vectors: &[u16], reach: [u16; PROCESSES], n: usize, p: usize, k: u16) -> Far
-    requires { (n ≤ most_processes) × (p < most_processes) × Reaching vectors.now reach }
-    ensures { FarEnd vectors.now reach n p k result }
+pub fn far_end(
+    states: &[State],
+    reach: &[Option<usize>; PROCESSES],
+    n: usize,
+    near: End,
+) -> Option<End>
+    requires { (n ≤ most_processes) × (near.process < most_processes) × Reaching (length states.now) reach.now }
+    ensures { FarEnd states.now reach.now n near result }
 {
-    for q in 0..n {
-        let r = reach[q];
-        if r != NO_ROW {
-            let row = r as usize;
-            let known = super::flat::entry(vectors, row, p);
-            if known <= k {
-                let index = super::flat::entry(vectors, row, q);
-                return Far {
-                    found: true,
+    for (q, reached) in reach[..n].iter().enumerate() {
+        if let Some(row) = *reached {
+            let vector = states[row].vector;
+            if vector[near.process].0 <= near.index.0 {
+                return Some(End {
                     process: q,
-                    index,
-                };
+                    index: CheckpointIndex(vector[q].0),
+                });
             }
         }
     }
-    Far {
-        found: false,
-        process: 0,
-        index: 0,
-    }
+    None
 }

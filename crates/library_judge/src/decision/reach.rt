@@ -1,109 +1,67 @@
-// The closure: the least row of each process that a zigzag path from the near end reaches.
-ghost use Rattle.std.specs.Prelude.{◌≡◌, ◌+◌, ◌*◌, ◌≤◌, ◌<◌};
-ghost use Rattle.laws.specs.Basics.{false, length};
+// The closure: the least row of each process that a zigzag path from the near end reaches, if one does.
+ghost use Rattle.std.specs.Prelude.{◌≡◌, ◌||◌, ◌<◌};
+ghost use Rattle.laws.specs.Basics.{Bool, false, length};
 ghost use Rattle.model.specs.Words.{most_processes};
-ghost use Rattle.library_judge.specs.decision.Reach.{Linked, lowered_by, relaxed_by, passed, Closure, FirstRow};
+ghost use Rattle.library_judge.specs.decision.{Crossings.Inside, Reach.Owned, Reach.Linked, Reach.relaxed_by, Reach.passed, Reach.Closure, Reach.FirstRow};
 
+use crate::pattern::{Fate, Sent, State};
 use model::PROCESSES;
+use theory_patterns::End;
 
-// The least row reached of each process, 65535 for none, and whether this pass lowered one.
-#[derive(Clone, Copy)]
-pub struct Pass {
-    pub reach: [u16; PROCESSES],
-    pub changed: bool,
+// The first row of a process whose own entry is above an index.
+pub fn first_row(states: &[State], near: End) -> Option<usize>
+    requires { near.process < most_processes }
+    ensures { FirstRow states.now near.process near.index.0 result }
+{
+    states.iter().position(|s| usize::from(s.process) == near.process
+        && near.index.0 < s.vector[near.process].0)
 }
 
-// The first row of p whose own entry is above k; `rows` if there is none.
-pub fn first_row(vectors: &[u16], process: &[u16], rows: usize, p: usize, k: u16) -> usize
-    requires { (p < most_processes) × (most_processes * rows ≤ length vectors.now) × (rows ≤ length process.now) }
-    ensures { FirstRow vectors.now process.now rows p k result }
+// One message: what its sender's reached interval lets it lower, and whether it does.
+#[tactic(auto, unfolding(crate::specs::decision::Reach::relaxed_by, crate::specs::decision::Reach::lowered_by))]
+fn relax(reach: &mut [Option<usize>; PROCESSES], states: &[State], message: &Sent) -> bool
+    requires { Inside (length states.now) message.now × Owned states.now }
+    ensures { (c : Bool) → record { reach = reach.new; changed = c || result } ≡ relaxed_by states.now message.now (record { reach = reach.old; changed = c }) }
 {
-    let mut r = 0;
-    while r < rows {
-        let q = process[r] as usize;
-        if q == p {
-            let own = super::flat::entry(vectors, r, p);
-            if k < own {
-                return r;
+    match message.fate {
+        Fate::Received(row) => {
+            let (a, b) = (usize::from(message.from), usize::from(row));
+            let (s, q) = (
+                usize::from(states[a].process),
+                usize::from(states[b].process),
+            );
+            let lowers = reach[s].is_some_and(|r| r <= a) && reach[q].is_none_or(|r| b < r);
+            if lowers {
+                reach[q] = Some(b);
             }
+            lowers
         }
-        r += 1;
+        _ => false,
     }
-    rows
 }
 
-// What is reached once a message leads from row a of process s to row b of process q.
-fn lowered(old: Pass, s: usize, q: usize, a: u16, b: u16) -> Pass
-    requires { (s < most_processes) × (q < most_processes) }
-    ensures { result ≡ lowered_by s q a b old }
+// One pass over the messages, highest number first: whether it lowers a row.
+fn pass_over(reach: &mut [Option<usize>; PROCESSES], states: &[State], messages: &[Sent]) -> bool
+    requires { Linked states.now messages.now }
+    ensures { record { reach = reach.new; changed = result } ≡ passed states.now messages.now (length messages.now) (record { reach = reach.old; changed = false }) }
 {
-    let mut reach = old.reach;
-    if reach[s] <= a {
-        if b < reach[q] {
-            reach[q] = b;
-            return Pass {
-                reach,
-                changed: true,
-            };
-        }
+    let mut changed = false;
+    for message in messages.iter().rev() {
+        changed |= relax(reach, states, message);
     }
-    old
+    changed
 }
 
-// One message: what its sender's reached interval lets it lower.
-fn relaxed(old: Pass, process: &[u16], from: &[u16], to: &[u16], last: usize, m: usize) -> Pass
-    requires { (m < last) × Linked last process.now from.now to.now }
-    ensures { result ≡ relaxed_by process.now from.now to.now m old }
-{
-    let t = to[m];
-    if t == 0 {
-        return old;
-    }
-    let a = from[m];
-    let b = t - 1;
-    let s = process[a as usize];
-    let q = process[b as usize];
-    lowered(old, s as usize, q as usize, a, b)
-}
-
-// One pass over the messages, highest number first.
-fn pass_over(
-    reach: [u16; PROCESSES],
-    process: &[u16],
-    from: &[u16],
-    to: &[u16],
-    last: usize,
-) -> Pass
-    requires { Linked last process.now from.now to.now }
-    ensures { result ≡ passed process.now from.now to.now last (record { reach = reach; changed = false }) }
-{
-    let mut p = Pass {
-        reach,
-        changed: false,
-    };
-    let mut m = last;
-    while 0 < m {
-        m -= 1;
-        p = relaxed(p, process, from, to, last, m);
-    }
-    p
-}
-
-// Passes until one lowers nothing.
+// Passes until one lowers nothing: how many these are shows only as they run.
 pub fn closure(
-    reach: [u16; PROCESSES],
-    process: &[u16],
-    from: &[u16],
-    to: &[u16],
-    last: usize,
-) -> [u16; PROCESSES]
-    requires { (length reach ≡ most_processes) × Linked last process.now from.now to.now }
-    ensures { Closure last process.now from.now to.now reach result }
+    start: [Option<usize>; PROCESSES],
+    states: &[State],
+    messages: &[Sent],
+) -> [Option<usize>; PROCESSES]
+    requires { Linked states.now messages.now }
+    ensures { Closure (length messages.now) states.now messages.now start result }
 {
-    let mut p = pass_over(reach, process, from, to, last);
-    while p.changed {
-        let before = p.reach;
-        p = pass_over(before, process, from, to, last);
-    }
-    p.reach
+    let mut reach = start;
+    while pass_over(&mut reach, states, messages) {}
+    reach
 }

@@ -16,17 +16,17 @@ place_of-found-requires c =
 
 pub carried_at-at-requires : goal.carried_at-at-requires
 carried_at-at-requires c =
-    let e = there (place_of c.args.w.now c.args.message) _ (sym c.in-At.is ∙ c.place_of-found.ensures) in omega (arith, place_in c.args.w.now c.requires c.args.message _ e, (sound_words c.args.w.now c.requires).end)
+    let e = there (place_of c.args.w.now c.args.message) _ (sym c.in-Some.is ∙ c.place_of-found.ensures) in omega (arith, place_in c.args.w.now c.requires c.args.message _ e, (sound_words c.args.w.now c.requires).end)
 
 pub copy_words-requires : goal.copy_words-requires
 copy_words-requires c =
-    let h = sound_words c.args.w.now c.requires in let n = c.count_in-n.ensures in let e = there (place_of c.args.w.now c.args.message) _ (sym c.in-At.is ∙ c.place_of-found.ensures) in (omega (arith, n, h.size, h.few, h.end, c.carried_at-at.ensures, place_in c.args.w.now c.requires c.args.message _ e), omega (arith, n, c.if-vector-n.false))
+    let h = sound_words c.args.w.now c.requires in let n = c.count_in-n.ensures in let e = there (place_of c.args.w.now c.args.message) _ (sym c.in-Some.is ∙ c.place_of-found.ensures) in (omega (arith, n, h.size, h.few, h.end, c.carried_at-at.ensures, place_in c.args.w.now c.requires c.args.message _ e), omega (arith, n, c.if-vector-n.false))
 
-pub returns-in-Nothing : goal.returns-in-Nothing
-returns-in-Nothing c =
-    let e = nothing (place_of c.args.w.now c.args.message) (sym c.in-Nothing.is ∙ c.place_of-found.ensures) in let z = answer_is (carried_missing c.args.w.now c.requires c.args.message c.args.vector.now (omega (arith, c.count_in-n.ensures, c.if-vector-n.false)) e) c.refused-in-Nothing.ensures refl in record { value = z.0; vector_after = z.1 }
+pub returns-in-None : goal.returns-in-None
+returns-in-None c =
+    let e = nothing (place_of c.args.w.now c.args.message) (sym c.in-None.is ∙ c.place_of-found.ensures) in let z = answer_is (carried_missing c.args.w.now c.requires c.args.message c.args.vector.now (omega (arith, c.count_in-n.ensures, c.if-vector-n.false)) e) c.refused-in-None.ensures refl in record { value = z.0; vector_after = z.1 }
 
-pub returns-in-At : goal.returns-in-At
-returns-in-At c =
-    let n = c.count_in-n.ensures in let e = there (place_of c.args.w.now c.args.message) _ (sym c.in-At.is ∙ c.place_of-found.ensures) in let z = answer_is (carried_read c.args.w.now c.requires c.args.message c.args.vector.now (omega (arith, n, c.if-vector-n.false)) _ e) nothing_reported
+pub returns-in-Some : goal.returns-in-Some
+returns-in-Some c =
+    let n = c.count_in-n.ensures in let e = there (place_of c.args.w.now c.args.message) _ (sym c.in-Some.is ∙ c.place_of-found.ensures) in let z = answer_is (carried_read c.args.w.now c.requires c.args.message c.args.vector.now (omega (arith, n, c.if-vector-n.false)) _ e) nothing_reported
     (rw (n, c.carried_at-at.ensures) at c.copy_words.ensures) in record { value = z.0; vector_after = z.1 }

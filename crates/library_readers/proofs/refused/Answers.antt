@@ -5,8 +5,8 @@ use Rattle.library_readers.proofs.refused.Goals as goal
 
 pub code_of-requires : goal.code_of-requires
 code_of-requires c =
-    rw c.refused-summary.ensures (fits_refused c.args.why)
+    rw c.from-summary.ensures (fits_refused c.args.why)
 
 pub returns : goal.returns
 returns c =
-    rw (c.code_of.ensures, c.refused-summary.ensures)
+    rw (c.code_of.ensures, c.from-summary.ensures)

@@ -1,7 +1,7 @@
 -- What saving and loading answer and leave, in each of their cases.
 -- Assumes nothing.
 use Rattle.std.specs.Prelude.{◌≡◌, ◌++◌, ◌+◌, ◌≤◌, ◌<◌}
-use Rattle.laws.specs.Basics.{refl, ◌∙◌, true, false, List, Option, none, some, ℕ, length, eq-eqb, ne_eqb, lt-ltb, le-ltb}
+use Rattle.laws.specs.Basics.{refl, ◌∙◌, true, false, List, Option, None, Some, ℕ, length, eq-eqb, ne_eqb, lt-ltb, le-ltb}
 use Rattle.model.specs.declared.Refusal.TheVariants.{UnsoundState, ListTooShort}
 use Rattle.model.specs.Sound.{sound}
 use Rattle.whole_runs.specs.Outcomes.{accepting}
@@ -24,14 +24,14 @@ module _ (w lent : List ℕ) where
   unfolding saving
   save_short on less = refused_by_lem _ _ _ lent ListTooShort (1, (rw on, tt), lt-ltb (length lent) 12942 less, refl)
 
-  pub save_done : sound (run_of w) ≡ true → 12942 ≤ length lent → saving w lent ≡ read (some 12942) (saved_bytes w) lent
+  pub save_done : sound (run_of w) ≡ true → 12942 ≤ length lent → saving w lent ≡ read (Some 12942) (saved_bytes w) lent
   unfolding saving
   save_done on room = read_by _ _ _ lent (rw on, (le-ltb (length lent) 12942 room, tt))
 
 other_room : (o : Option (List ℕ)) (lent : List ℕ) → (length lent ≡ 6464 → ⊥) → loaded_into o lent ≡ not_loaded lent
 unfolding loaded_into
-other_room none lent off = refl
-other_room (some w) lent off = rw (ne_eqb (length lent) 6464 off)
+other_room None lent off = refl
+other_room (Some w) lent off = rw (ne_eqb (length lent) 6464 off)
 
 module _ (bytes lent : List ℕ) where
   pub load_room : (length lent ≡ 6464 → ⊥) → loading bytes lent ≡ not_loaded lent
@@ -47,6 +47,6 @@ module _ (bytes lent : List ℕ) where
   load_unsound on off = rw (on, off)
 
   pub load_done : length lent ≡ 6464 → is_whole bytes ≡ true → sound (run_of (words_in bytes)) ≡ true
-      → loading bytes lent ≡ record { report = accepting none 0; list = words_in bytes }
+      → loading bytes lent ≡ record { report = accepting None 0; list = words_in bytes }
   unfolding loading loaded_words loaded_into
   load_done room on sure = rw (on, sure, eq-eqb (length lent) 6464 room)

@@ -1,7 +1,7 @@
 -- What was saved is loaded; and bytes that are loaded were saved, and with up to four in a row changed they are not loaded.
 -- Assumes nothing.
 use Rattle.std.specs.Prelude.{◌≡◌, ◌&&◌, ◌++◌}
-use Rattle.laws.specs.Basics.{refl, ◌∙◌, ap, Bool, true, false, List, none, some, ℕ, arith, pick, by_bool}
+use Rattle.laws.specs.Basics.{refl, ◌∙◌, ap, Bool, true, false, List, None, Some, ℕ, arith, pick, by_bool}
 use Rattle.laws.specs.Truth.{and_left, and_right}
 use Rattle.model.specs.Sound.{sound}
 use Rattle.words.specs.Layout.{run_of}
@@ -17,12 +17,12 @@ saved_is_loaded w h =
     rw (saved_whole w size, saved_words w size, h)
 
 -- What it takes for bytes to give words.
-given : (test : Bool) (v w : List ℕ) → pick test (some v) none ≡ some w → (test ≡ true) × (v ≡ w)
+given : (test : Bool) (v w : List ℕ) → pick test (Some v) None ≡ Some w → (test ≡ true) × (v ≡ w)
 given true v w e = (refl, cc)
 given false v w e = let never : ◌≡◌ {A = ℕ} 0 1 = cc in absurd (omega arith)
 
 -- Bytes that are not whole give none.
-broken : (bytes : List ℕ) → is_whole bytes ≡ false → loaded_words bytes ≡ none
+broken : (bytes : List ℕ) → is_whole bytes ≡ false → loaded_words bytes ≡ None
 unfolding loaded_words
 broken bytes off = rw off
 

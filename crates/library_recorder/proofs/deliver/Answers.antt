@@ -12,8 +12,8 @@ returns-then-not-room c =
 
 pub append_accepted-next-requires : goal.append_accepted-next-requires
 append_accepted-next-requires c =
-    let a = c.args in let fits = has_room (length a.buffer.now) a.place c.has_room-room.ensures (ap not c.if-not-room.false) in let ways = deliver_ways (run_of a.w.now) a.m a.deleted.now in let made = c.deliver-delivered.ensures in record { place_in_bounds = fits; e_value = ways.fine _ _ made.answer_value c.of_deliver-summary.ensures }
+    let a = c.args in let fits = has_room (length a.buffer.now) a.place c.has_room-room.ensures (ap not c.if-not-room.false) in let ways = deliver_ways (run_of a.w.now) a.m a.deleted.now in let made = c.deliver-delivered.ensures in record { place_in_bounds = fits; e_value = rw c.number-number.ensures (ways.fine _ _ made.answer_value c.from-summary.ensures) }
 
 pub returns : goal.returns
 returns c =
-    let a = c.args in let fits = has_room (length a.buffer.now) a.place c.has_room-room.ensures (ap not c.if-not-room.false) in let ways = deliver_ways (run_of a.w.now) a.m a.deleted.now in let made = c.deliver-delivered.ensures in let l = ways.made _ _ made.answer_value c.of_deliver-summary.ensures a.buffer.now a.place fits in let written = c.append_accepted-next.ensures in record { w_after = made.w_after ∙ l.run; answer_value = made.answer_value ∙ l.answer; rose_value = made.rose_value ∙ l.rose; deleted_after = made.deleted_after ∙ l.deleted; buffer_after = written.buffer_after ∙ l.buffer; place_value = written.value ∙ l.place; w_unchanged = made.w_unchanged; leaves = made.leaves }
+    let a = c.args in let fits = has_room (length a.buffer.now) a.place c.has_room-room.ensures (ap not c.if-not-room.false) in let ways = deliver_ways (run_of a.w.now) a.m a.deleted.now in let made = c.deliver-delivered.ensures in let l = ways.made _ _ made.answer_value c.from-summary.ensures a.buffer.now a.place fits in let written = rw c.number-number.ensures at c.append_accepted-next.ensures in record { w_after = made.w_after ∙ l.run; answer_value = made.answer_value ∙ l.answer; rose_value = made.rose_value ∙ l.rose; deleted_after = made.deleted_after ∙ l.deleted; buffer_after = written.buffer_after ∙ l.buffer; place_value = written.value ∙ l.place; w_unchanged = made.w_unchanged; leaves = made.leaves }

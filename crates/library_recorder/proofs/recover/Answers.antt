@@ -12,8 +12,8 @@ returns-then-not-room c =
 
 pub append_accepted-next-requires : goal.append_accepted-next-requires
 append_accepted-next-requires c =
-    let a = c.args in let fits = has_room (length a.buffer.now) a.place c.has_room-room.ensures (ap not c.if-not-room.false) in let ways = recover_ways (run_of a.w.now) a.failed a.deleted.now a.line.now in let made = c.recover-answer-2.ensures in record { place_in_bounds = fits; e_value = ways.fine _ _ made.value c.of_recover-summary.ensures }
+    let a = c.args in let fits = has_room (length a.buffer.now) a.place c.has_room-room.ensures (ap not c.if-not-room.false) in let ways = recover_ways (run_of a.w.now) a.failed a.deleted.now a.line.now in let made = c.recover-answer-2.ensures in record { place_in_bounds = fits; e_value = rw c.number-number.ensures (ways.fine _ _ made.value c.from-summary.ensures) }
 
 pub returns : goal.returns
 returns c =
-    let a = c.args in let fits = has_room (length a.buffer.now) a.place c.has_room-room.ensures (ap not c.if-not-room.false) in let ways = recover_ways (run_of a.w.now) a.failed a.deleted.now a.line.now in let made = c.recover-answer-2.ensures in let l = ways.made _ _ made.value c.of_recover-summary.ensures a.buffer.now a.place fits in let written = c.append_accepted-next.ensures in record { w_after = made.w_after ∙ l.run; answer_value = made.value ∙ l.answer; deleted_after = made.deleted_after ∙ l.deleted; line_after = made.line_after ∙ l.line; buffer_after = written.buffer_after ∙ l.buffer; place_value = written.value ∙ l.place; w_unchanged = made.w_unchanged; leaves = made.leaves }
+    let a = c.args in let fits = has_room (length a.buffer.now) a.place c.has_room-room.ensures (ap not c.if-not-room.false) in let ways = recover_ways (run_of a.w.now) a.failed a.deleted.now a.line.now in let made = c.recover-answer-2.ensures in let l = ways.made _ _ made.value c.from-summary.ensures a.buffer.now a.place fits in let written = rw c.number-number.ensures at c.append_accepted-next.ensures in record { w_after = made.w_after ∙ l.run; answer_value = made.value ∙ l.answer; deleted_after = made.deleted_after ∙ l.deleted; line_after = made.line_after ∙ l.line; buffer_after = written.buffer_after ∙ l.buffer; place_value = written.value ∙ l.place; w_unchanged = made.w_unchanged; leaves = made.leaves }

@@ -1,7 +1,7 @@
 -- A report that fits is read back from its number, and so is the set that rose: no two answers have the same number.
 -- Assumes nothing.
 use Rattle.std.specs.Prelude.{◌≡◌, ◌+◌, ◌*◌, ◌/◌, ◌%◌, ◌<◌}
-use Rattle.laws.specs.Basics.{refl, ◌∙◌, Option, none, some, ℕ, arith}
+use Rattle.laws.specs.Basics.{refl, Option, None, Some, ℕ, arith}
 use Rattle.whole_runs.specs.Outcomes.{Report}
 use Rattle.listing.specs.answers.Codes.{value_code_of, coded, Fits, value_of, report_of, rose_of}
 
@@ -25,17 +25,17 @@ module _ (refused deletions given value rose : ℕ) (a : refused < 256) (b : del
   rose_back : code / 281_474_976_710_656 ≡ rose
   rose_back = omega arith
 
-back : (refused deletions : ℕ) (value : Option ℕ) (rose : ℕ) → refused < 256 → deletions < 32_768 → ((v : ℕ) → value ≡ some v → v < 16_777_216)
+back : (refused deletions : ℕ) (value : Option ℕ) (rose : ℕ) → refused < 256 → deletions < 32_768 → ((v : ℕ) → value ≡ Some v → v < 16_777_216)
     → (report_of (coded (record { refused = refused; value = value; deletions = deletions }) rose) ≡ record { refused = refused; value = value; deletions = deletions })
     × (rose_of (coded (record { refused = refused; value = value; deletions = deletions }) rose) ≡ rose)
 unfolding report_of rose_of value_of coded value_code_of
-back refused deletions none rose a b c =
+back refused deletions None rose a b c =
     let low : 0 < 2 = omega arith in
     let small : 0 < 16_777_216 = omega arith in (
       rw (refused_back refused deletions 0 0 rose a b low small, deletions_back refused deletions 0 0 rose a b low small, given_back refused deletions 0 0 rose a b low small) refl,
       rose_back refused deletions 0 0 rose a b low small,
     )
-back refused deletions (some v) rose a b c =
+back refused deletions (Some v) rose a b c =
     let low : 1 < 2 = omega arith in
     let small = c v refl in (
       rw (

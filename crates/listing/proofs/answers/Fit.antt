@@ -1,13 +1,13 @@
 -- The report of every call fits the fields of its number, whatever the state and the arguments.
 -- Assumes nothing.
 use Rattle.std.specs.Prelude.{◌≡◌, ◌&&◌, ◌+◌, ◌≤◌, ◌<◌}
-use Rattle.laws.specs.Basics.{true, not, List, none, some, ℕ, arith, eqb, leb, length, by_bool}
+use Rattle.laws.specs.Basics.{true, not, List, None, Some, ℕ, arith, eqb, leb, length, by_bool}
 use Rattle.laws.specs.{Counting.count_le, Lists.select, Options.some_same, Options.none≢some, Prefixes.every_select}
 use Rattle.model.specs.declared.{Message.Message, Named.Named, Run.Run, Refusal.Refusal}
 use Rattle.model.specs.Words.{basic, is_pinned, process, own, under_way, live}
-use Rattle.model.specs.Steps.{deletions, checkpointed, checkpoint_deletions, found, forces, delivered, deliver_deletions, member, pins_after, gone_at_of, deleted_at, recover_deletions, rolled_back, rolled_back_count}
+use Rattle.model.specs.Steps.{checkpointed, checkpoint_deletions, found, forces, delivered, deliver_deletions, member, pins_after, gone_at_of, deleted_at, recover_deletions, rolled_back, rolled_back_count}
 use Rattle.model.specs.{Sound.message_sound, Sound.sound, laws.Refusals.by_refusal, laws.Refusals.number_range, laws.Sound.sound_state, laws.Sound.sound_message}
-use Rattle.model.specs.Refusals.{number, checkpoint_refusal, send_refusal, deliver_refusal, lose_refusal, line_refusal, recover_refusal}
+use Rattle.model.specs.Refusals.{checkpoint_refusal, send_refusal, deliver_refusal, lose_refusal, line_refusal, recover_refusal}
 use Rattle.model.proofs.simulation.Accepted.{checkpoint_out, send_out, deliver_out, recover_out}
 use Rattle.whole_runs.specs.Outcomes.{refusing, accepting, deliver_answer, checkpoint_outcome, checkpoint_report, send_outcome, send_report, deliver_outcome, deliver_report, lose_outcome, lose_report, line_outcome, line_report, recover_outcome, recover_report}
 use Rattle.whole_runs.specs.Earliest.{earliest_refusal, earliest_outcome}
@@ -18,10 +18,10 @@ use Rattle.listing.specs.answers.Codes.{Fits}
 pub fits_refused : (x : Refusal) → Fits (refusing x)
 fits_refused x = record { refused = omega (arith, (number_range x).1); deletions = omega arith; value = λ v e. absurd (none≢some e) }
 
-pub fits_value : (v k : ℕ) → v < 16_777_216 → k < 32_768 → Fits (accepting (some v) k)
+pub fits_value : (v k : ℕ) → v < 16_777_216 → k < 32_768 → Fits (accepting (Some v) k)
 fits_value v k a b = record { refused = omega arith; deletions = b; value = λ w e. omega (arith, some_same e) }
 
-pub fits_none : (k : ℕ) → k < 32_768 → Fits (accepting none k)
+pub fits_none : (k : ℕ) → k < 32_768 → Fits (accepting None k)
 fits_none k b = record { refused = omega arith; deletions = b; value = λ v e. absurd (none≢some e) }
 
 -- How many checkpoints a call can delete.
@@ -30,7 +30,7 @@ module _ (s : Run) (h : sound s ≡ true) where
   unfolding checkpoint_deletions
   checkpoint_few i lt = omega (arith, deletions_few i (checkpointed basic i (process s i)), stored_few basic i (process s i) (few_kept s h i lt))
 
-  deliver_few : (m : ℕ) (x : Message) → found s m ≡ some x → length (deliver_deletions s x) ≤ 17
+  deliver_few : (m : ℕ) (x : Message) → found s m ≡ Some x → length (deliver_deletions s x) ≤ 17
   unfolding deliver_deletions found
   deliver_few m x e =
       let all = every_select (message_sound s) (λ y. eqb y.number m) (under_way s) (sound_state s h).messages_sound_lem in

@@ -1,9 +1,6 @@
 -- `listing::write_number` meets its contract. The loop's invariant: the digits after the place are stored, those of the rest are to come.
 -- The measure is the rest. Assumes nothing.
-use Rattle.std.specs.Prelude.{◌≡◌, ◌+◌, ◌-◌, ◌/◌, ◌%◌, ◌≤◌, ◌<◌}
-use Rattle.laws.specs.Basics.{List, ℕ, arith, length, set, length-set, sets, rules}
-use Rattle.whole_runs.specs.Listing.{decimal}
-use Rattle.listing.proofs.Digits.{Storing, none_stored, between, two_stored, all_stored, all_stored_by_two}
+use Rattle.listing.proofs.Digits.{Storing}
 use Rattle.listing.proofs.write_number.Given as goal
 
 abbrev pub invariant-loop-rest : goal.invariant-loop-rest

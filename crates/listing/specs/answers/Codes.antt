@@ -8,15 +8,14 @@
 -- proofs/Back says that a report that fits is read back from its number, and proofs/Fit that the report of every call fits.
 -- Assumes nothing.
 use Rattle.std.specs.Prelude.{◌≡◌, ◌+◌, ◌*◌, ◌/◌, ◌%◌, ◌<◌}
-use Rattle.laws.specs.Basics.{Option, none, some, ℕ, eqb, pick}
-use Rattle.model.specs.declared.{StartAnswer.StartAnswer, CheckpointAnswer.CheckpointAnswer, SendAnswer.SendAnswer, DeliverAnswer.DeliverAnswer}
-use Rattle.model.specs.declared.{LoseAnswer.LoseAnswer, LineAnswer.LineAnswer, RecoverAnswer.RecoverAnswer}
+use Rattle.laws.specs.Basics.{Option, None, Some, ℕ, eqb, pick}
+use Rattle.model.specs.Shapes.{CheckpointAnswer, DeliverAnswer, LineAnswer, LoseAnswer, RecoverAnswer, SendAnswer, StartAnswer}
 use Rattle.whole_runs.specs.Outcomes.{Report, start_report, checkpoint_report, send_report, deliver_report, lose_report, line_report, recover_report}
 
 -- Bits 23 to 47: a value, or none.
 unfoldable pub value_code_of : Option ℕ → ℕ
-value_code_of none = 0
-value_code_of (some v) = 8_388_608 + 16_777_216 * v
+value_code_of None = 0
+value_code_of (Some v) = 8_388_608 + 16_777_216 * v
 
 unfoldable pub coded : Report → ℕ → ℕ
 coded r rose = r.refused + 256 * r.deletions + value_code_of r.value + 281_474_976_710_656 * rose
@@ -25,11 +24,11 @@ coded r rose = r.refused + 256 * r.deletions + value_code_of r.value + 281_474_9
 pub record Fits (r : Report) : Type 0 where
   pub refused : r.refused < 256
   pub deletions : r.deletions < 32_768
-  pub value : (v : ℕ) → r.value ≡ some v → v < 16_777_216
+  pub value : (v : ℕ) → r.value ≡ Some v → v < 16_777_216
 
 -- The fields read back.
 unfoldable pub value_of : ℕ → Option ℕ
-value_of code = pick (eqb (code / 8_388_608 % 2) 1) (some (code / 16_777_216 % 16_777_216)) none
+value_of code = pick (eqb (code / 8_388_608 % 2) 1) (Some (code / 16_777_216 % 16_777_216)) None
 
 unfoldable pub report_of : ℕ → Report
 report_of code = record { refused = code % 256; value = value_of code; deletions = code / 256 % 32_768 }

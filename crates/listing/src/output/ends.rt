@@ -24,6 +24,7 @@ pub fn end(done: u64, rest: &[u8], out: &mut [u8]) -> usize
 }
 
 // "12: no first byte."
+#[tactic(auto, unfolding(whole_runs::specs::Listing::listing))]
 pub fn empty(out: &mut [u8]) -> usize
     requires { longest_line ≤ length out.old }
     ensures { ((all : Bool) → Printed out.old 0 (listing all []) out.new result) × (result ≤ length out.old) }

@@ -2,7 +2,7 @@
 ghost use Rattle.std.specs.Prelude.{◌≡◌, ◌+◌, ◌*◌, ◌≤◌};
 ghost use Rattle.laws.specs.Basics.{length};
 ghost use Rattle.whole_runs.specs.Listing.{line_text, refusal_text, goes_on_of, most_records};
-ghost use Rattle.listing.specs.{Lines.reply_of, Lines.longest_line, Printed.Printed, Summarised.report_in};
+ghost use Rattle.listing.specs.{Lines.number_said, Lines.reply_of, Lines.longest_line, Printed.Printed, Summarised.report_in};
 ghost use Rattle.whole_runs.proofs.Sizes.{Small};
 
 use crate::Summary;
@@ -21,16 +21,13 @@ pub fn refuse(number: u64, why: Refusal, out: &mut [u8]) -> usize
     requires { (number ≤ most_records) × (longest_line ≤ length out.old) }
     ensures { Printed out.old 0 (refusal_text number why) out.new result × (result ≤ length out.old) }
 {
-    let refused = crate::summaries::number_of(why);
-    crate::write_refusal(out, 0, number, refused)
+    crate::write_refusal(out, 0, number, crate::summaries::number_of(why))
 }
 
-// Whether the replay goes on after a record whose line says this refusal number, 0 if none: "stops after printing the first refusal", unless `all` is asked for.
-pub fn goes_on(all: bool, refused: u8) -> bool
-    ensures { result ≡ goes_on_of all refused }
+// Whether the replay goes on after a record that is refused for this reason, if it is: "stops after printing the first refusal", unless `all` is asked for.
+#[tactic(auto, using(crate::proofs::Summarised::none_said), unfolding(whole_runs::specs::Listing::goes_on_of))]
+pub fn goes_on(all: bool, refused: Option<Refusal>) -> bool
+    ensures { result ≡ goes_on_of all (number_said refused) }
 {
-    if all {
-        return true;
-    }
-    refused == 0
+    all || refused.is_none()
 }

@@ -1,7 +1,7 @@
 -- A script of console calls: which eight bytes are a call, and what it asks for. Numbers have their high byte first, and no value is cut short.
 -- Assumes nothing.
 use Rattle.std.specs.Prelude.{◌≡◌, ◌&&◌, ◌||◌, ◌∷◌, ◌+◌, ◌*◌}
-use Rattle.laws.specs.Basics.{Bool, true, List, [], Option, none, some, ℕ, eqb, ltb, leb, get_or, pick}
+use Rattle.laws.specs.Basics.{Bool, true, List, [], Option, None, Some, ℕ, eqb, ltb, leb, get_or, pick}
 use Rattle.laws.specs.Tests.{every}
 use Rattle.theory_roles.specs.declared.{Role.Role, Role.TheVariants.Operator, Role.TheVariants.JobOwner, Role.TheVariants.Viewer, Operation.Operation}
 use Rattle.theory_roles.specs.declared.Operation.TheVariants.{Start, Checkpoint, Send, Deliver, Lose, Recover, Line, Earliest, List as Listing, Counts}
@@ -63,11 +63,11 @@ call_in o call = record {
 
 -- None: malformed, refusal 14.
 unfoldable pub call_of : List ℕ → Option Call
-call_of call = pick (well_formed call) (some (call_in (operation_of_def (byte call 3)) call)) none
+call_of call = pick (well_formed call) (Some (call_in (operation_of_def (byte call 3)) call)) None
 
 unfoldable pub asked : Option Call → Read
-asked none = Malformed
-asked (some c) = Asks c
+asked None = Malformed
+asked (Some c) = Asks c
 
 -- The next bytes of a script, of which `buffered` are there: "13: .. bytes left over", as after the records of a trace.
 unfoldable pub next_of : ℕ → List ℕ → Read

@@ -1,7 +1,7 @@
 -- `machine_judge::after_read` meets its contract, by what the read brought.
 -- Assumes nothing.
 use Rattle.std.specs.Prelude.{◌≡◌, ◌+◌, ◌≤◌}
-use Rattle.laws.specs.Basics.{ℕ, arith, rules}
+use Rattle.laws.specs.Basics.{ℕ, arith}
 use Rattle.machines.proofs.Driving.{stands_as}
 use Rattle.machine_judge.specs.Judging.{most_read, judging}
 use Rattle.machine_judge.proofs.{Stepping.brought_fits, Stepping.led_onward, Stepping.led_end, Stepping.led_failed}

@@ -1,6 +1,5 @@
 -- `machine_judge::after_write` meets its contract, by whether the line is written.
 -- Assumes nothing.
-use Rattle.laws.specs.Basics.{rules}
 use Rattle.machines.proofs.Driving.{stands_as}
 use Rattle.machine_judge.specs.Judging.{judging}
 use Rattle.machine_judge.proofs.{Stepping.led_written, Stepping.led_unwritten}

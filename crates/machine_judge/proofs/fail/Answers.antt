@@ -1,7 +1,7 @@
 -- `machine_judge::fail` meets its contract: the name stands at the front of the buffer.
 -- Assumes nothing.
 use Rattle.std.specs.Prelude.{◌≤◌}
-use Rattle.laws.specs.Basics.{arith, length, rules}
+use Rattle.laws.specs.Basics.{arith, length}
 use Rattle.machines.proofs.programs.Texts.{printed_inside, printed_front}
 use Rattle.machine_judge.proofs.{Standing.failing_after}
 use Rattle.machine_judge.proofs.fail.Goals as goal

@@ -1,6 +1,6 @@
 -- `machine_judge::go_on` meets its contract.
 -- Assumes nothing.
-use Rattle.laws.specs.Basics.{arith, rules}
+use Rattle.laws.specs.Basics.{arith}
 use Rattle.machine_judge.proofs.{Standing.onward_printed, Standing.onward_read}
 use Rattle.machine_judge.proofs.go_on.Goals as goal
 

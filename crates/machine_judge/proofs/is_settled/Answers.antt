@@ -1,6 +1,6 @@
 -- `machine_judge::is_settled` meets its contract, by its tests.
 -- Assumes nothing.
-use Rattle.laws.specs.Basics.{arith, rules}
+use Rattle.laws.specs.Basics.{arith}
 use Rattle.machine_judge.proofs.Standing.{settled_none, settled_low, settled_high, settled_long}
 use Rattle.machine_judge.proofs.is_settled.Goals as goal
 

@@ -1,7 +1,7 @@
 -- `machine_judge::print_verdict` meets its contract: the line of the verdict stands at the front of the buffer.
 -- Assumes nothing.
 use Rattle.std.specs.Prelude.{◌≤◌}
-use Rattle.laws.specs.Basics.{sym, ◌∙◌, ap, arith, length, take, length-take-le, rules}
+use Rattle.laws.specs.Basics.{sym, ◌∙◌, ap, arith, length, take, length-take-le}
 use Rattle.theory_patterns.specs.Verdicts.{verdict}
 use Rattle.machines.proofs.programs.Texts.{printed_inside, printed_front}
 use Rattle.machine_judge.specs.Text.{verdict_text}

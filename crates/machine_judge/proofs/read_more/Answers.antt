@@ -1,6 +1,5 @@
 -- `machine_judge::read_more` meets its contract.
 -- Assumes nothing.
-use Rattle.laws.specs.Basics.{rules}
 use Rattle.machine_judge.proofs.{Standing.reading_after}
 use Rattle.machine_judge.proofs.read_more.Goals as goal
 

@@ -1,6 +1,6 @@
 -- `machine_judge::step` meets its contract, by the phase.
 -- Assumes nothing.
-use Rattle.laws.specs.Basics.{sym, ◌∙◌, List, ℕ, arith, length, rules}
+use Rattle.laws.specs.Basics.{sym, ◌∙◌, arith, length}
 use Rattle.machines.proofs.Driving.{stands_as, steps_as}
 use Rattle.machine_judge.specs.{Judging.judging, Words.EnoughRoom}
 use Rattle.machine_judge.proofs.Stepping.{no_room, room_by, is_reading, is_printing, read_too_far, printed_too_far, then_stops}

@@ -1,6 +1,5 @@
 -- `machine_judge::stop` meets its contract.
 -- Assumes nothing.
-use Rattle.laws.specs.Basics.{rules}
 use Rattle.machine_judge.proofs.{Standing.stopped_after}
 use Rattle.machine_judge.proofs.stop.Goals as goal
 

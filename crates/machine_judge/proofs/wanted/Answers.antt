@@ -1,6 +1,6 @@
 -- `machine_judge::wanted` meets its contract.
 -- Assumes nothing.
-use Rattle.laws.specs.Basics.{rules, eq-eqb, ne_eqb}
+use Rattle.laws.specs.Basics.{eq-eqb, ne_eqb}
 use Rattle.machine_judge.specs.Judging.{wanted}
 use Rattle.machine_judge.proofs.wanted.Goals as goal
 

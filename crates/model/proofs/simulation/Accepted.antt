@@ -2,7 +2,7 @@
 -- And what a failed set is that no number of the table refuses.
 -- Assumes nothing.
 use Rattle.std.specs.Prelude.{◌≡◌, ◌||◌, ◌+◌, ◌*◌, ◌^◌, ◌≤◌, ◌<◌}
-use Rattle.laws.specs.Basics.{refl, Bool, true, false, not, List, Option, none, some, ℕ, leb, length, get_or, ne_eqb, eqb-false, le-ltb, ltb-false, le-leb, lt-leb, leb-true, leb-false, not-false, by_bool}
+use Rattle.laws.specs.Basics.{refl, Bool, true, false, not, List, Option, None, Some, ℕ, leb, length, get_or, ne_eqb, eqb-false, le-ltb, ltb-false, le-leb, lt-leb, leb-true, leb-false, not-false, by_bool}
 use Rattle.laws.specs.{Search.any_below, Search.any_out, Search.any_none, Truth.never_both, Truth.and_left, Truth.and_right, Truth.and_both, Truth.or_none}
 use Rattle.model.specs.declared.{Message.Message, Run.Run}
 use Rattle.model.specs.Words.{most_processes, most_under_way, most_messages, most_interval, most_blocks, block_count, process, own}
@@ -18,7 +18,7 @@ not_in : (a : Bool) → a ≡ true → not a ≡ false
 not_in a e = rw e
 
 -- An accepted start has 1 to 16 processes and block counts in range.
-pub start_out : (n : ℕ) (block_counts : List ℕ) → start_refusal n block_counts ≡ none → (1 ≤ n) × (n ≤ most_processes) × ((p : ℕ) → p < n → is_block_count_of (get_or block_counts p 0) ≡ true)
+pub start_out : (n : ℕ) (block_counts : List ℕ) → start_refusal n block_counts ≡ None → (1 ≤ n) × (n ≤ most_processes) × ((p : ℕ) → p < n → is_block_count_of (get_or block_counts p 0) ≡ true)
 unfolding start_refusal
 start_out n block_counts e =
     let fails = no_rule _ e in
@@ -29,9 +29,9 @@ start_out n block_counts e =
     )
 
 -- A start with 1 to 16 processes and block counts in range is accepted.
-pub start_in : (n : ℕ) (block_counts : List ℕ) → 1 ≤ n → n ≤ most_processes → ((p : ℕ) → p < n → is_block_count_of (get_or block_counts p 0) ≡ true) → start_refusal n block_counts ≡ none
+pub start_in : (n : ℕ) (block_counts : List ℕ) → 1 ≤ n → n ≤ most_processes → ((p : ℕ) → p < n → is_block_count_of (get_or block_counts p 0) ≡ true) → start_refusal n block_counts ≡ None
 unfolding start_refusal
-start_in n block_counts a b fit = refusal_in _ none (
+start_in n block_counts a b fit = refusal_in _ None (
   not_in _ (and_both _ _ (le-leb 1 n a) (le-leb n most_processes b)),
   (
     by_bool (any_below n (λ p. not (is_block_count_of (get_or block_counts p 0))))
@@ -50,17 +50,17 @@ pub record CheckpointFine (s : Run) (i : ℕ) (deleted : List ℕ) : Type 0 wher
   pub blocks : s.disk.written + block_count (process s i) ≤ most_blocks
 
 -- An accepted checkpoint is one of these,
-pub checkpoint_out : (s : Run) (i : ℕ) (deleted : List ℕ) → checkpoint_refusal s i deleted ≡ none → CheckpointFine s i deleted
+pub checkpoint_out : (s : Run) (i : ℕ) (deleted : List ℕ) → checkpoint_refusal s i deleted ≡ None → CheckpointFine s i deleted
 unfolding checkpoint_refusal
 checkpoint_out s i deleted e =
     let fails = no_rule _ e in
     record { whole = not-false _ (fails 0); room = ltb-false _ _ (fails 1); present = leb-false _ _ (fails 2); early = leb-false _ _ (fails 3); blocks = ltb-false _ _ (fails 4) }
 
 -- and each of these is accepted.
-pub checkpoint_in : (s : Run) (i : ℕ) (deleted : List ℕ) → CheckpointFine s i deleted → checkpoint_refusal s i deleted ≡ none
+pub checkpoint_in : (s : Run) (i : ℕ) (deleted : List ℕ) → CheckpointFine s i deleted → checkpoint_refusal s i deleted ≡ None
 unfolding checkpoint_refusal
 checkpoint_in s i deleted h =
-    refusal_in _ none (
+    refusal_in _ None (
       not_in _ h.whole,
       (
         le-ltb _ _ h.room,
@@ -81,7 +81,7 @@ pub record SendFine (s : Run) (i j : ℕ) : Type 0 where
   pub numbers : s.last < most_messages
 
 -- An accepted send is one of these,
-pub send_out : (s : Run) (i j : ℕ) → send_refusal s i j ≡ none → SendFine s i j
+pub send_out : (s : Run) (i j : ℕ) → send_refusal s i j ≡ None → SendFine s i j
 unfolding send_refusal
 send_out s i j e =
     let fails = no_rule _ e in
@@ -96,10 +96,10 @@ send_out s i j e =
     }
 
 -- and each of these is accepted.
-pub send_in : (s : Run) (i j : ℕ) → SendFine s i j → send_refusal s i j ≡ none
+pub send_in : (s : Run) (i j : ℕ) → SendFine s i j → send_refusal s i j ≡ None
 unfolding send_refusal
 send_in s i j h =
-    refusal_in _ none (
+    refusal_in _ None (
       not_in _ h.whole,
       (
         or_in (absent s i) (absent s j) (lt-leb _ _ h.from) (lt-leb _ _ h.to),
@@ -114,38 +114,38 @@ send_in s i j h =
     )
 
 -- A message that is not missing is there.
-there : (o : Option Message) → missing o ≡ false → (x : Message) × (o ≡ some x)
-there none e = never_both true refl e
-there (some x) e = (x, refl)
+there : (o : Option Message) → missing o ≡ false → (x : Message) × (o ≡ Some x)
+there None e = never_both true refl e
+there (Some x) e = (x, refl)
 
 -- A delivery that is accepted.
 pub record DeliverFine (s : Run) (m : ℕ) (deleted : List ℕ) : Type 0 where
   pub whole : sound s ≡ true
   pub room : 2 * s.count * s.count ≤ length deleted
   pub message : Message
-  pub here : found s m ≡ some message
+  pub here : found s m ≡ Some message
   pub early : forces (process s message.receiver) message.vector ≡ true → (own s message.receiver).0 < most_interval
   pub blocks : forces (process s message.receiver) message.vector ≡ true → s.disk.written + block_count (process s message.receiver) ≤ most_blocks
 
 -- A delivery that forces no checkpoint past the last interval: if it forces one, the own entry has room,
-early_out : (s : Run) (o : Option Message) (x : Message) → forces_past s o ≡ false → o ≡ some x → forces (process s x.receiver) x.vector ≡ true → (own s x.receiver).0 < most_interval
+early_out : (s : Run) (o : Option Message) (x : Message) → forces_past s o ≡ false → o ≡ Some x → forces (process s x.receiver) x.vector ≡ true → (own s x.receiver).0 < most_interval
 unfolding forces_past
 early_out s o x e d q = let z = rw d at e in leb-false _ _ (rw q at z)
 
 -- and the other way round.
-early_in : (s : Run) (o : Option Message) (x : Message) → o ≡ some x → (forces (process s x.receiver) x.vector ≡ true → (own s x.receiver).0 < most_interval) → forces_past s o ≡ false
+early_in : (s : Run) (o : Option Message) (x : Message) → o ≡ Some x → (forces (process s x.receiver) x.vector ≡ true → (own s x.receiver).0 < most_interval) → forces_past s o ≡ false
 unfolding forces_past
 early_in s o x d h = rw d (by_bool (forces (process s x.receiver) x.vector)
     (λ q. rw q (lt-leb _ _ (h q)))
     (λ q. rw q))
 
 -- The same of the blocks.
-over_out : (s : Run) (o : Option Message) (x : Message) → forces_over s o ≡ false → o ≡ some x → forces (process s x.receiver) x.vector ≡ true
+over_out : (s : Run) (o : Option Message) (x : Message) → forces_over s o ≡ false → o ≡ Some x → forces (process s x.receiver) x.vector ≡ true
     → s.disk.written + block_count (process s x.receiver) ≤ most_blocks
 unfolding forces_over
 over_out s o x e d q = let z = rw d at e in ltb-false _ _ (rw q at z)
 
-over_in : (s : Run) (o : Option Message) (x : Message) → o ≡ some x
+over_in : (s : Run) (o : Option Message) (x : Message) → o ≡ Some x
     → (forces (process s x.receiver) x.vector ≡ true → s.disk.written + block_count (process s x.receiver) ≤ most_blocks) → forces_over s o ≡ false
 unfolding forces_over
 over_in s o x d h = rw d (by_bool (forces (process s x.receiver) x.vector)
@@ -153,7 +153,7 @@ over_in s o x d h = rw d (by_bool (forces (process s x.receiver) x.vector)
     (λ q. rw q))
 
 -- An accepted delivery is one of these,
-pub deliver_out : (s : Run) (m : ℕ) (deleted : List ℕ) → deliver_refusal s m deleted ≡ none → DeliverFine s m deleted
+pub deliver_out : (s : Run) (m : ℕ) (deleted : List ℕ) → deliver_refusal s m deleted ≡ None → DeliverFine s m deleted
 unfolding deliver_refusal
 deliver_out s m deleted e =
     let fails = no_rule _ e in
@@ -168,10 +168,10 @@ deliver_out s m deleted e =
     }
 
 -- and each of these is accepted.
-pub deliver_in : (s : Run) (m : ℕ) (deleted : List ℕ) → DeliverFine s m deleted → deliver_refusal s m deleted ≡ none
+pub deliver_in : (s : Run) (m : ℕ) (deleted : List ℕ) → DeliverFine s m deleted → deliver_refusal s m deleted ≡ None
 unfolding deliver_refusal
 deliver_in s m deleted h =
-    refusal_in _ none (
+    refusal_in _ None (
       not_in _ h.whole,
       (
         le-ltb _ _ h.room,
@@ -189,10 +189,10 @@ deliver_in s m deleted h =
 pub record LoseFine (s : Run) (m : ℕ) : Type 0 where
   pub whole : sound s ≡ true
   pub message : Message
-  pub here : found s m ≡ some message
+  pub here : found s m ≡ Some message
 
 -- An accepted loss is one of these,
-pub lose_out : (s : Run) (m : ℕ) → lose_refusal s m ≡ none → LoseFine s m
+pub lose_out : (s : Run) (m : ℕ) → lose_refusal s m ≡ None → LoseFine s m
 unfolding lose_refusal
 lose_out s m e =
     let fails = no_rule _ e in
@@ -200,9 +200,9 @@ lose_out s m e =
     record { whole = not-false _ (fails 0); message = w.0; here = w.1 }
 
 -- and each of these is accepted.
-pub lose_in : (s : Run) (m : ℕ) → LoseFine s m → lose_refusal s m ≡ none
+pub lose_in : (s : Run) (m : ℕ) → LoseFine s m → lose_refusal s m ≡ None
 unfolding lose_refusal
-lose_in s m h = refusal_in _ none (not_in _ h.whole, (rw h.here, tt))
+lose_in s m h = refusal_in _ None (not_in _ h.whole, (rw h.here, tt))
 
 -- A failed set that has no bit at n or above; it may be empty.
 abbrev pub SetFine : ℕ → ℕ → Type 0
@@ -219,17 +219,17 @@ pub record LineFine (s : Run) (F : ℕ) (line : List ℕ) : Type 0 where
   pub members : no_member_of s F ≡ false
 
 -- An accepted line call is one of these,
-pub line_out : (s : Run) (F : ℕ) (line : List ℕ) → line_refusal s F line ≡ none → LineFine s F line
+pub line_out : (s : Run) (F : ℕ) (line : List ℕ) → line_refusal s F line ≡ None → LineFine s F line
 unfolding line_refusal
 line_out s F line e =
     let fails = no_rule _ e in
     record { whole = not-false _ (fails 0); room = ltb-false _ _ (fails 1); set = leb-false _ _ (fails 2); members = fails 3 }
 
 -- and each of these is accepted.
-pub line_in : (s : Run) (F : ℕ) (line : List ℕ) → LineFine s F line → line_refusal s F line ≡ none
+pub line_in : (s : Run) (F : ℕ) (line : List ℕ) → LineFine s F line → line_refusal s F line ≡ None
 unfolding line_refusal
 line_in s F line h =
-    refusal_in _ none (
+    refusal_in _ None (
       not_in _ h.whole,
       (
         le-ltb _ _ h.room,
@@ -249,7 +249,7 @@ pub record RecoverFine (s : Run) (F : ℕ) (deleted line : List ℕ) : Type 0 wh
   pub members : no_member_of s F ≡ false
 
 -- An accepted recovery is one of these,
-pub recover_out : (s : Run) (F : ℕ) (deleted line : List ℕ) → recover_refusal s F deleted line ≡ none → RecoverFine s F deleted line
+pub recover_out : (s : Run) (F : ℕ) (deleted line : List ℕ) → recover_refusal s F deleted line ≡ None → RecoverFine s F deleted line
 unfolding recover_refusal
 recover_out s F deleted line e =
     let fails = no_rule _ e in
@@ -263,10 +263,10 @@ recover_out s F deleted line e =
     }
 
 -- and each of these is accepted.
-pub recover_in : (s : Run) (F : ℕ) (deleted line : List ℕ) → RecoverFine s F deleted line → recover_refusal s F deleted line ≡ none
+pub recover_in : (s : Run) (F : ℕ) (deleted line : List ℕ) → RecoverFine s F deleted line → recover_refusal s F deleted line ≡ None
 unfolding recover_refusal
 recover_in s F deleted line h =
-    refusal_in _ none (
+    refusal_in _ None (
       not_in _ h.whole,
       (
         or_in (short_deletions s deleted) (short_line s line) (le-ltb _ _ h.room) (le-ltb _ _ h.line_room),

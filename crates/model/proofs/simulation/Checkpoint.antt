@@ -1,9 +1,10 @@
 -- A checkpoint: the state after it stands for the run after it, and the deleted ones are those that were kept and are kept no more.
 -- Assumes nothing.
-use Rattle.std.specs.Prelude.{◌≡◌, ◌&&◌, ◌∷◌, ◌++◌, ◌≤◌, ◌<◌}
+use Rattle.std.specs.Prelude.{◌≡◌, ◌&&◌, ◌∷◌, ◌++◌, ◌≤◌, ◌<◌, None, Some}
 use Rattle.laws.specs.Basics.{refl, sym, ◌∙◌, ap, Bool, true, not, List, [], ℕ, suc, arith, ltb, set, eq-eqb, ne_eqb, lt-ltb, pick, by_eq}
 use Rattle.laws.specs.{Lists.select, Tables.table_same, Tables.table_set, Update.upd, Update.upd_same, Update.upd_other, Update.upds}
-use Rattle.model.specs.declared.{Checkpoint.Checkpoint, Disk.Disk, Pin.Pin, Pin.TheVariants.Nothing, Pin.TheVariants.At}
+use Rattle.model.specs.Shapes.{Pin}
+use Rattle.model.specs.declared.{Checkpoint.Checkpoint, Disk.Disk}
 use Rattle.model.specs.Words.{basic, most_processes, entry, live_index_of, is_pinned, Process, live, blocks_of, block_count, process}
 use Rattle.model.specs.Steps.{settled, listed, gone, deletions, billed, checkpoint_state, checkpoint_deletions}
 use Rattle.histories.proofs.{Run.Ideal, Run.keeps, Run.stores, Run.checkpointed, Invariant.Inv, Keeping.checkpointed_moved, Checkpointed.checkpointed_inv}
@@ -35,11 +36,11 @@ module _ (r : Ideal) (v : Inv r) (i : ℕ) (few : r.n ≤ most_processes) (hi : 
   unfolding steps.checkpointed process_of
   checkpoint_vector = rw live_after (advanced_is r.n (r.vector i (r.own i)) i few hi ∙ rw self)
 
-  pins_after_lem : set (pins_of r i) i (At (record { 0 = r.own i })) ≡ pins_of (checkpointed r i) i
+  pins_after_lem : set (pins_of r i) i (Some (record { 0 = r.own i })) ≡ pins_of (checkpointed r i) i
   unfolding pins_of pin_of_def
-  pins_after_lem = table_set most_processes _ i (At (record { 0 = r.own i })) ∙ table_same most_processes _ _ (λ f lt. by_eq f i
-      (λ e. rw (e, upd_same {A = Pin} (λ f. pick (ltb f r.n) (pin_of_def (r.pin i f)) Nothing) i (At (record { 0 = r.own i })), checkpointed_n r i, lt-ltb i r.n hi, checkpointed_pin r i))
-      (λ ne. rw (upd_other {A = Pin} (λ f. pick (ltb f r.n) (pin_of_def (r.pin i f)) Nothing) i (At (record { 0 = r.own i })) f ne, checkpointed_n r i, checkpointed_pin_column r i i f ne)))
+  pins_after_lem = table_set most_processes _ i (Some (record { 0 = r.own i })) ∙ table_same most_processes _ _ (λ f lt. by_eq f i
+      (λ e. rw (e, upd_same {A = Pin} (λ f. pick (ltb f r.n) (pin_of_def (r.pin i f)) None) i (Some (record { 0 = r.own i })), checkpointed_n r i, lt-ltb i r.n hi, checkpointed_pin r i))
+      (λ ne. rw (upd_other {A = Pin} (λ f. pick (ltb f r.n) (pin_of_def (r.pin i f)) None) i (Some (record { 0 = r.own i })) f ne, checkpointed_n r i, checkpointed_pin_column r i i f ne)))
 
   pub checkpoint_pins : (steps.checkpointed r.ledger.why i (process_of r i)).pins ≡ pins_of (checkpointed r i) i
   unfolding steps.checkpointed process_of

@@ -1,7 +1,7 @@
 -- The checkpoints that a process keeps, as a list: at least one and at most n, exactly those that a pin names, the last one the last stored.
 -- Assumes nothing.
 use Rattle.std.specs.Prelude.{◌≡◌, ◌-◌, ◌≤◌, ◌<◌}
-use Rattle.laws.specs.Basics.{refl, sym, ◌∙◌, Bool, true, false, map, Option, none, some, ℕ, suc, arith, eqb, length, eqb-true}
+use Rattle.laws.specs.Basics.{refl, sym, ◌∙◌, Bool, true, false, map, Option, None, Some, ℕ, suc, arith, eqb, length, eqb-true}
 use Rattle.laws.specs.{Truth.never_both, Lists.last_of, Tests.count_below, Tests.every, Tests.some_of, Select.last_of_snoc, Elements.any_at}
 use Rattle.laws.specs.Counting.{count_any, count_some}
 use Rattle.model.specs.declared.Checkpoint.{Checkpoint}
@@ -13,8 +13,8 @@ use Rattle.model.proofs.{simulation.Rows.pinned_is, simulation.SoundPassing.pass
 
 -- A pin names one checkpoint alone.
 names_one : (o : Option ℕ) (i j : ℕ) → namesIn o i ≡ true → namesIn o j ≡ true → i ≡ j
-names_one none i j d e = never_both false d refl
-names_one (some k) i j d e = sym (eqb-true k i d) ∙ eqb-true k j e
+names_one None i j d e = never_both false d refl
+names_one (Some k) i j d e = sym (eqb-true k i d) ∙ eqb-true k j e
 
 -- No more than n checkpoints are kept: there are n pins, and each names one alone.
 pub few_kept : (r : Ideal) (p k : ℕ) → count_below k (keeps r p) ≤ r.n
@@ -58,6 +58,6 @@ module _ (r : Ideal) (v : Inv r) where
   kept_least p hp = rw (kept_length r p) (count_some (r.own p) (keeps r p) (r.own p - 1) (omega (arith, v.positive p)) (last_kept r v p (r.own p - 1) hp (omega (arith, v.positive p))))
 
   -- The last one is the last stored.
-  pub kept_last : (p k : ℕ) → p < r.n → suc k ≡ r.own p → last_of (kept_of r p) ≡ some (checkpoint_of r p k)
+  pub kept_last : (p k : ℕ) → p < r.n → suc k ≡ r.own p → last_of (kept_of r p) ≡ Some (checkpoint_of r p k)
   unfolding kept_of
   kept_last p k hp e = rw (← e, passing_yes k (keeps r p) (checkpoint_of r p) (last_kept r v p k hp e)) (last_of_snoc (passing k (keeps r p) (checkpoint_of r p)) (checkpoint_of r p k))

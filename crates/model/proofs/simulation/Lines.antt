@@ -1,7 +1,7 @@
 -- The line on a state that stands for a run: the rule, the member at each process, the indexes that are written, and who rolls back.
 use Rattle.std.specs.Prelude.{◌≡◌, ◌&&◌, ◌||◌, ◌≤◌, ◌<◌}
-use Rattle.laws.specs.Basics.{refl, ◌∙◌, ap, true, not, some, ℕ, suc, arith, ltb, lt-ltb, le-ltb, pick, by_bool}
-use mathlib.Core.Option.{map}
+use Rattle.laws.specs.Basics.{refl, ◌∙◌, ap, true, not, Some, ℕ, suc, arith, ltb, lt-ltb, le-ltb, pick, by_bool}
+use Rattle.std.specs.Option.{option_map}
 use Rattle.laws.specs.{Lists.last_of, Lists.table, Ranges.all_same, Search.all_below, Search.latest, Tables.table_same}
 use Rattle.model.specs.Words.{most_processes, entry, below, process, own, failed}
 use Rattle.model.specs.Steps.{allowed, states, latest_allowed, line_of, rolled_back}
@@ -30,12 +30,12 @@ module _ (r : Ideal) (v : Inv r) (few : r.n ≤ most_processes) (F : ℕ) where
   unfolding states process_of
   states_is p lt = rw (process_is r p few lt) (states_are r p few lt (live_self r v p))
 
-  line_member : (p : ℕ) → latest (suc (r.own p)) (λ k. standing r p k && safe r (failed F) p k) ≡ some (line r (failed F) p)
+  line_member : (p : ℕ) → latest (suc (r.own p)) (λ k. standing r p k && safe r (failed F) p k) ≡ Some (line r (failed F) p)
   unfolding member
   line_member p = line_found r v (failed F) p
 
   -- The latest of them that passes is the member of the run's line.
-  pub latest_allowed_lem : (p : ℕ) → p < r.n → latest_allowed (state_of r) F p ≡ some (checkpoint_of r p (line r (failed F) p))
+  pub latest_allowed_lem : (p : ℕ) → p < r.n → latest_allowed (state_of r) F p ≡ Some (checkpoint_of r p (line r (failed F) p))
   unfolding latest_allowed
   latest_allowed_lem p lt =
       rw (states_is p lt, select_passing (allowed (state_of r) F) (suc (r.own p)) (standing r p) (checkpoint_of r p))
@@ -43,7 +43,7 @@ module _ (r : Ideal) (v : Inv r) (few : r.n ≤ most_processes) (F : ℕ) where
       (λ k h. rw (allowed_is p k))
       (λ k h q. refl))
       ∙ last_passing (suc (r.own p)) (λ k. standing r p k && safe r (failed F) p k) (checkpoint_of r p)
-      ∙ ap (map (checkpoint_of r p)) (line_member p))
+      ∙ ap (option_map (checkpoint_of r p)) (line_member p))
 
   pub member_is : (p : ℕ) → p < r.n → steps.member (state_of r) F p ≡ checkpoint_of r p (line r (failed F) p)
   unfolding steps.member

@@ -1,7 +1,7 @@
 -- Sends and losses: the state after each stands for the run after it; which message a number finds, and what is left without it.
 -- Assumes nothing.
 use Rattle.std.specs.Prelude.{◌≡◌, ◌&&◌, ◌∷◌, ◌++◌, ◌+◌, ◌≤◌, ◌<◌}
-use Rattle.laws.specs.Basics.{refl, sym, ◌∙◌, ap, true, false, not, List, [], none, some, ℕ, suc, arith, eqb, eq-eqb, ne_eqb, by_bool, by_eq}
+use Rattle.laws.specs.Basics.{refl, sym, ◌∙◌, ap, true, false, not, List, [], None, Some, ℕ, suc, arith, eqb, eq-eqb, ne_eqb, by_bool, by_eq}
 use native.Mathlib.Numerals.{add-one}
 use Rattle.laws.specs.{Lists.last_of, Search.latest_is, Search.latest_none, Update.upd_same, Update.upd_other, Update.upds}
 use Rattle.model.specs.declared.Message.{Message}
@@ -63,12 +63,12 @@ module _ (r : Ideal) (m : ℕ) where
   unfolding found messages_of message_of
   found_latest = rw (under_way_is r) (ap last_of (select_passing (λ x. eqb x.number m) (suc r.last) r.transit (message_of r)))
 
-  pub found_is : m < suc r.last → r.transit m ≡ true → found (state_of r) m ≡ some (message_of r m)
+  pub found_is : m < suc r.last → r.transit m ≡ true → found (state_of r) m ≡ Some (message_of r m)
   found_is lt e = found_latest ∙ last_passing (suc r.last) _ (message_of r) ∙ rw (latest_is (suc r.last) (λ x. r.transit x && eqb x m) m lt
       (rw (e, eq-eqb m m refl))
       (λ x a b. rw (ne_eqb x m (omega arith)) (by_bool (r.transit x) (λ q. rw q) (λ q. rw q))))
 
-  pub found_none : r.transit m ≡ false → found (state_of r) m ≡ none
+  pub found_none : r.transit m ≡ false → found (state_of r) m ≡ None
   found_none e = found_latest ∙ last_passing (suc r.last) _ (message_of r) ∙ rw (latest_none (suc r.last) (λ x. r.transit x && eqb x m)
       (λ x lt. by_eq x m (λ q. rw (q, e)) (λ ne. rw (ne_eqb x m ne) (by_bool (r.transit x) (λ q. rw q) (λ q. rw q)))))
 

@@ -2,7 +2,7 @@
 -- Assumes nothing.
 use Rattle.std.specs.Prelude.{◌≡◌, ◌&&◌, ◌∷◌, ◌++◌, ◌≤◌, ◌<◌}
 use Rattle.laws.specs.Basics.{refl, sym, ◌∙◌, Bool, true, false, [], map, append-nil, ℕ, zero, suc, arith, length, length-append, by_bool, by_eq}
-use mathlib.Core.Option
+use Rattle.std.specs.Option.{option_map}
 use Rattle.laws.specs.{Lists.select, Lists.last_of, Search.any_below, Search.latest, Tests.count_below, Tests.some_of}
 use Rattle.laws.specs.Select.{select_append, map_append, last_of_snoc, some_append, some_one, or_swap}
 use Rattle.model.proofs.simulation.View.{passing}
@@ -50,7 +50,7 @@ module _ {A : Type 0} where
       (λ e. rw (e, append-nil (passing k u f), select_passing t k u f) (sym (append-nil (passing k (λ j. u j && t (f j)) f))))
 
   -- The last of them.
-  pub last_passing : (k : ℕ) (u : ℕ → Bool) (f : ℕ → A) → last_of (passing k u f) ≡ Option.map f (latest k u)
+  pub last_passing : (k : ℕ) (u : ℕ → Bool) (f : ℕ → A) → last_of (passing k u f) ≡ option_map f (latest k u)
   unfolding passing last_of latest
   last_passing zero u f = refl
   last_passing (suc k) u f = by_bool (u k)

@@ -1,10 +1,9 @@
 -- What the state that stands for a run holds: each process's part, the messages, the count; and the entries of its vectors and pins.
 -- Assumes nothing.
-use Rattle.std.specs.Prelude.{◌≡◌, ◌≤◌, ◌<◌}
+use Rattle.std.specs.Prelude.{◌≡◌, ◌≤◌, ◌<◌, None}
 use Rattle.laws.specs.Basics.{refl, ◌∙◌, ℕ, suc, arith, ltb, leb, length, get_or, get_or-replicate, lt-ltb, le-ltb, leb-true, leb-false, by_bool}
 use lib.ListN.{get_or-eq_default}
 use Rattle.laws.specs.Tables.{get_d_table, get_d_table_past, table_same}
-use Rattle.model.specs.declared.Pin.TheVariants.{Nothing}
 use Rattle.model.specs.Words.{most_processes, entry, live, zero_vector, blank, process, own, under_way, with_messages, with_disk}
 use Rattle.model.specs.Steps.{with_processes}
 use Rattle.histories.proofs.Run.{Ideal}
@@ -35,15 +34,15 @@ vector_same n v w h = table_same most_processes _ _ (λ f lt. by_bool (ltb f n)
     (λ e. rw e))
 
 -- The pins of a process: those below n are the run's, all others none.
-pub pin_is : (r : Ideal) (p f : ℕ) → r.n ≤ most_processes → f < r.n → get_or (pins_of r p) f Nothing ≡ pin_of_def (r.pin p f)
+pub pin_is : (r : Ideal) (p f : ℕ) → r.n ≤ most_processes → f < r.n → get_or (pins_of r p) f None ≡ pin_of_def (r.pin p f)
 unfolding pins_of
-pin_is r p f few lt = get_d_table most_processes _ f Nothing (omega arith) ∙ rw (lt-ltb f r.n lt)
+pin_is r p f few lt = get_d_table most_processes _ f None (omega arith) ∙ rw (lt-ltb f r.n lt)
 
-pub pin_past : (r : Ideal) (p f : ℕ) → r.n ≤ f → get_or (pins_of r p) f Nothing ≡ Nothing
+pub pin_past : (r : Ideal) (p f : ℕ) → r.n ≤ f → get_or (pins_of r p) f None ≡ None
 unfolding pins_of
 pin_past r p f le = by_bool (leb (suc f) most_processes)
-    (λ e. get_d_table most_processes _ f Nothing (leb-true (suc f) most_processes e) ∙ rw (le-ltb f r.n le))
-    (λ e. let past : most_processes ≤ f = omega (arith, leb-false (suc f) most_processes e) in get_d_table_past most_processes _ f Nothing past)
+    (λ e. get_d_table most_processes _ f None (leb-true (suc f) most_processes e) ∙ rw (le-ltb f r.n le))
+    (λ e. let past : most_processes ≤ f = omega (arith, leb-false (suc f) most_processes e) in get_d_table_past most_processes _ f None past)
 
 module _ (r : Ideal) where
   pub count_is_lem : (state_of r).count ≡ r.n

@@ -1,11 +1,11 @@
 -- A recovery: the state after it stands for the run after it, and the deleted ones are those that were kept and are kept no more.
 use Rattle.std.specs.Prelude.{◌≡◌, ◌&&◌, ◌≤◌, ◌<◌}
-use Rattle.laws.specs.Basics.{refl, sym, ◌∙◌, ap, Bool, true, false, not, List, Option, none, some, ℕ, suc, arith, eqb, ltb, leb, lt-ltb, leb-true, leb-false, by_bool}
-use mathlib.Core.Option.{map}
+use Rattle.laws.specs.Basics.{refl, sym, ◌∙◌, ap, Bool, true, false, not, List, Option, None, Some, ℕ, suc, arith, eqb, ltb, leb, lt-ltb, leb-true, leb-false, by_bool}
+use Rattle.std.specs.Option.{option_map}
 use lib.Dec.{leb-suc-zero}
 use Rattle.laws.specs.{Choice.not_ltb, Lists.select, Lists.last_of, Lists.gather, Rows.and_true, Search.latest, Search.latest_out, Sums.sum_below, Sums.sum_same}
 use Rattle.laws.specs.{Tables.table_same, Tables.gather_same, Truth.and_left, Truth.and_no_right}
-use Rattle.model.specs.declared.{Interval.Interval, Pin.TheVariants.Nothing, Checkpoint.Checkpoint, Disk.Disk}
+use Rattle.model.specs.declared.{Interval.Interval, Checkpoint.Checkpoint, Disk.Disk}
 use Rattle.model.specs.Words.{most_processes, entry, below, is_pinned, blocks_of, process, with_messages, with_disk, failed}
 use Rattle.model.specs.Steps.{listed, billed, gone_at_of, with_processes, latest_pin, moved_pin, pins_after, not_lost, rolled_back, lost_by, still_under_way, recover_state, deleted_at, recover_deletions}
 use Rattle.histories.proofs.Run.{Ideal, Failed, keeps, line, rolled, own_after, vector_after, pin_after, outlives, recovered}
@@ -21,18 +21,18 @@ use Rattle.model.proofs.simulation.Rollback.{own_back, own_stays, own_after_le, 
 use Rattle.model.specs.Steps as steps
 
 -- The pin that names the checkpoint of a number, if there is one.
-latest_pin_lem : (r : Ideal) (p : ℕ) (o : Option ℕ) → latest_pin (map (checkpoint_of r p) o) ≡ pin_of_def o
+latest_pin_lem : (r : Ideal) (p : ℕ) (o : Option ℕ) → latest_pin (option_map (checkpoint_of r p) o) ≡ pin_of_def o
 unfolding latest_pin pin_of_def checkpoint_of
-latest_pin_lem r p none = refl
-latest_pin_lem r p (some k) = refl
+latest_pin_lem r p None = refl
+latest_pin_lem r p (Some k) = refl
 
-pin_none : Nothing ≡ pin_of_def none
+pin_none : None ≡ pin_of_def None
 unfolding pin_of_def
 pin_none = refl
 
 module _ (r : Ideal) (v : Inv r) (G : Failed) where
   -- A pin after a recovery names a checkpoint that was kept and is not lost: nothing comes back.
-  pin_after_lem : (p f k : ℕ) → f < r.n → pin_after r G p f ≡ some k → (keeps r p k ≡ true) × (k < own_after r G p)
+  pin_after_lem : (p f k : ℕ) → f < r.n → pin_after r G p f ≡ Some k → (keeps r p k ≡ true) × (k < own_after r G p)
   unfolding pin_after
   pin_after_lem p f k hf = by_bool (eqb (vector_after r G p (own_after r G p) f) (own_after r G f))
       (λ d. rw d (by_bool (rolled r G p)
@@ -66,7 +66,7 @@ module _ (r : Ideal) (v : Inv r) (few : r.n ≤ most_processes) (F : ℕ) where
         ∙ last_passing (suc (line r G p)) (fitting f) (checkpoint_of r p))
         ∙ latest_pin_lem r p (latest (suc (line r G p)) (fitting f)))
 
-    moved_past : (f : ℕ) → r.n ≤ f → f < most_processes → moved_pin (state_of r) F p f ≡ Nothing
+    moved_past : (f : ℕ) → r.n ≤ f → f < most_processes → moved_pin (state_of r) F p f ≡ None
     unfolding moved_pin latest_pin last_of
     moved_past f le hf = rw (own_after_past r v few F f le hf, not_lost_are r v few F p lt)
         (ap (λ (l : List Checkpoint). latest_pin (last_of l)) (select_passing (λ c. ltb (entry c.vector f).0 0) (own_after r G p) (keeps r p) (checkpoint_of r p)
@@ -80,7 +80,7 @@ module _ (r : Ideal) (v : Inv r) (few : r.n ≤ most_processes) (F : ℕ) where
         (λ d. rw d (by_bool (rolled r G p) (λ e. rw e (moved_pin_lem f hf e)) (λ e. rw e)))
         (λ d. rw d pin_none))
 
-    pin_beyond : (f : ℕ) → r.n ≤ f → f < most_processes → steps.pin_after (state_of r) F p f ≡ Nothing
+    pin_beyond : (f : ℕ) → r.n ≤ f → f < most_processes → steps.pin_after (state_of r) F p f ≡ None
     unfolding steps.pin_after process_of
     pin_beyond f le hf = rw (vector_after_lem r v few F p lt, entry_past r.n (vector_after r G p (own_after r G p)) f le, own_after_past r v few F f le hf, rolled_is r v few F p lt, process_is r p few lt, pin_past r p f le, moved_past f le hf)
         (by_bool (rolled r G p) (λ e. rw e) (λ e. rw e))

@@ -2,11 +2,11 @@
 -- and what is left of a list of checkpoints once the pins have moved.
 -- Assumes nothing.
 use Rattle.std.specs.Prelude.{◌≡◌, ◌&&◌, ◌||◌, ◌∷◌, ◌++◌, ◌≤◌, ◌<◌}
-use Rattle.laws.specs.Basics.{refl, sym, ◌∙◌, ap, Bool, true, not, [], Option, none, some, ℕ, suc, arith, eqb, ltb, set, eq-eqb, ne_eqb, lt-ltb, le-ltb, leb-true, pick, by_bool, by_eq}
+use Rattle.laws.specs.Basics.{refl, sym, ◌∙◌, ap, Bool, true, not, [], Option, None, Some, ℕ, suc, arith, eqb, ltb, set, eq-eqb, ne_eqb, lt-ltb, le-ltb, leb-true, pick, by_bool, by_eq}
 use native.Mathlib.Numerals.{add-one}
 use Rattle.laws.specs.{Lists.select, Ranges.any_same, Ranges.any_wider, Select.some_table, Tables.table_same, Tables.table_set}
 use Rattle.laws.specs.Update.{upd, upd_same, upd_other}
-use Rattle.model.specs.declared.{Interval.Interval, CheckpointIndex.CheckpointIndex, Pin.TheVariants.Nothing, Checkpoint.Checkpoint}
+use Rattle.model.specs.declared.{Interval.Interval, CheckpointIndex.CheckpointIndex, Checkpoint.Checkpoint}
 use Rattle.model.specs.{Words.most_processes, Words.names, Words.is_pinned, Words.Process, Words.live, Steps.advanced}
 use Rattle.histories.proofs.Run.{Ideal, keeps}
 use Rattle.model.proofs.simulation.View.{passing, vector_of, pin_of_def, pins_of, checkpoint_of, kept_of, process_of}
@@ -21,14 +21,14 @@ process_eq P Q a b c d = λ i. record { vector = a i; pins = b i; mark = c i; ke
 -- A pin of the state names what the pin of the run names.
 names_is : (o : Option ℕ) (a : CheckpointIndex) → names (pin_of_def o) a ≡ ideal.names o a.0
 unfolding pin_of_def
-names_is none a = refl
-names_is (some k) a = refl
+names_is None a = refl
+names_is (Some k) a = refl
 
 -- A pin of the state names a checkpoint: the run keeps it.
 pub pinned_is : (r : Ideal) (p : ℕ) (c : Checkpoint) → r.n ≤ most_processes → is_pinned (pins_of r p) c ≡ keeps r p c.index.0
 unfolding is_pinned pins_of keeps
 pinned_is r p c few =
-    some_table (λ pin. names pin c.index) most_processes (λ f. pick (ltb f r.n) (pin_of_def (r.pin p f)) Nothing)
+    some_table (λ pin. names pin c.index) most_processes (λ f. pick (ltb f r.n) (pin_of_def (r.pin p f)) None)
     ∙ any_wider r.n most_processes _ few (λ f le lt. rw (le-ltb f r.n le))
     ∙ any_same r.n _ _ (λ f lt. rw (lt-ltb f r.n lt) (names_is (r.pin p f) c.index))
 

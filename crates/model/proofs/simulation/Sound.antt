@@ -1,10 +1,10 @@
 -- The state that stands for a run is sound, clause by clause: for every run with the invariant that is within the limits.
 -- Assumes nothing.
 use Rattle.std.specs.Prelude.{◌≡◌, ◌+◌, ◌-◌, ◌≤◌, ◌<◌}
-use Rattle.laws.specs.Basics.{refl, ◌∙◌, ap, Bool, true, map, Option, none, some, ℕ, suc, arith, eqb, ltb, length, get_or, eq-eqb, ne_eqb, lt-ltb, ltb-true, le-leb, by_bool}
+use Rattle.laws.specs.Basics.{refl, ◌∙◌, ap, Bool, true, map, Option, None, Some, ℕ, suc, arith, eqb, ltb, length, get_or, eq-eqb, ne_eqb, lt-ltb, ltb-true, le-leb, by_bool}
 use Rattle.laws.specs.{Truth.and_both, Lists.or_else, Lists.last_of, Search.all_below, Search.all_in, Search.any_in, Sums.sum_below, Sums.sum_same, Tests.every}
 use Rattle.laws.specs.Elements.{every_table}
-use Rattle.model.specs.declared.{Pin.TheVariants.Nothing, Checkpoint.Checkpoint, Message.Message}
+use Rattle.model.specs.declared.{Checkpoint.Checkpoint, Message.Message}
 use Rattle.model.specs.Words.{most_processes, most_under_way, most_messages, most_blocks, entry, names, is_pinned, Process, blocks_of, no_checkpoint, process, own, under_way}
 use Rattle.model.specs.Sound.{count_sound, own_sound, within, vectors_sound, ascending, kept_sound, pin_sound, pins_sound, message_sound, messages_sound, record_sound, kept_blocks, disk_sound, sound}
 use Rattle.histories.proofs.{Run.Ideal, Run.keeps, Rule.keeps_in, Invariant.Inv, Invariant.Proper, Line.interval, Line.own_pin, Counted.kept_in}
@@ -80,7 +80,7 @@ module _ (r : Ideal) (v : Inv r) (fit : Limits r) where
   last_stored p hp = rw (kept_last r v p (r.own p - 1) hp (omega (arith, v.positive p))) (eq-eqb (r.own p - 1) (r.own p - 1) refl)
 
   -- The own pin names it.
-  own_pinned : (p : ℕ) → p < r.n → names (get_or (pins_of r p) p Nothing) (record { 0 = r.own p - 1 }) ≡ true
+  own_pinned : (p : ℕ) → p < r.n → names (get_or (pins_of r p) p None) (record { 0 = r.own p - 1 }) ≡ true
   unfolding pin_of_def
   own_pinned p hp =
       let w = own_pin r v p hp in
@@ -106,8 +106,8 @@ module _ (r : Ideal) (v : Inv r) (fit : Limits r) where
   -- A pin names a kept checkpoint.
   pin_sound_lem : (p f : ℕ) (o : Option ℕ) → f < r.n → r.pin p f ≡ o → pin_sound (kept_of r p) (pin_of_def o) ≡ true
   unfolding pin_sound pin_of_def kept_of checkpoint_of
-  pin_sound_lem p f none hf e = refl
-  pin_sound_lem p f (some k) hf e =
+  pin_sound_lem p f None hf e = refl
+  pin_sound_lem p f (Some k) hf e =
       some_passing (λ (c : Checkpoint). eqb k c.index.0) (r.own p) (keeps r p) (checkpoint_of r p)
       ∙ any_in (r.own p) _ k (v.pins p f k hf e).below (and_both (keeps r p k) (eqb k k) (keeps_in r p f k hf e) (eq-eqb k k refl))
 

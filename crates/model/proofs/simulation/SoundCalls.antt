@@ -1,7 +1,7 @@
 -- Calls on the state that stands for a run: what an accepted one says of the run, and which failed sets the table does not refuse.
 -- Assumes nothing.
 use Rattle.std.specs.Prelude.{◌≡◌, ◌+◌, ◌*◌, ◌≤◌, ◌<◌}
-use Rattle.laws.specs.Basics.{sym, ◌∙◌, ap, true, List, none, some, ℕ, arith, length, by_bool}
+use Rattle.laws.specs.Basics.{sym, ◌∙◌, ap, true, List, None, Some, ℕ, arith, length, by_bool}
 use Rattle.laws.specs.Options.{some_same, none≢some}
 use Rattle.model.specs.declared.{Disk.Disk, Message.Message}
 use Rattle.model.specs.{Words.most_interval, Words.most_blocks, Words.block_count, Words.process, Words.own, Steps.found}
@@ -23,7 +23,7 @@ module _ (r : Ideal) (v : Inv r) (fit : Limits r) where
   count_is_of i hi = ap block_count (process_is r i fit.few_processes hi) ∙ count_of r v i hi
 
   -- An accepted checkpoint at i: i is in the run, its own entry has room, and so has the list.
-  pub checkpoint_run : (i : ℕ) (deleted : List ℕ) → checkpoint_refusal (state_of r) i deleted ≡ none
+  pub checkpoint_run : (i : ℕ) (deleted : List ℕ) → checkpoint_refusal (state_of r) i deleted ≡ None
       → (i < r.n) × (r.own i < most_interval) × (2 * r.n * r.n ≤ length deleted) × (r.ledger.written + r.ledger.block_counts i ≤ most_blocks)
   checkpoint_run i deleted e =
       let h = checkpoint_out (state_of r) i deleted e in
@@ -35,20 +35,20 @@ module _ (r : Ideal) (v : Inv r) (fit : Limits r) where
       )
 
   -- An accepted send from i to j: both are in the run and differ, and the run after it is within the limits.
-  pub send_run : (i j : ℕ) → send_refusal (state_of r) i j ≡ none → (i < r.n) × (j < r.n) × (i ≡ j → ⊥) × Limits (sending r i j)
+  pub send_run : (i j : ℕ) → send_refusal (state_of r) i j ≡ None → (i < r.n) × (j < r.n) × (i ≡ j → ⊥) × Limits (sending r i j)
   send_run i j e =
       let h = send_out (state_of r) i j e in
       (rw (count_is_lem r) at h.from, rw (count_is_lem r) at h.to, h.apart, limits_send r i j fit (rw (underway_is r) at h.room) (rw (last_is_lem r) at h.numbers))
 
   -- The message that is found is one under way in the run.
-  found_run : (m : ℕ) (x : Message) → found (state_of r) m ≡ some x → (r.transit m ≡ true) × (x ≡ message_of r m)
+  found_run : (m : ℕ) (x : Message) → found (state_of r) m ≡ Some x → (r.transit m ≡ true) × (x ≡ message_of r m)
   found_run m x e = by_bool (r.transit m)
       (λ q. (q, some_same (sym e ∙ found_is r m (used_number r v m q) q)))
       (λ q. absurd (none≢some (sym (found_none r m q) ∙ e)))
 
   -- An accepted delivery: the message is under way, the list has room, and the disk has room for the checkpoint that it forces.
-  pub deliver_run : (m : ℕ) (deleted : List ℕ) → deliver_refusal (state_of r) m deleted ≡ none
-      → (r.transit m ≡ true) × (found (state_of r) m ≡ some (message_of r m)) × (2 * r.n * r.n ≤ length deleted)
+  pub deliver_run : (m : ℕ) (deleted : List ℕ) → deliver_refusal (state_of r) m deleted ≡ None
+      → (r.transit m ≡ true) × (found (state_of r) m ≡ Some (message_of r m)) × (2 * r.n * r.n ≤ length deleted)
       × (forces r m ≡ true → r.ledger.written + r.ledger.block_counts (r.receiver m) ≤ most_blocks)
   unfolding message_of
   deliver_run m deleted e =
@@ -65,18 +65,18 @@ module _ (r : Ideal) (v : Inv r) (fit : Limits r) where
       )
 
   -- An accepted loss: the message is under way.
-  pub lose_run : (m : ℕ) → lose_refusal (state_of r) m ≡ none → (r.transit m ≡ true) × (found (state_of r) m ≡ some (message_of r m))
+  pub lose_run : (m : ℕ) → lose_refusal (state_of r) m ≡ None → (r.transit m ≡ true) × (found (state_of r) m ≡ Some (message_of r m))
   lose_run m e =
       let h = lose_out (state_of r) m e in
       let w = found_run m h.message h.here in
       (w.0, found_is r m (used_number r v m w.0) w.0)
 
   -- An accepted line call: the failed set is one of processes of the run, and the list has room.
-  pub line_run : (F : ℕ) (line : List ℕ) → line_refusal (state_of r) F line ≡ none → SetFine r.n F × (r.n ≤ length line)
+  pub line_run : (F : ℕ) (line : List ℕ) → line_refusal (state_of r) F line ≡ None → SetFine r.n F × (r.n ≤ length line)
   line_run F line e = let h = line_out (state_of r) F line e in (rw (count_is_lem r) at h.set, rw (count_is_lem r) at h.room)
 
   -- An accepted recovery: the same, with room in both lists.
-  pub recover_run : (F : ℕ) (deleted line : List ℕ) → recover_refusal (state_of r) F deleted line ≡ none
+  pub recover_run : (F : ℕ) (deleted line : List ℕ) → recover_refusal (state_of r) F deleted line ≡ None
       → SetFine r.n F × (2 * r.n * r.n ≤ length deleted) × (r.n ≤ length line)
   recover_run F deleted line e =
       let h = recover_out (state_of r) F deleted line e in

@@ -1,12 +1,13 @@
 -- The unused places of the state that stands for a run: every one holds zero, every unused pin is none. And how many checkpoints each row holds.
 -- Assumes nothing.
-use Rattle.std.specs.Prelude.{◌≡◌, ◌-◌, ◌≤◌, ◌<◌}
+use Rattle.std.specs.Prelude.{◌≡◌, ◌-◌, ◌≤◌, ◌<◌, None, Some}
 use Rattle.laws.specs.Basics.{refl, ◌∙◌, Bool, true, false, not, List, [], ℕ, zero, suc, arith, eqb, length, get_or, drop, replicate, get_or-set_same, get_or-set_other, by_eq}
 use native.Mathlib.Nat.{not-suc-le-zero}
 use lib.Seq.{drop-set-lt, drop-append_seam}
 use Rattle.laws.specs.{Lists.placed, Search.all_below, Search.all_in, Tests.every, Elements.every_drop, Elements.every_from, Elements.every_replicate}
 use Rattle.laws.specs.Truth.{never_both}
-use Rattle.model.specs.{declared.Pin.Pin, declared.Pin.TheVariants.Nothing, declared.Pin.TheVariants.At, declared.Checkpoint.Checkpoint, declared.Run.Run, Steps.with_processes}
+use Rattle.model.specs.Shapes.{Pin}
+use Rattle.model.specs.{declared.Checkpoint.Checkpoint, declared.Run.Run, Steps.with_processes}
 use Rattle.model.specs.Words.{most_processes, most_under_way, Process, zero_vector, no_pins_of, no_checkpoint, no_message, blank, with_process, under_way, with_messages, with_disk}
 use Rattle.model.specs.Sound.{zero_from, unused_checkpoint, unused_message, is_nothing_of, nothing_from, row_unused, unused_sound}
 use Rattle.histories.proofs.Run.{Ideal}
@@ -72,15 +73,15 @@ unfolding zero_from
 zeros k = every_drop (λ x. eqb x.0 0) k zero_vector (every_replicate (λ x. eqb x.0 0) most_processes (record { 0 = 0 }) refl)
 
 -- A pin that tests as none is none.
-pub nothing_is : (pin : Pin) → is_nothing_of pin ≡ true → pin ≡ Nothing
+pub nothing_is : (pin : Pin) → is_nothing_of pin ≡ true → pin ≡ None
 unfolding is_nothing_of
-nothing_is Nothing e = refl
-nothing_is (At k) e = never_both false e refl
+nothing_is None e = refl
+nothing_is (Some k) e = never_both false e refl
 
 -- A row of unused pins has none.
 nothings : nothing_from 0 no_pins_of ≡ true
 unfolding nothing_from is_nothing_of
-nothings = every_replicate is_nothing_of most_processes Nothing refl
+nothings = every_replicate is_nothing_of most_processes None refl
 
 -- An unused checkpoint holds zero.
 checkpoint_unused : unused_checkpoint no_checkpoint ≡ true
@@ -105,7 +106,7 @@ vector_beyond n w = every_from (λ x. eqb x.0 0) (record { 0 = 0 }) n (vector_of
 -- Pins from n on are none.
 pins_beyond : (r : Ideal) (p : ℕ) → nothing_from r.n (pins_of r p) ≡ true
 unfolding nothing_from is_nothing_of
-pins_beyond r p = every_from is_nothing_of Nothing r.n (pins_of r p) (λ i a b. rw (pin_past r p i a))
+pins_beyond r p = every_from is_nothing_of None r.n (pins_of r p) (λ i a b. rw (pin_past r p i a))
 
 -- What the state holds of the checkpoints of process p.
 pub row_is : (r : Ideal) (p : ℕ) → r.n ≤ most_processes → p < r.n → Row (state_of r) p (kept_of r p)

@@ -1,10 +1,11 @@
 -- The start: the state that an accepted start returns stands for the run that has just begun.
 -- Assumes nothing.
 use Rattle.std.specs.Prelude.{◌≡◌, ◌∷◌, ◌-◌, ◌*◌, ◌<◌}
-use Rattle.laws.specs.Basics.{refl, sym, ◌∙◌, ap, true, false, List, [], none, some, ℕ, arith, eqb, ltb, get_or, set, eq-eqb, ne_eqb, lt-ltb, pick, by_eq}
+use Rattle.laws.specs.Basics.{refl, sym, ◌∙◌, ap, true, false, List, [], None, Some, ℕ, arith, eqb, ltb, get_or, set, eq-eqb, ne_eqb, lt-ltb, pick, by_eq}
 use Rattle.laws.specs.{Choice.pick_same, Lists.placed, Search.any_in, Sums.sum_below, Sums.sum_same, Tables.table_same, Tables.table_set, Tables.table_replicate}
 use Rattle.laws.specs.{Tests.count_below, Update.upd_same, Update.upd_other}
-use Rattle.model.specs.declared.{Interval.Interval, Pin.Pin, Pin.TheVariants.Nothing, Pin.TheVariants.At, Run.Run}
+use Rattle.model.specs.Shapes.{Pin}
+use Rattle.model.specs.declared.{Interval.Interval, Run.Run}
 use Rattle.model.specs.Words.{most_processes, zero_vector, no_pins_of, blank, with_messages, with_disk}
 use Rattle.model.specs.Steps.{with_processes, checkpoint_zero, started, opening, start_state}
 use Rattle.histories.proofs.{Run.begin, Run.open_ledger, Run.begun, Run.keeps, Run.names, Counted.kept_in}
@@ -28,18 +29,18 @@ module _ (n : ℕ) (block_counts : List ℕ) (p : ℕ) (lt : p < n) where
       (λ e. rw (e, upd_same {A = ℕ} (λ f. 0) p 1, eq-eqb p p refl))
       (λ ne. rw (upd_other {A = ℕ} (λ f. 0) p 1 f ne, ne_eqb p f (omega arith))))
 
-  start_pins : set no_pins_of p (At (record { 0 = 0 })) ≡ pins_of (begun n block_counts) p
+  start_pins : set no_pins_of p (Some (record { 0 = 0 })) ≡ pins_of (begun n block_counts) p
   unfolding begin pins_of pin_of_def
   start_pins =
-      ap (λ (l : List Pin). set l p (At (record { 0 = 0 }))) (table_replicate {A = Pin} most_processes Nothing)
-      ∙ table_set most_processes _ p (At (record { 0 = 0 }))
+      ap (λ (l : List Pin). set l p (Some (record { 0 = 0 }))) (table_replicate {A = Pin} most_processes None)
+      ∙ table_set most_processes _ p (Some (record { 0 = 0 }))
       ∙ table_same most_processes _ _ (λ f hf. by_eq f p
-      (λ e. rw (e, upd_same {A = Pin} (λ f. Nothing) p (At (record { 0 = 0 })), eq-eqb p p refl, lt-ltb p n lt))
-      (λ ne. rw (upd_other {A = Pin} (λ f. Nothing) p (At (record { 0 = 0 })) f ne, ne_eqb p f (omega arith)) (sym (pick_same (ltb f n) Nothing))))
+      (λ e. rw (e, upd_same {A = Pin} (λ f. None) p (Some (record { 0 = 0 })), eq-eqb p p refl, lt-ltb p n lt))
+      (λ ne. rw (upd_other {A = Pin} (λ f. None) p (Some (record { 0 = 0 })) f ne, ne_eqb p f (omega arith)) (sym (pick_same (ltb f n) None))))
 
   start_keeps : keeps (begun n block_counts) p 0 ≡ true
   unfolding begin keeps
-  start_keeps = any_in n (λ f. names (pick (eqb p f) (some 0) none) 0) p lt (rw (eq-eqb p p refl))
+  start_keeps = any_in n (λ f. names (pick (eqb p f) (Some 0) None) 0) p lt (rw (eq-eqb p p refl))
 
   start_kept : checkpoint_zero (get_or block_counts p 0) ∷ [] ≡ kept_of (begun n block_counts) p
   unfolding checkpoint_zero begin open_ledger kept_of checkpoint_of passing

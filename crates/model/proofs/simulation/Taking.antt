@@ -1,9 +1,10 @@
 -- What a process takes in of a message: the vector and the pins of its part, and the part and the deleted ones once what no pin names goes.
 -- Assumes nothing.
-use Rattle.std.specs.Prelude.{◌≡◌, ◌&&◌, ◌≤◌, ◌<◌}
+use Rattle.std.specs.Prelude.{◌≡◌, ◌&&◌, ◌≤◌, ◌<◌, None}
 use Rattle.laws.specs.Basics.{refl, sym, ◌∙◌, ap, Bool, true, false, not, ℕ, suc, max, arith, ltb, get_or, leb-true, leb-false, pick, by_bool}
 use Rattle.laws.specs.{Choice.pick_same, Ranges.any_same, Ranges.any_wider, Search.any_below, Tables.table_same, Update.upds}
-use Rattle.model.specs.{declared.Pin.Pin, declared.Pin.TheVariants.Nothing, Words.most_processes, Words.entry, Words.below, Words.Process}
+use Rattle.model.specs.Shapes.{Pin}
+use Rattle.model.specs.{Words.most_processes, Words.entry, Words.below, Words.Process}
 use Rattle.model.specs.Steps.{settled, gone, taken_entry, taken_vector, taken_pin, taken_pins}
 use Rattle.histories.proofs.Run.{Ideal, Ledger, keeps, taken_by, taken_in}
 use Rattle.histories.proofs.TakenInViews.{taken_in_n, taken_in_own, taken_in_live, taken_in_vector, taken_in_mark, taken_in_keeps_old}
@@ -66,12 +67,12 @@ module _ (r : Ideal) (m : ℕ) (few : r.n ≤ most_processes) (hi : r.receiver m
   unfolding taken_in taken_by
   pin_taken f = simp upds
 
-  taken_pin_lem : (f : ℕ) → taken_pin i (vector_of r.n v) (vector_of r.n (r.carried m)) (pins_of r i) f ≡ pick (ltb f r.n) (pin_of_def ((taken_in r m).pin i f)) Nothing
+  taken_pin_lem : (f : ℕ) → taken_pin i (vector_of r.n v) (vector_of r.n (r.carried m)) (pins_of r i) f ≡ pick (ltb f r.n) (pin_of_def ((taken_in r m).pin i f)) None
   unfolding taken_pin
   taken_pin_lem f = by_bool (ltb f r.n)
       (λ e. let lt : f < r.n = leb-true (suc f) r.n e in
-      ap (λ (up : Bool). pick up (get_or (pins_of r i) i Nothing) (get_or (pins_of r i) f Nothing)) (below_is r.n v (r.carried m) few f lt)
-      ∙ ap (λ (named : Pin). pick (ltb (v f) (r.carried m f)) named (get_or (pins_of r i) f Nothing)) (pin_is r i i few hi)
+      ap (λ (up : Bool). pick up (get_or (pins_of r i) i None) (get_or (pins_of r i) f None)) (below_is r.n v (r.carried m) few f lt)
+      ∙ ap (λ (named : Pin). pick (ltb (v f) (r.carried m f)) named (get_or (pins_of r i) f None)) (pin_is r i i few hi)
       ∙ ap (λ (named : Pin). pick (ltb (v f) (r.carried m f)) (pin_of_def (r.pin i i)) named) (pin_is r i f few lt)
       ∙ rw (e, pin_taken f) (by_bool (ltb (v f) (r.carried m f)) (λ d. rw d) (λ d. rw d)))
       (λ e. let le : r.n ≤ f = omega (arith, leb-false (suc f) r.n e) in rw (below_past r.n v (r.carried m) few f le, pin_past r i f le, e))

@@ -1,9 +1,10 @@
 -- The state that stands for a run as functions: the library's state after any list of accepted calls is `state_of` of the run, to the last unused place.
 -- Assumes nothing.
 use Rattle.std.specs.Prelude.{◌≡◌, ◌∷◌, ◌++◌, ◌-◌, ◌≤◌, ◌<◌}
-use Rattle.laws.specs.Basics.{Bool, true, List, [], Option, none, some, ℕ, zero, suc, ltb, length, pick}
+use Rattle.laws.specs.Basics.{Bool, true, List, [], Option, None, Some, ℕ, zero, suc, ltb, length, pick}
 use Rattle.laws.specs.Lists.{table}
-use Rattle.model.specs.declared.{Interval.Interval, Pin.Pin, Pin.TheVariants.Nothing, Pin.TheVariants.At, Checkpoint.Checkpoint, Message.Message}
+use Rattle.model.specs.Shapes.{Pin}
+use Rattle.model.specs.declared.{Interval.Interval, Checkpoint.Checkpoint, Message.Message}
 use Rattle.model.specs.declared.{Disk.Disk, Run.Run}
 use Rattle.model.specs.Words.{most_processes, most_under_way, most_messages, most_blocks, Process, blank, with_messages, with_disk}
 use Rattle.model.specs.{Steps.with_processes, Sound.cause_sound, Sound.is_block_count_of}
@@ -19,11 +20,11 @@ unfoldable pub vector_of : ℕ → (ℕ → ℕ) → List Interval
 vector_of n v = table most_processes (λ f. record { 0 = pick (ltb f n) (v f) 0 })
 
 unfoldable pub pin_of_def : Option ℕ → Pin
-pin_of_def none = Nothing
-pin_of_def (some k) = At (record { 0 = k })
+pin_of_def None = None
+pin_of_def (Some k) = Some (record { 0 = k })
 
 unfoldable pub pins_of : Ideal → ℕ → List Pin
-pins_of r p = table most_processes (λ f. pick (ltb f r.n) (pin_of_def (r.pin p f)) Nothing)
+pins_of r p = table most_processes (λ f. pick (ltb f r.n) (pin_of_def (r.pin p f)) None)
 
 -- State k of process p as a checkpoint: its index and its vector, and if it is stored its cause and its process's block count.
 unfoldable pub checkpoint_of : Ideal → ℕ → ℕ → Checkpoint

@@ -2,7 +2,7 @@
 -- call is opened by it. And the range of the table's numbers.
 -- Assumes nothing.
 use Rattle.std.specs.Prelude.{◌≡◌, ◌∷◌, ◌≤◌}
-use Rattle.laws.specs.Basics.{refl, true, false, List, [], Option, none, some, ℕ, zero, suc, arith, get_or, take, by_bool}
+use Rattle.laws.specs.Basics.{refl, true, false, List, [], Option, None, Some, ℕ, zero, suc, arith, get_or, take, by_bool}
 use Rattle.laws.specs.Truth.{never_both}
 use Rattle.model.specs.declared.Refusal.{Refusal}
 use Rattle.model.specs.declared.Refusal.TheVariants.{CountOutsideRange, UnsoundState, ListTooShort, NoSuchProcess, SenderIsReceiver, NoSuchFailedProcess, NotUnderWay, TooManyUnderWay, MessageNumbersUsed, IntervalsUsed, NoFirstByte, LeftOverBytes, MalformedRecord, BlockCountOutsideRange, BlocksUsed, TooManyRecords, UnfitNamedList, NotKept, CausallyOrdered, BufferTooShort, TrialOutsideRange, HalvesMismatch, NeitherReady, Denied}
@@ -19,10 +19,10 @@ rule_at l k = get_or l k (record { holds = false; gives = CountOutsideRange })
 
 -- What a list of rules gives: none if no rule holds; a refusal if the rule at some place holds and gives it, and none before that place holds.
 abbrev pub Gives : List Rule → Option Refusal → Type 0
-Gives l none = NoneHolds l
-Gives l (some x) = (k : ℕ) × NoneHolds (take k l) × ((rule_at l k).holds ≡ true) × ((rule_at l k).gives ≡ x)
+Gives l None = NoneHolds l
+Gives l (Some x) = (k : ℕ) × NoneHolds (take k l) × ((rule_at l k).holds ≡ true) × ((rule_at l k).gives ≡ x)
 
-first_at : (l : List Rule) (k : ℕ) (x : Refusal) → NoneHolds (take k l) → (rule_at l k).holds ≡ true → (rule_at l k).gives ≡ x → first_of l ≡ some x
+first_at : (l : List Rule) (k : ℕ) (x : Refusal) → NoneHolds (take k l) → (rule_at l k).holds ≡ true → (rule_at l k).gives ≡ x → first_of l ≡ Some x
 unfolding first_of
 first_at [] k x earlier holds gives = never_both false holds refl
 first_at (t ∷ l) zero x earlier holds gives = rw (holds, gives)
@@ -31,14 +31,14 @@ first_at (t ∷ l) (suc k) x earlier holds gives = rw earlier.0 (first_at l k x 
 -- The law, from the rules to the refusal,
 pub refusal_in : (l : List Rule) (o : Option Refusal) → Gives l o → first_of l ≡ o
 unfolding first_of
-refusal_in [] none h = refl
-refusal_in (t ∷ l) none h = rw h.0 (refusal_in l none h.1)
-refusal_in l (some x) h = first_at l h.0 x h.1 h.2 h.3
+refusal_in [] None h = refl
+refusal_in (t ∷ l) None h = rw h.0 (refusal_in l None h.1)
+refusal_in l (Some x) h = first_at l h.0 x h.1 h.2 h.3
 
 -- and from the refusal to the rules.
 one_more : (t : Rule) (l : List Rule) (o : Option Refusal) → t.holds ≡ false → Gives l o → Gives (t ∷ l) o
-one_more t l none e h = (e, h)
-one_more t l (some x) e h = (suc h.0, (e, h.1), h.2, h.3)
+one_more t l None e h = (e, h)
+one_more t l (Some x) e h = (suc h.0, (e, h.1), h.2, h.3)
 
 gives_first : (l : List Rule) → Gives l (first_of l)
 unfolding first_of
@@ -58,13 +58,13 @@ fails [] h k = refl
 fails (t ∷ l) h zero = h.0
 fails (t ∷ l) h (suc k) = fails l h.1 k
 
-pub no_rule : (l : List Rule) → first_of l ≡ none → (k : ℕ) → (rule_at l k).holds ≡ false
-no_rule l e = fails l (refusal_out l none e)
+pub no_rule : (l : List Rule) → first_of l ≡ None → (k : ℕ) → (rule_at l k).holds ≡ false
+no_rule l e = fails l (refusal_out l None e)
 
 -- A fact by whether there is a refusal.
-pub by_refusal : {P : Type 0} (o : Option Refusal) → (o ≡ none → P) → ((x : Refusal) → o ≡ some x → P) → P
-by_refusal none a b = a refl
-by_refusal (some x) a b = b x refl
+pub by_refusal : {P : Type 0} (o : Option Refusal) → (o ≡ None → P) → ((x : Refusal) → o ≡ Some x → P) → P
+by_refusal None a b = a refl
+by_refusal (Some x) a b = b x refl
 
 -- The table's numbers have one or two digits, and none is 0.
 pub number_range : (x : Refusal) → (1 ≤ number x) × (number x ≤ 99)

@@ -1,9 +1,9 @@
 -- A sound state taken apart: what each clause of document 01's "A sound state" says, by name. Here alone `sound` is opened.
 -- Assumes nothing.
-use Rattle.std.specs.Prelude.{◌≡◌, ◌&&◌, ◌+◌, ◌≤◌, ◌<◌}
+use Rattle.std.specs.Prelude.{◌≡◌, ◌&&◌, ◌+◌, ◌≤◌, ◌<◌, None}
 use Rattle.laws.specs.Basics.{true, not, [], map, ℕ, eqb, leb, get_or, drop, eqb-true, eqb-false, ltb-true, leb-true, not-true}
 use Rattle.laws.specs.{Lists.or_else, Lists.last_of, Search.all_below, Search.all_out, Tests.every, Truth.and_out}
-use Rattle.model.specs.declared.{Pin.TheVariants.Nothing, Message.Message, Run.Run}
+use Rattle.model.specs.declared.{Message.Message, Run.Run}
 use Rattle.model.specs.Words.{most_processes, most_under_way, most_messages, most_blocks, entry, last_stored_of, names, is_pinned, no_checkpoint, process, own, under_way}
 use Rattle.model.specs.Sound.{count_sound, own_sound, within, vectors_sound, ascending, kept_sound, pin_sound, pins_sound, message_sound, messages_sound, zero_from, unused_checkpoint, unused_message, nothing_from, row_unused, unused_sound, record_sound, kept_blocks, disk_sound, sound}
 
@@ -21,7 +21,7 @@ pub record SoundProcess (s : Run) (p : ℕ) : Type 0 where
   pub kept_ascend : ascending 0 (map (λ c. c.index.0) (process s p).kept) ≡ true
   pub kept_own : every (λ c. eqb (entry c.vector p).0 c.index.0) (process s p).kept ≡ true
   pub kept_last : (or_else (last_of (process s p).kept) no_checkpoint).index.0 ≡ (last_stored_of (own s p)).0
-  pub own_pin : names (get_or (process s p).pins p Nothing) (last_stored_of (own s p)) ≡ true
+  pub own_pin : names (get_or (process s p).pins p None) (last_stored_of (own s p)) ≡ true
   -- "Every pin is none or names a kept one; every kept one is pinned."
   pub pins_kept : every (pin_sound (process s p).kept) (process s p).pins ≡ true
   pub kept_pinned : every (is_pinned (process s p).pins) (process s p).kept ≡ true

@@ -2,7 +2,7 @@
 -- of document 01; what else a call may be refused for, the choice of a step rules out.
 -- Assumes nothing.
 use Rattle.std.specs.Prelude.{◌≡◌, ◌&&◌, ◌∷◌, ◌++◌, ◌+◌, ◌-◌, ◌*◌, ◌/◌, ◌%◌, ◌≤◌, ◌<◌}
-use Rattle.laws.specs.Basics.{refl, sym, ◌∙◌, ap, Bool, true, List, [], Option, none, some, ℕ, zero, suc, arith, eqb, ltb, leb, length, get_or, replicate, length-append, length-replicate, get_or-replicate, ltb-true, ltb-false, leb-true, by_bool, by_eq}
+use Rattle.laws.specs.Basics.{refl, sym, ◌∙◌, ap, Bool, true, List, [], Option, None, Some, ℕ, zero, suc, arith, eqb, ltb, leb, length, get_or, replicate, length-append, length-replicate, get_or-replicate, ltb-true, ltb-false, leb-true, by_bool, by_eq}
 use Rattle.std.proofs.Common.{mod-lt, mod-eq_of_lt, mul-le-mul}
 use native.Mathlib.Nat.{mod-eq-sub-mod}
 use lib.ListN.{get_or-eq_default}
@@ -29,7 +29,7 @@ one_block p = by_bool (ltb p most_processes)
     (λ lt. omega (arith, get_or-replicate {A = ℕ} most_processes p 1 0 (ltb-true p most_processes lt)))
     (λ ge. omega (arith, get_or-eq_default ones 0 {n = p} (rw (length-replicate {A = ℕ} most_processes 1) (ltb-false p most_processes ge))))
 
-pub ones_start : (n : ℕ) → 1 ≤ n → n ≤ most_processes → start_refusal n ones ≡ none
+pub ones_start : (n : ℕ) → 1 ≤ n → n ≤ most_processes → start_refusal n ones ≡ None
 unfolding is_block_count_of
 ones_start n pos few = start_in n ones pos few (λ p lt. rw (get_or-replicate {A = ℕ} most_processes p 1 0 (omega arith)) refl)
 
@@ -46,7 +46,7 @@ pub record Going (n b m : ℕ) (s : Run) : Type 0 where
 
 -- An event that it accepts, with the bounds after it.
 pub record Goes (n b m : ℕ) (s : Run) (e : Event) : Type 0 where
-  pub fine : refusal s (call_of e) ≡ none
+  pub fine : refusal s (call_of e) ≡ None
   pub fitting : fits e ≡ true
   pub next : Going n b m (call s (call_of e)).run
 
@@ -80,7 +80,7 @@ blocks_delivered r m b few h = by_bool (forces r m)
     (λ f. rw (delivered_ledger_plain r m f) (omega arith))
 
 -- The first element that passes one test passes another that all pass.
-head_passes : {A : Type 0} (u t : A → Bool) (l : List A) (x : A) → every u l ≡ true → head_of (select t l) ≡ some x → u x ≡ true
+head_passes : {A : Type 0} (u t : A → Bool) (l : List A) (x : A) → every u l ≡ true → head_of (select t l) ≡ Some x → u x ≡ true
 unfolding every select head_of
 head_passes u t [] x h e = absurd (none≢some e)
 head_passes u t (y ∷ l) x h e = by_bool (t y)
@@ -114,7 +114,7 @@ module _ (n b m : ℕ) (s : Run) (g : Going n b m s) where
       let most = mul-le-mul {n₁ = 2 * g.ideal.n} {m₁ = g.ideal.n} {n₂ = 32} {m₂ = 16} (omega (arith, few)) few in
       rw (length-replicate {A = ℕ} 512 0) (omega (arith, most))
 
-  goes : (e : Event) (b' m' : ℕ) → refusal (state_of g.ideal) (call_of e) ≡ none → ((p : ℕ) → (step_of g.ideal (call_of e)).own p ≤ b')
+  goes : (e : Event) (b' m' : ℕ) → refusal (state_of g.ideal) (call_of e) ≡ None → ((p : ℕ) → (step_of g.ideal (call_of e)).own p ≤ b')
       → (step_of g.ideal (call_of e)).last ≤ m' → ((p : ℕ) → (step_of g.ideal (call_of e)).ledger.block_counts p ≤ 1) → (step_of g.ideal (call_of e)).ledger.written ≤ 15 + b'
       → Goes n b' m' s e
   goes e b' m' h low few cheap blocks = record {
@@ -145,7 +145,7 @@ module _ (n b m : ℕ) (s : Run) (g : Going n b m s) where
       (rw (← underway_is g.ideal) (rw g.reached.state at some-room)) (omega (arith, g.few)))
       g.low (omega (arith, g.few)) g.cheap g.blocks
 
-  goes_deliver : (x : Message) (p : ℕ) → oldest_to s p ≡ some x → b < most_interval → Goes n (suc b) m s (Deliver x.number)
+  goes_deliver : (x : Message) (p : ℕ) → oldest_to s p ≡ Some x → b < most_interval → Goes n (suc b) m s (Deliver x.number)
   unfolding call_of refusal step_of oldest_to
   goes_deliver x p e early =
       let all : every (λ y. g.ideal.transit y.number) (under_way s) ≡ true = rw (g.reached.state, under_way_is g.ideal) (under_way_lem g.ideal) in
@@ -159,12 +159,12 @@ module _ (n b m : ℕ) (s : Run) (g : Going n b m s) where
       (λ q. rw (counts_delivered r x.number) (g.cheap q)) (blocks_delivered r x.number b g.cheap g.blocks)
 
 -- The action of a step is accepted.
-pub by_option : {A : Type 0} {P : Type 0} (o : Option A) → (o ≡ none → P) → ((x : A) → o ≡ some x → P) → P
-by_option none a b = a refl
-by_option (some x) a b = b x refl
+pub by_option : {A : Type 0} {P : Type 0} (o : Option A) → (o ≡ None → P) → ((x : A) → o ≡ Some x → P) → P
+by_option None a b = a refl
+by_option (Some x) a b = b x refl
 
 module _ (n i : ℕ) (s : Run) (p d : ℕ) (g : Going n (1 + 2 * i) i s) (hp : p < n) (hi : i < 30000) where
-  sends_goes : (e : Event) → sends n s p d ≡ some e → Goes n (2 + 2 * i) (suc i) s e
+  sends_goes : (e : Event) → sends n s p d ≡ Some e → Goes n (2 + 2 * i) (suc i) s e
   unfolding sends
   sends_goes e h = by_bool (leb 2 n && ltb s.underway most_under_way)
       (λ q.
@@ -176,12 +176,12 @@ module _ (n i : ℕ) (s : Run) (p d : ℕ) (g : Going n (1 + 2 * i) i s) (hp : p
       rw (← same) (record { fine = w.fine; fitting = w.fitting; next = weaken n (1 + 2 * i) (suc i) (2 + 2 * i) (suc i) _ w.next (omega arith) (omega arith) }))
       (λ q. absurd (none≢some (rw q at h)))
 
-  deliver_goes : (x : Message) → oldest_to s p ≡ some x → Goes n (2 + 2 * i) (suc i) s (Deliver x.number)
+  deliver_goes : (x : Message) → oldest_to s p ≡ Some x → Goes n (2 + 2 * i) (suc i) s (Deliver x.number)
   deliver_goes x h =
       let w = goes_deliver n (1 + 2 * i) i s g x p h (omega arith) in
       record { fine = w.fine; fitting = w.fitting; next = weaken n (suc (1 + 2 * i)) i (2 + 2 * i) (suc i) _ w.next (omega arith) (omega arith) }
 
-  action_goes : (e : Event) → action n s p d ≡ some e → Goes n (2 + 2 * i) (suc i) s e
+  action_goes : (e : Event) → action n s p d ≡ Some e → Goes n (2 + 2 * i) (suc i) s e
   unfolding action delivers
   action_goes e h = by_option (oldest_to s p)
       (λ q. sends_goes e (rw q at h))

@@ -1,13 +1,13 @@
 -- Note 10: a trial "agrees with replaying the same events".
 -- Assumes nothing.
-use Rattle.std.specs.Prelude.{◌≡◌, ◌*◌, ◌/◌, ◌%◌, ◌≤◌, ◌<◌}
-use Rattle.laws.specs.Basics.{refl, sym, ◌∙◌, ap, false, none, ℕ, zero, suc, max, arith, eqb, leb, length, eq-eqb, ne_eqb, leb-true, not-false, pick}
+use Rattle.std.specs.Prelude.{◌≡◌, ◌*◌, ◌/◌, ◌%◌, ◌≤◌, ◌<◌, Ok}
+use Rattle.laws.specs.Basics.{refl, sym, ◌∙◌, ap, false, None, ℕ, zero, suc, max, arith, eqb, leb, length, eq-eqb, ne_eqb, leb-true, not-false, pick}
 use Rattle.std.proofs.Common.{mod-lt, div-add-mod'}
 use Rattle.laws.specs.Truth.{and_left, and_right}
 use Rattle.model.specs.{Words.most_processes, Words.ones, Steps.start_state, laws.Refusals.no_rule}
 use Rattle.whole_runs.specs.Listing.{state_after_records}
 use Rattle.theory_recording.proofs.{Replay.replays, Replay.lines_replayed, Replay.listing_started, spacing.Accepted.ones_start, spacing.Accepted.tried}
-use Rattle.theory_recording.specs.spacing.Spacing.{deliveries_in, forced_in, greatest_below, most_kept_of, stepped, trial_start, trial_after, out_of_range, trial_refusal, quotient_of, remainder_of_def, figures, simulated, events_of, trace_of, replayed, Divides, AgreesWithReplay, TrialsAgree}
+use Rattle.theory_recording.specs.spacing.Spacing.{deliveries_in, forced_in, greatest_below, most_kept_of, stepped, trial_start, trial_after, out_of_range, trial_refusal, quotient_of, remainder_of_def, figures, simulated, figures_in, events_of, trace_of, replayed, Divides, AgreesWithReplay, TrialsAgree}
 
 -- The most kept after any step.
 pub greatest_same : (n : ℕ) (f g : ℕ → ℕ) → ((i : ℕ) → i < n → f i ≡ g i) → greatest_below n f ≡ greatest_below n g
@@ -35,7 +35,7 @@ pub record InRange (n k steps : ℕ) : Type 0 where
   pub some_step : 1 ≤ steps
   pub few_steps : steps ≤ 30000
 
-pub trial_out : (n k steps : ℕ) → trial_refusal n k steps ≡ none → InRange n k steps
+pub trial_out : (n k steps : ℕ) → trial_refusal n k steps ≡ None → InRange n k steps
 unfolding trial_refusal
 trial_out n k steps e =
     let x = in_range 1 most_processes n (no_rule _ e 0) in
@@ -51,12 +51,12 @@ divides x y = record {
 }
 
 -- The result of a trial that is not refused.
-pub result_is_lem : (n k steps seed : ℕ) → trial_refusal n k steps ≡ none → simulated n k steps seed ≡ figures (trial_after n k steps seed)
+pub result_is_lem : (n k steps seed : ℕ) → trial_refusal n k steps ≡ None → simulated n k steps seed ≡ Ok (figures (trial_after n k steps seed))
 unfolding simulated
 result_is_lem n k steps seed e = rw e
 
 -- What the result of a trial says, by the trial and its events.
-agrees : (n k steps seed : ℕ) → trial_refusal n k steps ≡ none → AgreesWithReplay n k steps seed
+agrees : (n k steps seed : ℕ) → trial_refusal n k steps ≡ None → AgreesWithReplay n k steps seed
 unfolding figures quotient_of remainder_of_def trace_of replayed
 agrees n k steps seed e =
     let range = trial_out n k steps e in
@@ -64,7 +64,7 @@ agrees n k steps seed e =
     let s₀ = start_state n ones in
     let v = replays s₀ (events_of n k steps seed) w.accepts in
     let z = trial_after n k steps seed in
-    let is = result_is_lem n k steps seed e in
+    let is = ap figures_in (result_is_lem n k steps seed e) in
     let after-step : (i : ℕ) → i < steps → most_kept_of n (trial_after n k (suc i) seed).run ≡ most_kept_of n (state_after_records (start_state n ones) (trace_of n k (suc i) seed)) = λ i lt.
     let u = tried n k (suc i) seed range.some_process range.few_processes (omega (arith, range.few_steps)) in
     ap (most_kept_of n) (sym ((replays s₀ (events_of n k (suc i) seed) u.accepts).state ∙ u.run)) in

@@ -1,7 +1,7 @@
 -- For the code: the states of a trial are reached by calls, and the counts of a trial stay small.
 -- Assumes nothing.
 use Rattle.std.specs.Prelude.{◌≡◌, ◌∷◌, ◌+◌, ◌≤◌}
-use Rattle.laws.specs.Basics.{◌∙◌, ap, List, [], Option, none, some, ℕ, zero, suc, arith, ltb, length, get_or, set, replicate, length-set, length-replicate, get_or-replicate, get_or-set_same, get_or-set_other, ltb-true, ltb-false, by_bool, by_eq}
+use Rattle.laws.specs.Basics.{◌∙◌, ap, List, [], Option, None, Some, ℕ, zero, suc, arith, ltb, length, get_or, set, replicate, length-set, length-replicate, get_or-replicate, get_or-set_same, get_or-set_other, ltb-true, ltb-false, by_bool, by_eq}
 use lib.ListN.{get_or-eq_default}
 use Rattle.laws.specs.Lists.{select}
 use Rattle.model.specs.declared.{Run.Run, Event.Event}
@@ -15,8 +15,8 @@ use Rattle.theory_recording.specs.spacing.Spacing.{drawn_process, drawn_number, 
 
 one_delivery : (s : Run) (k acted p : ℕ) (o : Option Event) → deliveries_in (performed s (with_checkpoint k acted p o)) ≤ 1
 unfolding with_checkpoint performed deliveries_in is_delivery select
-one_delivery s k acted p none = omega arith
-one_delivery s k acted p (some e) = by_bool (is_due_of k acted)
+one_delivery s k acted p None = omega arith
+one_delivery s k acted p (Some e) = by_bool (is_due_of k acted)
     (λ t. by_bool (is_delivery e) (λ d. rw (t, d) (omega arith)) (λ d. rw (t, d) (omega arith)))
     (λ t. by_bool (is_delivery e) (λ d. rw (t, d) (omega arith)) (λ d. rw (t, d) (omega arith)))
 
@@ -29,8 +29,8 @@ forced_fewer (x ∷ l) = by_bool (is_delivery x.event)
 
 counted_small : (i : ℕ) (acted : List ℕ) (p : ℕ) (o : Option Event) → ((q : ℕ) → get_or acted q 0 ≤ i) → (q : ℕ) → get_or (counted acted p o) q 0 ≤ suc i
 unfolding counted
-counted_small i acted p none h q = omega (arith, h q)
-counted_small i acted p (some e) h q = by_bool (ltb q (length acted))
+counted_small i acted p None h q = omega (arith, h q)
+counted_small i acted p (Some e) h q = by_bool (ltb q (length acted))
     (λ lt. by_eq q p
     (λ c. rw c (omega (arith, h p, get_or-set_same acted p (get_or acted p 0 + 1) 0 (ltb-true p (length acted) (rw c at lt)))))
     (λ ne. omega (arith, h q, get_or-set_other acted p q (get_or acted p 0 + 1) 0 ne)))

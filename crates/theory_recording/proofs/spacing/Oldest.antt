@@ -1,7 +1,7 @@
 -- Note 10: the first of the messages to p is the oldest, since messages ascend by number.
 -- Assumes nothing.
 use Rattle.std.specs.Prelude.{◌≡◌, ◌∷◌, ◌≤◌}
-use Rattle.laws.specs.Basics.{refl, sym, true, List, [], map, none, some, inl, inr, ℕ, suc, arith, eqb, leb, eq-eqb, eqb-true, leb-true, by_bool}
+use Rattle.laws.specs.Basics.{refl, sym, true, List, [], map, None, Some, inl, inr, ℕ, suc, arith, eqb, leb, eq-eqb, eqb-true, leb-true, by_bool}
 use mathlib.Core.List.Memᴰ
 use mathlib.Core.List.{Memᴰ}
 use Rattle.laws.specs.{Lists.select, Options.some_same, Options.none≢some, Truth.never_both, Truth.and_left, Truth.and_right}
@@ -20,7 +20,7 @@ above low (z ∷ l) y a m =
       | inr t ↦ omega (arith, here, above (suc z.number) l y (and_right (leb low z.number) (ascending (suc z.number) (map (λ x. x.number) l)) a) t)
     ]
 
-first_of : (p low : ℕ) (l : List Message) → ascending low (map (λ x. x.number) l) ≡ true → (x : Message) → head_of (select (λ y. eqb y.receiver p) l) ≡ some x
+first_of : (p low : ℕ) (l : List Message) → ascending low (map (λ x. x.number) l) ≡ true → (x : Message) → head_of (select (λ y. eqb y.receiver p) l) ≡ Some x
     → Memᴰ x l × (x.receiver ≡ p) × ((y : Message) → Memᴰ y l → y.receiver ≡ p → x.number ≤ y.number)
 unfolding ascending select head_of
 first_of p low [] a x e = absurd (none≢some e)
@@ -45,7 +45,7 @@ first_of p low (z ∷ l) a x e =
       ],
     ))
 
-none_of : (p : ℕ) (l : List Message) → head_of (select (λ y. eqb y.receiver p) l) ≡ none → (y : Message) → Memᴰ y l → y.receiver ≡ p → ⊥
+none_of : (p : ℕ) (l : List Message) → head_of (select (λ y. eqb y.receiver p) l) ≡ None → (y : Message) → Memᴰ y l → y.receiver ≡ p → ⊥
 unfolding select head_of
 none_of p [] e y m c = Memᴰ.not-nil m
 none_of p (z ∷ l) e y m c = by_bool (eqb z.receiver p)

@@ -4,8 +4,7 @@
 use Rattle.std.specs.Prelude.{◌∷◌}
 use Rattle.laws.specs.Basics.{Bool, List, [], ℕ}
 use Rattle.laws.specs.Tests.{same}
-use Rattle.theory_recording.specs.declared.spacing.TrialResult.{TrialResult}
-use Rattle.theory_recording.specs.spacing.Spacing.{trial_report, simulated}
+use Rattle.theory_recording.specs.spacing.Spacing.{TrialResult, trial_report, simulated, figures_in}
 
 -- n, spacing, steps and starting value; then the number, deliveries, forced checkpoints, most kept, quotient and remainder.
 pub record TrialCase : Type 0 where
@@ -16,7 +15,9 @@ pub record TrialCase : Type 0 where
   pub result : List ℕ
 
 unfoldable pub result_numbers : TrialResult → List ℕ
-result_numbers r = (trial_report r.answer).refused ∷ r.deliveries ∷ r.forced ∷ r.most ∷ r.quotient ∷ r.remainder ∷ []
+result_numbers r =
+    let f = figures_in r in
+    (trial_report r).refused ∷ f.deliveries ∷ f.forced ∷ f.most ∷ f.quotient ∷ f.remainder ∷ []
 
 unfoldable pub trial_right : TrialCase → Bool
 trial_right c = same (result_numbers (simulated c.count c.spacing c.steps c.seed)) c.result

@@ -1,7 +1,7 @@
 -- Document 02, Note 10: "Trying a checkpoint spacing." Each definition stands under the sentence that it says. A trial is one simulation; k is its spacing.
 -- Assumes nothing.
-use Rattle.std.specs.Prelude.{◌≢◌, ◌≡◌, ◌&&◌, ◌∷◌, ◌+◌, ◌-◌, ◌*◌, ◌/◌, ◌%◌, ◌≤◌, ◌<◌}
-use Rattle.laws.specs.Basics.{Bool, true, false, not, List, [], Option, none, some, ℕ, zero, suc, max, eqb, ltb, leb, length, get_or, set, replicate, pick}
+use Rattle.std.specs.Prelude.{◌≢◌, ◌≡◌, ◌&&◌, ◌∷◌, ◌+◌, ◌-◌, ◌*◌, ◌/◌, ◌%◌, ◌≤◌, ◌<◌, Result, Ok, Err}
+use Rattle.laws.specs.Basics.{Bool, true, false, not, List, [], Option, None, Some, ℕ, zero, suc, max, eqb, ltb, leb, length, get_or, set, replicate, pick}
 use mathlib.Core.List.{Memᴰ}
 use Rattle.laws.specs.{Lists.select, Lists.gather, Tests.every}
 use Rattle.model.specs.declared.{Message.Message, Run.Run, Event.Event, Refusal.Refusal, Refusal.TheVariants.TrialOutsideRange}
@@ -10,8 +10,8 @@ use Rattle.model.specs.{Words.most_processes, Words.most_under_way, Words.ones, 
 use Rattle.whole_runs.specs.{Outcomes.judged, Outcomes.Report, Outcomes.refusing, Outcomes.accepting, Calls.Reply, Listing.state_after_records, Listing.listing}
 use Rattle.whole_runs.specs.WholeRuns.{Reachable}
 use Rattle.theory_recording.specs.Replay.{records_of, state_after_events, EventReply, performed, replies_of, none_refused, paired, lines_of}
-use Rattle.theory_recording.specs.{spacing.Trial.Trial, declared.spacing.TrialAnswer.TrialAnswer, declared.spacing.TrialResult.TrialResult}
-use Rattle.theory_recording.specs.declared.spacing.TrialAnswer.TheVariants as trial-answer
+use Rattle.theory_recording.specs.{spacing.Trial.Trial, declared.spacing.TrialFigures.TrialFigures}
+use Rattle.std.specs.Result.{result_unwrap_or}
 
 -- "The generator takes the last value, multiplies by 1,664,525, adds 1,013,904,223 and keeps the low 32 bits": 4,294,967,296 is 2 to the power 32.
 unfoldable pub generated : ℕ → ℕ
@@ -30,8 +30,8 @@ drawn_number value = draw (generated (generated value))
 
 -- "If a message to p is under way .., the oldest": messages ascend by number, so it is the first of those to p. `OldestIsRight` says that it is.
 unfoldable pub head_of : {A : Type 0} → List A → Option A
-head_of [] = none
-head_of (x ∷ l) = some x
+head_of [] = None
+head_of (x ∷ l) = Some x
 
 unfoldable pub oldest_to : Run → ℕ → Option Message
 oldest_to s p = head_of (select (λ x. eqb x.receiver p) (under_way s))
@@ -41,12 +41,12 @@ unfoldable pub chosen_receiver_of : ℕ → ℕ → ℕ → ℕ
 chosen_receiver_of n p d = (p + 1 + d / 2 % (n - 1)) % n
 
 unfoldable pub sends : ℕ → Run → ℕ → ℕ → Option Event
-sends n s p d = pick (leb 2 n && ltb s.underway most_under_way) (some (Send p (chosen_receiver_of n p d))) none
+sends n s p d = pick (leb 2 n && ltb s.underway most_under_way) (Some (Send p (chosen_receiver_of n p d))) None
 
 -- "If a message to p is under way and d is even, the oldest is delivered." Otherwise p sends, if it may.
 unfoldable pub delivers : Option Message → ℕ → Option Event → Option Event
-delivers none d otherwise = otherwise
-delivers (some x) d otherwise = pick (eqb (d % 2) 0) (some (Deliver x.number)) otherwise
+delivers None d otherwise = otherwise
+delivers (Some x) d otherwise = pick (eqb (d % 2) 0) (Some (Deliver x.number)) otherwise
 
 unfoldable pub action : ℕ → Run → ℕ → ℕ → Option Event
 action n s p d = delivers (oldest_to s p) d (sends n s p d)
@@ -56,8 +56,8 @@ unfoldable pub is_due_of : ℕ → ℕ → Bool
 is_due_of k acted = eqb ((acted + 1) % k) 0
 
 unfoldable pub with_checkpoint : ℕ → ℕ → ℕ → Option Event → List Event
-with_checkpoint k acted p none = []
-with_checkpoint k acted p (some e) = e ∷ pick (is_due_of k acted) (Checkpoint p ∷ []) []
+with_checkpoint k acted p None = []
+with_checkpoint k acted p (Some e) = e ∷ pick (is_due_of k acted) (Checkpoint p ∷ []) []
 
 -- The events of a step.
 unfoldable pub step_events : ℕ → ℕ → Trial → List Event
@@ -74,8 +74,8 @@ is_delivery (Lose m) = false
 is_delivery (Recover F) = false
 
 unfoldable pub has_value : Option ℕ → Bool
-has_value none = false
-has_value (some v) = true
+has_value None = false
+has_value (Some v) = true
 
 unfoldable pub deliveries_in : List EventReply → ℕ
 deliveries_in l = length (select (λ x. is_delivery x.event) l)
@@ -93,8 +93,8 @@ most_kept_of n s = greatest_below n (λ p. length (process s p).kept)
 
 -- A process that sends or is delivered to has done one more.
 unfoldable pub counted : List ℕ → ℕ → Option Event → List ℕ
-counted acted p none = acted
-counted acted p (some e) = set acted p (get_or acted p 0 + 1)
+counted acted p None = acted
+counted acted p (Some e) = set acted p (get_or acted p 0 + 1)
 
 -- A step: its events are calls on the state, the figures are counted from their replies, and "the most kept .. after any step" is taken after the last of them.
 unfoldable pub stepped : ℕ → ℕ → Trial → Trial
@@ -137,9 +137,13 @@ trial_refusal n k steps = first_of (
     ∷ record { holds = out_of_range 1 most_steps steps; gives = TrialOutsideRange }
     ∷ [])
 
-unfoldable pub trial_report : TrialAnswer → Report
-trial_report (trial-answer.Refused r) = refusing r
-trial_report trial-answer.Tried = accepting none 0
+-- What a simulation comes to: its figures, or why it is refused.
+abbrev pub TrialResult : Type 0
+TrialResult = Result TrialFigures Refusal
+
+unfoldable pub trial_report : TrialResult → Report
+trial_report (Err r) = refusing r
+trial_report (Ok f) = accepting None 0
 
 -- "1,000 × forced divided by deliveries as quotient and remainder, both 0 without deliveries."
 unfoldable pub quotient_of : ℕ → ℕ → ℕ
@@ -148,9 +152,8 @@ quotient_of forced deliveries = pick (eqb deliveries 0) 0 (1000 * forced / deliv
 unfoldable pub remainder_of_def : ℕ → ℕ → ℕ
 remainder_of_def forced deliveries = pick (eqb deliveries 0) 0 (1000 * forced % deliveries)
 
-unfoldable pub figures : Trial → TrialResult
+unfoldable pub figures : Trial → TrialFigures
 figures z = record {
-  answer = trial-answer.Tried;
   deliveries = z.deliveries;
   forced = z.forced;
   most = z.most;
@@ -158,12 +161,15 @@ figures z = record {
   remainder = remainder_of_def z.forced z.deliveries;
 }
 
--- The result of a simulation. "all figures are then 0."
-unfoldable pub no_figures : Refusal → TrialResult
-no_figures r = record { answer = trial-answer.Refused r; deliveries = 0; forced = 0; most = 0; quotient = 0; remainder = 0 }
-
+-- The result of a simulation, and its figures. "all figures are then 0."
 unfoldable pub simulated : ℕ → ℕ → ℕ → ℕ → TrialResult
-simulated n k steps seed = judged (trial_refusal n k steps) no_figures (figures (trial_after n k steps seed))
+simulated n k steps seed = judged (trial_refusal n k steps) Err (Ok (figures (trial_after n k steps seed)))
+
+unfoldable pub no_figures : TrialFigures
+no_figures = record { deliveries = 0; forced = 0; most = 0; quotient = 0; remainder = 0 }
+
+abbrev pub figures_in : TrialResult → TrialFigures
+figures_in r = result_unwrap_or r no_figures
 
 -- "It agrees with replaying the same events": the events of all steps in their order; their records; the replies of a replay of these.
 unfoldable pub events_of : ℕ → ℕ → ℕ → ℕ → List Event
@@ -188,23 +194,23 @@ pub record AgreesWithReplay (n k steps seed : ℕ) : Type 0 where
   -- the replay ends in the state of the simulation
   pub state : state_after_records (start_state n ones) (trace_of n k steps seed) ≡ (trial_after n k steps seed).run
   -- the figures are counted from the events and the replies of the replay
-  pub deliveries : (simulated n k steps seed).deliveries ≡ deliveries_in (paired (events_of n k steps seed) (replayed n k steps seed))
-  pub forced : (simulated n k steps seed).forced ≡ forced_in (paired (events_of n k steps seed) (replayed n k steps seed))
+  pub deliveries : (figures_in (simulated n k steps seed)).deliveries ≡ deliveries_in (paired (events_of n k steps seed) (replayed n k steps seed))
+  pub forced : (figures_in (simulated n k steps seed)).forced ≡ forced_in (paired (events_of n k steps seed) (replayed n k steps seed))
   -- the most kept, from the states of the replay after each step
-  pub most : (simulated n k steps seed).most ≡ greatest_below steps (λ i. most_kept_of n (state_after_records (start_state n ones) (trace_of n k (suc i) seed)))
-  pub share : Divides (1000 * (simulated n k steps seed).forced) (simulated n k steps seed).deliveries (simulated n k steps seed).quotient (simulated n k steps seed).remainder
+  pub most : (figures_in (simulated n k steps seed)).most ≡ greatest_below steps (λ i. most_kept_of n (state_after_records (start_state n ones) (trace_of n k (suc i) seed)))
+  pub share : let f = figures_in (simulated n k steps seed) in Divides (1000 * f.forced) f.deliveries f.quotient f.remainder
   -- the replay program, with and without `all`, prints the lines of these replies
   pub printed : (all : Bool) → listing all (n ∷ trace_of n k steps seed) ≡ lines_of 0 (replayed n k steps seed)
 
 -- Note 10, for all parameters in range and every starting value.
 unfoldable pub TrialsAgree : Type 0
-TrialsAgree = (n k steps seed : ℕ) → trial_refusal n k steps ≡ none → AgreesWithReplay n k steps seed
+TrialsAgree = (n k steps seed : ℕ) → trial_refusal n k steps ≡ None → AgreesWithReplay n k steps seed
 
 -- "If a message to p is under way .., the oldest": what the first of those to p is, on every state that calls from a start reach. It is under way to p, and no
 -- message under way to p has a lower number; where there is none, none is under way to p.
 pub record OldestIsRight (s : Run) (p : ℕ) : Type 0 where
-  pub one : (x : Message) → oldest_to s p ≡ some x → Memᴰ x (under_way s) × (x.receiver ≡ p) × ((y : Message) → Memᴰ y (under_way s) → y.receiver ≡ p → x.number ≤ y.number)
-  pub none_to : oldest_to s p ≡ none → (y : Message) → Memᴰ y (under_way s) → y.receiver ≢ p
+  pub one : (x : Message) → oldest_to s p ≡ Some x → Memᴰ x (under_way s) × (x.receiver ≡ p) × ((y : Message) → Memᴰ y (under_way s) → y.receiver ≡ p → x.number ≤ y.number)
+  pub none_to : oldest_to s p ≡ None → (y : Message) → Memᴰ y (under_way s) → y.receiver ≢ p
 
 unfoldable pub OldestDelivered : Type 0
 OldestDelivered = (s : Run) → Reachable s → (p : ℕ) → OldestIsRight s p

@@ -8,14 +8,14 @@ ghost use Rattle.theory_recording.specs.spacing.Spacing.{generated, draw, chosen
 fn low_product(a: u32, b: u32) -> u32
     ensures { result ≡ a * b % 4294967296 }
 {
-    ((a as u64 * b as u64) % 4294967296) as u32
+    a.wrapping_mul(b)
 }
 
 // "takes the last value, multiplies by 1,664,525, adds 1,013,904,223 and keeps the low 32 bits"
 pub fn next(x: u32) -> u32
     ensures { result ≡ generated x }
 {
-    std::num::wrapping_add_u32(low_product(x, 1664525), 1013904223)
+    low_product(x, 1664525).wrapping_add(1013904223)
 }
 
 // "a draw is the new value divided by 65,536, remainder dropped"

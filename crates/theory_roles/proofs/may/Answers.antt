@@ -1,6 +1,6 @@
 -- The table of the code is the table of the definition, entry by entry.
 use Rattle.std.specs.Prelude.{◌≡◌, ◌∷◌, ◌<◌}
-use Rattle.laws.specs.Basics.{refl, Bool, true, false, List, [], arith, get_or, rules}
+use Rattle.laws.specs.Basics.{refl, Bool, true, false, List, [], arith, get_or}
 use Rattle.theory_roles.specs.declared.{Role.Role, Role.TheVariants.Operator, Role.TheVariants.JobOwner, Role.TheVariants.Viewer, Operation.Operation}
 use Rattle.theory_roles.specs.declared.Operation.TheVariants.{Start, Checkpoint, Send, Deliver, Lose, Recover, Line, Earliest, List as Listing, Counts}
 use Rattle.theory_roles.specs.Console.{may, role_place, operation_place}

@@ -1,14 +1,28 @@
--- Whether a record has room in a trace of n bytes after the first byte and k records: decided without a product that could wrap.
+-- Whether a record has room in a trace of n bytes after the first byte and k records: decided by a count that stops at the largest number, so that nothing wraps.
 -- Assumes nothing.
-use Rattle.std.specs.Prelude.{◌≡◌, ◌+◌, ◌-◌, ◌*◌, ◌/◌, ◌≤◌, ◌<◌}
-use Rattle.laws.specs.Basics.{sym, ◌∙◌, false, ℕ, arith, leb, le-leb, lt-leb, leb-true, leb-false, by_bool}
+use Rattle.std.specs.Prelude.{◌≡◌, ◌+◌, ◌*◌, ◌≤◌, ◌<◌, min}
+use Rattle.laws.specs.Basics.{true, List, ℕ, arith, leb, length, le-leb, lt-leb, leb-true, leb-false, by_bool, sym, ◌∙◌}
+use Rattle.trace.specs.{Answers.record_at, reader.Reading.record_left_of}
 
--- The bytes after k records and the first byte's place among them.
-pub room_counted : (n k : ℕ) → k < n / 4 → leb 5 (n - 4 * k) ≡ leb (1 + 4 * k + 4) n
-room_counted n k h =
+abbrev most : ℕ
+most = 18446744073709551615
+
+-- The bytes that a record needs, by the count that stops.
+pub room_by : (n k a b : ℕ) → a ≡ min (k * 4) most → b ≡ min (a + 5) most → n < most → leb b n ≡ leb (1 + 4 * k + 4) n
+room_by n k a b e f h =
     by_bool (leb (1 + 4 * k + 4) n)
-    (λ e. le-leb 5 (n - 4 * k) (omega (arith, leb-true (1 + 4 * k + 4) n e)) ∙ sym e)
-    (λ e. lt-leb 5 (n - 4 * k) (omega (arith, leb-false (1 + 4 * k + 4) n e)) ∙ sym e)
+    (λ t. le-leb b n (omega (arith, leb-true (1 + 4 * k + 4) n t)) ∙ sym t)
+    (λ t. lt-leb b n (omega (arith, leb-false (1 + 4 * k + 4) n t)) ∙ sym t)
 
-pub no_room : (n k : ℕ) → n / 4 ≤ k → leb (1 + 4 * k + 4) n ≡ false
-no_room n k h = lt-leb (1 + 4 * k + 4) n (omega arith)
+-- The record is the same, found by the count that stops.
+pub record_by : (trace : List ℕ) (k a b : ℕ) → a ≡ min (k * 4) most → b ≡ min (a + 1) most → length trace < most → record_at trace b ≡ record_at trace (1 + 4 * k)
+unfolding record_at
+record_by trace k a b e f h =
+    by_bool (leb (1 + 4 * k + 4) (length trace))
+    (λ t. let same : b ≡ 1 + 4 * k = omega (arith, leb-true (1 + 4 * k + 4) (length trace) t) in rw same)
+    (λ t. rw (t, lt-leb (b + 4) (length trace) (omega (arith, leb-false (1 + 4 * k + 4) (length trace) t))))
+
+-- Where a record is left the count is small.
+pub room_left : (trace : List ℕ) (k : ℕ) → record_left_of trace k ≡ true → 1 + 4 * k + 4 ≤ length trace
+unfolding record_left_of
+room_left trace k e = leb-true (1 + 4 * k + 4) (length trace) e

@@ -11,7 +11,7 @@ use Rattle.whole_runs.specs.Listing.{perform, records, state_after_records}
 use Rattle.trace.specs.Answers.{record_at}
 use Rattle.trace.specs.declared.reader.Reader.{Reader}
 use Rattle.trace.specs.reader.Reading.{record_after_of, record_left_of, taken_after, new_reader, reader_after}
-use Rattle.trace.specs.reader.Whole.{handed_on, advanced_by, parts, left_over_of, joined, lines_of_parts, state_after_parts, Partition, ReadsWhole, RecordByRecord}
+use Rattle.trace.specs.reader.Whole.{handed_on, advanced_by, parts, parts_left, left_over_of, joined, lines_of_parts, state_after_parts, Partition, ReadsWhole, RecordByRecord}
 use Rattle.trace.proofs.reader.Fours.{at_least_four, under_four}
 
 -- Bytes of a record or more, and fewer.
@@ -189,6 +189,15 @@ module _ (s : Bor (List ℕ)) where
         counted = then ∙ omega arith;
         left_after = ap after_records then ∙ ends k 0 h;
       }
+
+-- What a call of `next` gives, and what is left after it.
+pub none_left : (r : Reader) → record_left_of r.trace.now r.taken ≡ false → parts_left r ≡ []
+unfolding parts_left
+none_left r e = no_parts (after_records r.trace r.taken) (no_room r.trace r.taken e)
+
+pub one_taken : (r : Reader) → record_left_of r.trace.now r.taken ≡ true → parts_left r ≡ record_after_of r.trace.now r.taken ∷ parts_left (reader_after r)
+unfolding parts_left record_after_of record_left_of record_at reader_after taken_after
+one_taken r e = next_parts r.trace r.taken e ∙ rw e refl
 
 pub record_by_record : RecordByRecord
 record_by_record trace = (partition (drop 1 trace.now), reads_whole trace)

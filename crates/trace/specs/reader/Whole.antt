@@ -26,6 +26,10 @@ parts (a ∷ b ∷ []) = []
 parts (a ∷ b ∷ c ∷ []) = []
 parts (a ∷ b ∷ c ∷ d ∷ l) = (a ∷ b ∷ c ∷ d ∷ []) ∷ parts l
 
+-- The parts that a reader has still to hand on.
+unfoldable pub parts_left : Reader → List (List ℕ)
+parts_left r = parts (drop (1 + 4 * r.taken) r.trace.now)
+
 unfoldable pub left_over_of : List ℕ → List ℕ
 left_over_of [] = []
 left_over_of (a ∷ []) = a ∷ []

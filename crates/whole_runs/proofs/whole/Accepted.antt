@@ -1,7 +1,7 @@
 -- An accepted call takes a reached state to a reached state, if its step does what the run as functions does: once for all calls.
 -- Assumes nothing.
 use Rattle.std.specs.Prelude.{◌≡◌, ◌*◌}
-use Rattle.laws.specs.Basics.{sym, ◌∙◌, ap, none, ℕ, arith, get_or, by_bool}
+use Rattle.laws.specs.Basics.{sym, ◌∙◌, ap, None, ℕ, arith, get_or, by_bool}
 use Rattle.laws.specs.Sums.{sum_below}
 use Rattle.model.specs.declared.{Message.Message, Run.Run}
 use Rattle.model.specs.{Words.process, Steps.forces}
@@ -20,7 +20,7 @@ unfolding deliver_report deliver_answer
 delivery_report s x = by_bool (forces (process s x.receiver) x.vector) (λ e. rw e) (λ e. rw e)
 
 -- An accepted call reports the number 0.
-pub accepted_report : (s : Run) (c : Call) → refusal s c ≡ none → (call s c).reply.report.refused ≡ 0
+pub accepted_report : (s : Run) (c : Call) → refusal s c ≡ None → (call s c).reply.report.refused ≡ 0
 unfolding refusal call answered checkpoint_outcome send_outcome deliver_outcome lose_outcome line_outcome recover_outcome earliest_outcome checkpoint_report send_report lose_report line_report recover_report
 accepted_report s (checkpoint i deleted) e = rw e
 accepted_report s (send i j) e = rw e
@@ -31,7 +31,7 @@ accepted_report s (line F lent) e = rw e
 accepted_report s (earliest l lent) e = rw e
 
 -- So the history takes it in.
-pub accepted_history : (n : ℕ) (s : Run) (h : Surviving) (c : Call) → refusal s c ≡ none → after n h (exchange s c) ≡ accepted n h c (call s c).reply
+pub accepted_history : (n : ℕ) (s : Run) (h : Surviving) (c : Call) → refusal s c ≡ None → after n h (exchange s c) ≡ accepted n h c (call s c).reply
 unfolding after
 accepted_history n s h c e = rw (accepted_report s c e)
 
@@ -60,7 +60,7 @@ unfolding handed_blocks
 same_blocks h r a e = ap (λ (c : ℕ → ℕ). sum_below a.report.deletions (λ d. c (get_or a.deleted (2 * d) 0))) e
 
 -- The history after the call agrees with the run after the step.
-pub step_agrees : (n : ℕ) (r r' : Ideal) (h : Surviving) (c : Call) → Inv r → Agrees h r → refusal (state_of r) c ≡ none → Step n h (state_of r) r r' c
+pub step_agrees : (n : ℕ) (r r' : Ideal) (h : Surviving) (c : Call) → Inv r → Agrees h r → refusal (state_of r) c ≡ None → Step n h (state_of r) r r' c
     → Agrees (after n h (exchange (state_of r) c)) r'
 unfolding accepted
 step_agrees n r r' h c v g e t = rw (accepted_history n (state_of r) h c e) (record {
@@ -75,7 +75,7 @@ step_agrees n r r' h c v g e t = rw (accepted_history n (state_of r) h c e) (rec
   deleted = omega (arith, g.deleted, same_blocks h r (call (state_of r) c).reply g.block_counts, t.blocks, t.paid.written, blocks_over r r' v t.inv t.moved t.paid.block_counts);
 })
 
-pub step_reached : (n : ℕ) (r r' : Ideal) (h : Surviving) (c : Call) → Inv r → r.n ≡ n → Agrees h r → refusal (state_of r) c ≡ none → Step n h (state_of r) r r' c
+pub step_reached : (n : ℕ) (r r' : Ideal) (h : Surviving) (c : Call) → Inv r → r.n ≡ n → Agrees h r → refusal (state_of r) c ≡ None → Step n h (state_of r) r r' c
     → Restarted (after n h (exchange (state_of r) c)) r' → Reached n (call (state_of r) c).run (after n h (exchange (state_of r) c)) r'
 step_reached n r r' h c v size g e t restarted = record {
   inv = t.inv;

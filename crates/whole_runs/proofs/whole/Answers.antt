@@ -1,7 +1,7 @@
 -- Each answer in a transcript is right, judged by the surviving history before it: the clauses of specs/Answers put together, for one call.
 -- Assumes nothing.
 use Rattle.std.specs.Prelude.{◌≡◌, ◌^◌, ◌<◌}
-use Rattle.laws.specs.Basics.{sym, ◌∙◌, true, List, none, some, ℕ, arith, length, get_or, eqb-false, lt-ltb, ltb-true}
+use Rattle.laws.specs.Basics.{sym, ◌∙◌, true, List, None, Some, ℕ, arith, length, get_or, eqb-false, lt-ltb, ltb-true}
 use mathlib.Core.List.{Memᴰ}
 use Rattle.laws.specs.{Front.get_d_written, Lists.table, Options.some_same, Options.none≢some, Tables.length_table, Tables.get_d_table}
 use Rattle.model.specs.declared.{Named.Named, Refusal.Refusal}
@@ -87,7 +87,7 @@ module _ (h : Surviving) (r : Ideal) (v : Inv r) (fit : Limits r) (memory : Memo
     number_is = reports_number (state_of r) c ∙ number_right h r v fit g c
 
   -- The set of entries that rose at an accepted delivery: those that the message brings news of.
-  risen_right : (m : ℕ) (deleted : List ℕ) → refusal (state_of r) (deliver m deleted) ≡ none → RightRisen r.n h m (call (state_of r) (deliver m deleted)).reply.rose
+  risen_right : (m : ℕ) (deleted : List ℕ) → refusal (state_of r) (deliver m deleted) ≡ None → RightRisen r.n h m (call (state_of r) (deliver m deleted)).reply.rose
   unfolding refusal
   risen_right m deleted e =
       let few = fit.few_processes in
@@ -99,11 +99,11 @@ module _ (h : Surviving) (r : Ideal) (v : Inv r) (fit : Limits r) (memory : Memo
         no_more = λ f le. rose_past r v few m under f le;
       })
 
-  rose_answer : (c : Call) → refusal (state_of r) c ≡ none → (m : ℕ) (deleted : List ℕ) → c ≡ deliver m deleted → RightRisen r.n h m (call (state_of r) c).reply.rose
+  rose_answer : (c : Call) → refusal (state_of r) c ≡ None → (m : ℕ) (deleted : List ℕ) → c ≡ deliver m deleted → RightRisen r.n h m (call (state_of r) c).reply.rose
   rose_answer c e m deleted q = rw q (risen_right m deleted (rw q at e))
 
   -- The line that an accepted call wrote.
-  line_answer : ((F : ℕ) → F < 2 ^ r.n → LineIsRight r.n (state_of r) h F) → (c : Call) → refusal (state_of r) c ≡ none → (F : ℕ) → failed_set c ≡ some F
+  line_answer : ((F : ℕ) → F < 2 ^ r.n → LineIsRight r.n (state_of r) h F) → (c : Call) → refusal (state_of r) c ≡ None → (F : ℕ) → failed_set c ≡ Some F
       → RightLine r.n h F (λ p. get_or (call (state_of r) c).reply.line p 0)
   unfolding refusal failed_set call answered
   line_answer lines (checkpoint i deleted) e F q = absurd (none≢some q)
@@ -121,7 +121,7 @@ module _ (h : Surviving) (r : Ideal) (v : Inv r) (fit : Limits r) (memory : Memo
       rw (← some_same q) (same_line r.n h G (reported (state_of r) G) _ right.right (right.line_writes lent w.1))
 
   -- The earliest line that an accepted call wrote, and where 20 is given.
-  accepted_at : (c : Call) (l : List Named) (lent : List ℕ) → refusal (state_of r) c ≡ none → c ≡ earliest l lent → earliest_refusal (state_of r) l lent ≡ none
+  accepted_at : (c : Call) (l : List Named) (lent : List ℕ) → refusal (state_of r) c ≡ None → c ≡ earliest l lent → earliest_refusal (state_of r) l lent ≡ None
   unfolding refusal
   accepted_at c l lent e q = rw q at e
 
@@ -129,7 +129,7 @@ module _ (h : Surviving) (r : Ideal) (v : Inv r) (fit : Limits r) (memory : Memo
   unfolding refusal
   number_at c l lent q = rw q (reports_number (state_of r) (earliest l lent))
 
-  earliest_accepted : (l : List Named) (lent : List ℕ) → earliest_refusal (state_of r) l lent ≡ none
+  earliest_accepted : (l : List Named) (lent : List ℕ) → earliest_refusal (state_of r) l lent ≡ None
       → RightEarliest r.n h l (λ p. get_or (call (state_of r) (earliest l lent)).reply.line p 0)
   earliest_accepted l lent e = same_earliest r.n h l (greatest (state_of r) l) _ ((earliest_right h r v fit g l lent).right e)
       (λ c m. rw (count_is_lem r) at ((earliest_out (state_of r) l lent e).stored.present c m))
@@ -139,13 +139,13 @@ module _ (h : Surviving) (r : Ideal) (v : Inv r) (fit : Limits r) (memory : Memo
       rw (earliest_written h r v fit memory g l lent e)
       (get_d_written lent (table r.n (greatest (state_of r) l)) (omega arith) p 0 (omega arith) ∙ get_d_table r.n (greatest (state_of r) l) p 0 hp))
 
-  earliest_answer : (c : Call) → refusal (state_of r) c ≡ none → (l : List Named) (lent : List ℕ) → c ≡ earliest l lent → RightEarliest r.n h l (λ p. get_or (call (state_of r) c).reply.line p 0)
+  earliest_answer : (c : Call) → refusal (state_of r) c ≡ None → (l : List Named) (lent : List ℕ) → c ≡ earliest l lent → RightEarliest r.n h l (λ p. get_or (call (state_of r) c).reply.line p 0)
   earliest_answer c e l lent q = rw q (earliest_accepted l lent (accepted_at c l lent e q))
 
   earliest_none : (c : Call) → (call (state_of r) c).reply.report.refused ≡ 20 → (l : List Named) (lent : List ℕ) → c ≡ earliest l lent → NoneThrough r.n h l
   earliest_none c e l lent q = refused_none h r v fit g l lent (sym (number_at c l lent q) ∙ e)
 
-  pub answer_right : ((F : ℕ) → F < 2 ^ r.n → LineIsRight r.n (state_of r) h F) → (c : Call) → (refusal (state_of r) c ≡ none → Step r.n h (state_of r) r (stepped r c) c)
+  pub answer_right : ((F : ℕ) → F < 2 ^ r.n → LineIsRight r.n (state_of r) h F) → (c : Call) → (refusal (state_of r) c ≡ None → Step r.n h (state_of r) r (stepped r c) c)
       → AnswerIsRight r.n h (exchange (state_of r) c)
   answer_right lines c steps = by_refusal (refusal (state_of r) c)
       (λ e.

@@ -2,7 +2,7 @@
 -- from it does are as before.
 -- Assumes nothing.
 use Rattle.std.specs.Prelude.{◌≡◌}
-use Rattle.laws.specs.Basics.{refl, sym, subst, List, none, ℕ}
+use Rattle.laws.specs.Basics.{refl, sym, subst, List, None, ℕ}
 use Rattle.model.specs.declared.Run.{Run}
 use Rattle.model.specs.{Words.basic, Words.forced, Refusals.checkpoint_refusal, Refusals.deliver_refusal}
 use Rattle.whole_runs.specs.{Calls.Call, Calls.checkpoint, Calls.deliver, Survival.Surviving}
@@ -70,14 +70,14 @@ module _ (why : ℕ) (r : Ideal) where
 
 -- So an accepted checkpoint is a step for the reason that one was asked for, an accepted delivery for the reason that it forces one.
 module _ (n : ℕ) (h : Surviving) (r : Ideal) (v : Inv r) (fit : Limits r) (memory : Memory r) (size : r.n ≡ n) (g : Agrees h r) where
-  pub basic_step : (i : ℕ) (deleted : List ℕ) → checkpoint_refusal (state_of r) i deleted ≡ none → Step n h (state_of r) r (checkpointed (because basic r) i) (checkpoint i deleted)
+  pub basic_step : (i : ℕ) (deleted : List ℕ) → checkpoint_refusal (state_of r) i deleted ≡ None → Step n h (state_of r) r (checkpointed (because basic r) i) (checkpoint i deleted)
   basic_step i deleted e = because_step basic r n h (state_of r) (checkpointed (because basic r) i) (checkpoint i deleted)
       (subst (λ (s : Run). Step n h s (because basic r) (checkpointed (because basic r) i) (checkpoint i deleted)) (because_state basic r)
       (checkpoint_step n h (because basic r) (ledger_inv r _ v) (because_limits basic r fit) (because_memory basic r memory) size (because_agrees basic r h g) i deleted
-      (subst (λ (s : Run). checkpoint_refusal s i deleted ≡ none) (sym (because_state basic r)) e) refl))
+      (subst (λ (s : Run). checkpoint_refusal s i deleted ≡ None) (sym (because_state basic r)) e) refl))
 
-  pub forced_step : (m : ℕ) (deleted : List ℕ) → deliver_refusal (state_of r) m deleted ≡ none → Step n h (state_of r) r (delivered (because forced r) m) (deliver m deleted)
+  pub forced_step : (m : ℕ) (deleted : List ℕ) → deliver_refusal (state_of r) m deleted ≡ None → Step n h (state_of r) r (delivered (because forced r) m) (deliver m deleted)
   forced_step m deleted e = because_step forced r n h (state_of r) (delivered (because forced r) m) (deliver m deleted)
       (subst (λ (s : Run). Step n h s (because forced r) (delivered (because forced r) m) (deliver m deleted)) (because_state forced r)
       (deliver_step n h (because forced r) (ledger_inv r _ v) (because_limits forced r fit) (because_memory forced r memory) size (because_agrees forced r h g) m deleted
-      (subst (λ (s : Run). deliver_refusal s m deleted ≡ none) (sym (because_state forced r)) e) refl))
+      (subst (λ (s : Run). deliver_refusal s m deleted ≡ None) (sym (because_state forced r)) e) refl))

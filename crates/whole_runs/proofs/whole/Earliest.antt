@@ -2,7 +2,7 @@
 -- where no consistent line passes through all named ones.
 -- Assumes nothing.
 use Rattle.std.specs.Prelude.{◌≡◌, ◌≤◌, ◌<◌}
-use Rattle.laws.specs.Basics.{refl, sym, ◌∙◌, Bool, true, false, not, List, Option, none, some, ℕ, arith, ltb, leb, length, lt-ltb, ltb-true, leb-false, not-false, by_bool}
+use Rattle.laws.specs.Basics.{refl, sym, ◌∙◌, Bool, true, false, not, List, Option, None, Some, ℕ, arith, ltb, leb, length, lt-ltb, ltb-true, leb-false, not-false, by_bool}
 use Rattle.laws.specs.{Members.some_in, Members.some_out, Members.none_of, Tests.some_of}
 use Rattle.model.specs.declared.{Named.Named, Refusal.Refusal, Refusal.TheVariants.CausallyOrdered}
 use Rattle.model.specs.{Words.most_processes, Words.comes_before, Words.entry, Refusals.number}
@@ -35,7 +35,7 @@ lowest_ordered n h b o l lent e =
     clash : (k : ℕ) → k < 20 → k ≡ 20 → ⊥
     clash k lt e = omega arith
 
-twenty : (o : Option Refusal) → o ≡ some CausallyOrdered → number_of o ≡ 20
+twenty : (o : Option Refusal) → o ≡ Some CausallyOrdered → number_of o ≡ 20
 unfolding number_of number
 twenty o e = rw e
 
@@ -98,7 +98,7 @@ module _ (h : Surviving) (r : Ideal) (v : Inv r) (fit : Limits r) (g : Agrees h 
 
   -- The line of an accepted call.
   module _ (l : List Named) (lent : List ℕ) where
-    earliest_line : earliest_refusal (state_of r) l lent ≡ none → RightEarliest r.n h l (greatest (state_of r) l)
+    earliest_line : earliest_refusal (state_of r) l lent ≡ None → RightEarliest r.n h l (greatest (state_of r) l)
     unfolding Through Chosen
     earliest_line e =
         let N = greatest (state_of r) l in

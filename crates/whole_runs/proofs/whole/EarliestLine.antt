@@ -1,10 +1,10 @@
 -- Note 8 on the state that stands for a run: what an accepted call for named checkpoints says of the run, and the line that it writes.
 -- Assumes nothing.
 use Rattle.std.specs.Prelude.{◌≡◌, ◌&&◌, ◌||◌, ◌∷◌, ◌≤◌, ◌<◌}
-use Rattle.laws.specs.Basics.{refl, sym, ◌∙◌, ap, Bool, true, false, List, [], Option, none, some, inl, inr, ℕ, arith, eqb, ltb, leb, length, eq-eqb, ne_eqb, eqb-false, ltb-false, leb-true, leb-false, not-false, by_bool}
+use Rattle.laws.specs.Basics.{refl, sym, ◌∙◌, ap, Bool, true, false, List, [], Option, None, Some, inl, inr, ℕ, arith, eqb, ltb, leb, length, eq-eqb, ne_eqb, eqb-false, ltb-false, leb-true, leb-false, not-false, by_bool}
 use mathlib.Core.List.Memᴰ
 use mathlib.Core.List.{Memᴰ}
-use mathlib.Core.Option.{map}
+use Rattle.std.specs.Option.{option_map}
 use Rattle.laws.specs.{Lists.select, Lists.or_else, Lists.last_of, Members.none_of, Search.latest_is, Tests.some_of, Truth.and_both, Truth.and_no_right}
 use Rattle.model.specs.{declared.Checkpoint.Checkpoint, declared.Named.Named, declared.Run.Run, laws.Refusals.no_rule}
 use Rattle.model.specs.Words.{most_processes, entry, comes_before, no_checkpoint, Process, process, keeps_in}
@@ -57,7 +57,7 @@ pub all_kept : (s : Run) (l : List Named) → some_of (not_kept s) l ≡ false �
 unfolding not_kept
 all_kept s l e c m = not-false _ (none_of (not_kept s) l c e m)
 
-pub earliest_out : (s : Run) (l : List Named) (lent : List ℕ) → earliest_refusal s l lent ≡ none → EarliestFine s l lent
+pub earliest_out : (s : Run) (l : List Named) (lent : List ℕ) → earliest_refusal s l lent ≡ None → EarliestFine s l lent
 unfolding earliest_refusal unfit some_ordered
 earliest_out s l lent e =
     let fails = no_rule _ e in
@@ -85,7 +85,7 @@ module _ (r : Ideal) (v : Inv r) (few : r.n ≤ most_processes) where
     below c m = keeps_below r v c.process c.index.0 (is_kept c m)
 
     -- The named checkpoint is found, and its vector is that of its state in the run.
-    found : (c : Named) → Memᴰ c l → last_of (select (is_named c) (process (state_of r) c.process).kept) ≡ some (checkpoint_of r c.process c.index.0)
+    found : (c : Named) → Memᴰ c l → last_of (select (is_named c) (process (state_of r) c.process).kept) ≡ Some (checkpoint_of r c.process c.index.0)
     unfolding process_of kept_of is_named checkpoint_of
     found c m =
         let p = c.process in
@@ -93,7 +93,7 @@ module _ (r : Ideal) (v : Inv r) (few : r.n ≤ most_processes) where
         ap (λ (P : Process). last_of (select (is_named c) P.kept)) (process_is r p few (inside c m))
         ∙ ap last_of (select_passing (is_named c) (r.own p) (keeps r p) (checkpoint_of r p))
         ∙ last_passing (r.own p) (λ j. keeps r p j && is_named c (checkpoint_of r p j)) (checkpoint_of r p)
-        ∙ ap (map (checkpoint_of r p)) (latest_is (r.own p) (λ j. keeps r p j && is_named c (checkpoint_of r p j)) k (below c m)
+        ∙ ap (option_map (checkpoint_of r p)) (latest_is (r.own p) (λ j. keeps r p j && is_named c (checkpoint_of r p j)) k (below c m)
         (and_both (keeps r p k) (eqb k k) (is_kept c m) (eq-eqb k k refl))
         (λ j a b. and_no_right (keeps r p j) (eqb j k) (ne_eqb j k (omega arith))))
 

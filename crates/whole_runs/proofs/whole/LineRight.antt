@@ -2,7 +2,7 @@
 -- nothing later is; its members are live and not failed, or kept.
 -- Assumes nothing.
 use Rattle.std.specs.Prelude.{◌≡◌, ◌||◌, ◌⊎◌, ◌*◌, ◌^◌, ◌≤◌, ◌<◌}
-use Rattle.laws.specs.Basics.{refl, ◌∙◌, true, false, List, none, some, inl, inr, ℕ, arith, ltb, length, get_or, lt-ltb, ltb-true, ltb-false, by_bool}
+use Rattle.laws.specs.Basics.{refl, ◌∙◌, true, false, List, None, Some, inl, inr, ℕ, arith, ltb, length, get_or, lt-ltb, ltb-true, ltb-false, by_bool}
 use Rattle.laws.specs.{Front.get_d_written, Lists.table, Tables.length_table, Tables.get_d_table, Truth.or_left, Truth.or_in_right}
 use Rattle.model.specs.declared.{Run.Run, Refusal.TheVariants.ListTooShort}
 use Rattle.model.specs.{Words.failed, Steps.line_of, Sound.sound, laws.Refusals.refusal_in}
@@ -16,13 +16,13 @@ use Rattle.whole_runs.proofs.whole.Agreement.{Agrees, live_is}
 
 -- A list that is too short is the first thing that is refused of a sound state.
 module _ (s : Run) (F : ℕ) (whole : sound s ≡ true) where
-  line_short : (lent : List ℕ) → length lent < s.count → line_refusal s F lent ≡ some ListTooShort
+  line_short : (lent : List ℕ) → length lent < s.count → line_refusal s F lent ≡ Some ListTooShort
   unfolding line_refusal
-  line_short lent h = refusal_in _ (some ListTooShort) (1, (rw whole, tt), lt-ltb (length lent) s.count h, refl)
+  line_short lent h = refusal_in _ (Some ListTooShort) (1, (rw whole, tt), lt-ltb (length lent) s.count h, refl)
 
-  recover_short : (deleted lent : List ℕ) → (length deleted < 2 * s.count * s.count) ⊎ (length lent < s.count) → recover_refusal s F deleted lent ≡ some ListTooShort
+  recover_short : (deleted lent : List ℕ) → (length deleted < 2 * s.count * s.count) ⊎ (length lent < s.count) → recover_refusal s F deleted lent ≡ Some ListTooShort
   unfolding recover_refusal
-  recover_short deleted lent h = refusal_in _ (some ListTooShort) (1, (rw whole, tt), short h, refl)
+  recover_short deleted lent h = refusal_in _ (Some ListTooShort) (1, (rw whole, tt), short h, refl)
     where
       short : (length deleted < 2 * s.count * s.count) ⊎ (length lent < s.count) → (short_deletions s deleted || short_line s lent) ≡ true
       short (inl d) = or_left (short_deletions s deleted) (short_line s lent) (lt-ltb (length deleted) (2 * s.count * s.count) d)
@@ -50,10 +50,10 @@ module _ (r : Ideal) (v : Inv r) (s : Run) (h : Surviving) (g : Agrees h r) (F :
   set_inside : F < 2 ^ s.count
   set_inside = rw count inside
 
-  accepted_line : (lent : List ℕ) → r.n ≤ length lent → line_refusal s F lent ≡ none
+  accepted_line : (lent : List ℕ) → r.n ≤ length lent → line_refusal s F lent ≡ None
   accepted_line lent room = line_in s F lent (record { whole = whole; room = omega arith; set = set_inside; members = members })
 
-  accepted_recover : (deleted lent : List ℕ) → 2 * r.n * r.n ≤ length deleted → r.n ≤ length lent → recover_refusal s F deleted lent ≡ none
+  accepted_recover : (deleted lent : List ℕ) → 2 * r.n * r.n ≤ length deleted → r.n ≤ length lent → recover_refusal s F deleted lent ≡ None
   accepted_recover deleted lent pairs room =
       recover_in s F deleted lent (record { whole = whole; room = rw count pairs; line_room = omega arith; set = set_inside; members = members })
 

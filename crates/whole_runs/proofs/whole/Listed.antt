@@ -1,7 +1,7 @@
 -- The lists, the sends and the named receivers of the surviving history after an accepted call are those of the run as functions after its step.
 -- Assumes nothing.
 use Rattle.std.specs.Prelude.{◌≡◌, ◌≤◌, ◌<◌}
-use Rattle.laws.specs.Basics.{refl, sym, ◌∙◌, ap, fun_ext, true, false, List, none, some, ℕ, arith, ltb, get_or, ltb-true, ltb-false, by_bool}
+use Rattle.laws.specs.Basics.{refl, sym, ◌∙◌, ap, fun_ext, true, false, List, None, Some, ℕ, arith, ltb, get_or, ltb-true, ltb-false, by_bool}
 use native.Mathlib.Numerals.{add-one}
 use Rattle.laws.specs.Update.{upd}
 use Rattle.histories.specs.History.{Lists, checkpoints}
@@ -39,32 +39,32 @@ module _ (n : ℕ) (h : Surviving) (r : Ideal) (g : Agrees h r) where
   deliver_underway lists m deleted = rw g.underway (by_bool (forces r m) (λ e. rw e) (λ e. rw e))
 
   -- Deliver m: the answer's value says whether a checkpoint was forced.
-  pub deliver_forced : (m : ℕ) (deleted : List ℕ) (a : Reply) (k : ℕ) → forces r m ≡ true → a.report.value ≡ some k → lists_after n h (deliver m deleted) a ≡ (delivered r m).events
+  pub deliver_forced : (m : ℕ) (deleted : List ℕ) (a : Reply) (k : ℕ) → forces r m ≡ true → a.report.value ≡ Some k → lists_after n h (deliver m deleted) a ≡ (delivered r m).events
   unfolding lists_after added forced_first delivered taken_in taken_by checkpointed
   deliver_forced m deleted a k e d = rw (d, g.lists, g.receiver, e)
 
-  pub deliver_plain : (m : ℕ) (deleted : List ℕ) (a : Reply) → forces r m ≡ false → a.report.value ≡ none → lists_after n h (deliver m deleted) a ≡ (delivered r m).events
+  pub deliver_plain : (m : ℕ) (deleted : List ℕ) (a : Reply) → forces r m ≡ false → a.report.value ≡ None → lists_after n h (deliver m deleted) a ≡ (delivered r m).events
   unfolding lists_after added forced_first delivered taken_in taken_by
   deliver_plain m deleted a e d = rw (d, g.lists, g.receiver, e)
 
 module _ (h : Surviving) (r : Ideal) (v : Inv r) (g : Agrees h r) where
   -- A checkpoint of process p is stored for the run's reason.
-  pub stored_cause : (p : ℕ) → cause_with h r.ledger.why (some p) ≡ (stores r p).cause
+  pub stored_cause : (p : ℕ) → cause_with h r.ledger.why (Some p) ≡ (stores r p).cause
   unfolding cause_with stores
   stored_cause p =
       let own-before : checkpoints (h.lists p) ≡ r.own p = ap (λ (l : Lists). checkpoints (l p)) g.lists ∙ sym (v.counted p) in
       λ j. upd (g.cause j) p (upd (g.cause j p) (own-before j) r.ledger.why)
 
-  pub stored_count : (p : ℕ) → count_of h (some p) ≡ r.ledger.block_counts p
+  pub stored_count : (p : ℕ) → count_of h (Some p) ≡ r.ledger.block_counts p
   unfolding count_of
   stored_count p = ap (λ (c : ℕ → ℕ). c p) g.block_counts
 
   -- None is stored.
-  pub none_cause : (c : ℕ) → cause_with h c none ≡ r.ledger.cause
+  pub none_cause : (c : ℕ) → cause_with h c None ≡ r.ledger.cause
   unfolding cause_with
   none_cause c = g.cause
 
-  pub none_count : count_of h none ≡ 0
+  pub none_count : count_of h None ≡ 0
   unfolding count_of
   none_count = refl
 

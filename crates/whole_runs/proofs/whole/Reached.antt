@@ -2,7 +2,7 @@
 -- the history agrees. Here: the start, and that a refused call changes nothing.
 -- Assumes nothing.
 use Rattle.std.specs.Prelude.{◌≡◌}
-use Rattle.laws.specs.Basics.{false, Option, some, ℕ, arith, eqb, ne_eqb}
+use Rattle.laws.specs.Basics.{false, Option, Some, ℕ, arith, eqb, ne_eqb}
 use Rattle.model.specs.{declared.Run.Run, declared.Refusal.Refusal, laws.Refusals.number_range}
 use Rattle.model.specs.Refusals.{number, checkpoint_refusal, send_refusal, deliver_refusal, lose_refusal, line_refusal, recover_refusal}
 use Rattle.whole_runs.specs.Outcomes.{checkpoint_outcome, send_outcome, deliver_outcome, lose_outcome, line_outcome, recover_outcome, checkpoint_report, send_report, deliver_report, lose_report, line_report, recover_report}
@@ -42,7 +42,7 @@ pub refused_number : (x : Refusal) → eqb (number x) 0 ≡ false
 refused_number x = ne_eqb (number x) 0 (omega (arith, (number_range x).0))
 
 -- A refused call returns the state as it came.
-pub refused_state : (s : Run) (c : Call) (x : Refusal) → refusal s c ≡ some x → (call s c).run ≡ s
+pub refused_state : (s : Run) (c : Call) (x : Refusal) → refusal s c ≡ Some x → (call s c).run ≡ s
 unfolding refusal call answered checkpoint_outcome send_outcome deliver_outcome lose_outcome line_outcome recover_outcome earliest_outcome
 refused_state s (checkpoint i deleted) x e = rw e
 refused_state s (send i j) x e = rw e
@@ -53,7 +53,7 @@ refused_state s (line F lent) x e = rw e
 refused_state s (earliest l lent) x e = rw e
 
 -- Its report gives the refusal's number.
-pub refused_report : (s : Run) (c : Call) (x : Refusal) → refusal s c ≡ some x → (call s c).reply.report.refused ≡ number x
+pub refused_report : (s : Run) (c : Call) (x : Refusal) → refusal s c ≡ Some x → (call s c).reply.report.refused ≡ number x
 unfolding refusal call answered checkpoint_outcome send_outcome deliver_outcome lose_outcome line_outcome recover_outcome earliest_outcome checkpoint_report send_report deliver_report lose_report line_report recover_report
 refused_report s (checkpoint i deleted) x e = rw e
 refused_report s (send i j) x e = rw e
@@ -64,9 +64,9 @@ refused_report s (line F lent) x e = rw e
 refused_report s (earliest l lent) x e = rw e
 
 -- The surviving history stays as it was.
-pub refused_history : (n : ℕ) (s : Run) (h : Surviving) (c : Call) (x : Refusal) → refusal s c ≡ some x → after n h (exchange s c) ≡ h
+pub refused_history : (n : ℕ) (s : Run) (h : Surviving) (c : Call) (x : Refusal) → refusal s c ≡ Some x → after n h (exchange s c) ≡ h
 unfolding after
 refused_history n s h c x e = rw (refused_report s c x e) (rw (refused_number x))
 
-pub refused_reached : (n : ℕ) (s : Run) (h : Surviving) (r : Ideal) (c : Call) (x : Refusal) → refusal s c ≡ some x → Reached n s h r → Reached n (call s c).run (after n h (exchange s c)) r
+pub refused_reached : (n : ℕ) (s : Run) (h : Surviving) (r : Ideal) (c : Call) (x : Refusal) → refusal s c ≡ Some x → Reached n s h r → Reached n (call s c).run (after n h (exchange s c)) r
 refused_reached n s h r c x e v = rw (refused_state s c x e) (rw (refused_history n s h c x e) v)

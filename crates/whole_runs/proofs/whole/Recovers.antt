@@ -1,7 +1,7 @@
 -- An accepted recover call, as a step of the run as functions.
 -- Assumes nothing.
 use Rattle.std.specs.Prelude.{◌≡◌, ◌≤◌, ◌<◌}
-use Rattle.laws.specs.Basics.{sym, ◌∙◌, fun_ext, List, none, ℕ, arith, length, get_or}
+use Rattle.laws.specs.Basics.{sym, ◌∙◌, fun_ext, List, None, ℕ, arith, length, get_or}
 use Rattle.laws.specs.{Front.get_d_written, Lists.table, Tables.length_table, Tables.get_d_table}
 use Rattle.model.specs.{Words.most_processes, Words.failed, Steps.recover_deletions, Steps.line_of, Refusals.recover_refusal}
 use Rattle.whole_runs.specs.{Outcomes.pairs, Outcomes.written, Outcomes.recover_outcome, Outcomes.recover_report, Calls.recover, Calls.answered, Calls.call}
@@ -15,7 +15,7 @@ use Rattle.whole_runs.proofs.{whole.Handed.pair_blocks, whole.Handed.recover_han
 use Rattle.whole_runs.proofs.{whole.Agreement.Agrees, whole.Agreement.HandsOut, whole.Gone.HandsOver, whole.Gone.recover_over}
 use Rattle.whole_runs.proofs.whole.Listed.{recover_lists, none_cause, none_count}
 
-module _ (n : ℕ) (h : Surviving) (r : Ideal) (v : Inv r) (fit : Limits r) (memory : Memory r) (size : r.n ≡ n) (g : Agrees h r) (F : ℕ) (deleted lent : List ℕ) (e : recover_refusal (state_of r) F deleted lent ≡ none) where
+module _ (n : ℕ) (h : Surviving) (r : Ideal) (v : Inv r) (fit : Limits r) (memory : Memory r) (size : r.n ≡ n) (g : Agrees h r) (F : ℕ) (deleted lent : List ℕ) (e : recover_refusal (state_of r) F deleted lent ≡ None) where
   few : r.n ≤ most_processes
   few = fit.few_processes
 

@@ -1,10 +1,10 @@
 -- The number that a call on a reached state is refused with, by the surviving history and the call's arguments alone.
 -- Assumes nothing.
 use Rattle.std.specs.Prelude.{◌≡◌, ◌&&◌, ◌||◌, ◌∷◌, ◌+◌, ◌*◌, ◌^◌, ◌<◌}
-use Rattle.laws.specs.Basics.{refl, sym, ◌∙◌, ap, Bool, true, false, not, List, [], Option, none, some, ℕ, arith, ltb, leb, length, get_or, ltb-true, ltb-false, le-leb, lt-leb, leb-false, not-false, by_bool}
+use Rattle.laws.specs.Basics.{refl, sym, ◌∙◌, ap, Bool, true, false, not, List, [], Option, None, Some, ℕ, arith, ltb, leb, length, get_or, ltb-true, ltb-false, le-leb, lt-leb, leb-false, not-false, by_bool}
 use Rattle.laws.specs.{Ranges.any_same, Members.some_same, Search.any_below, Search.any_out, Tests.some_of, Truth.never_both}
 use Rattle.model.specs.declared.{Named.Named, Run.Run, Refusal.Refusal}
-use Rattle.model.specs.{Words.most_blocks, Words.own, Steps.found, Steps.latest_allowed, Sound.is_block_count_of, Sound.sound}
+use Rattle.model.specs.{Words.most_blocks, Steps.found, Steps.latest_allowed, Sound.is_block_count_of, Sound.sound}
 use Rattle.histories.specs.History.{checkpoints}
 use Rattle.model.specs.Refusals.{number, Rule, first_of, start_refusal, short_deletions, short_line, absent, at_last_interval, past_blocks, outside, checkpoint_refusal, send_refusal, missing, forces_past, forces_over, deliver_refusal, lose_refusal, no_member_of, line_refusal, recover_refusal}
 use Rattle.model.specs.laws.Refusals.{refusal_in, skipped, by_refusal}
@@ -22,8 +22,8 @@ use Rattle.whole_runs.proofs.whole.Reached.{refusal, refused_report}
 
 -- The number of a refusal, 0 where there is none.
 unfoldable pub number_of : Option Refusal → ℕ
-number_of none = 0
-number_of (some x) = number x
+number_of None = 0
+number_of (Some x) = number x
 
 -- A reply reports that number.
 pub reports_number : (s : Run) (c : Call) → (call s c).reply.report.refused ≡ number_of (refusal s c)
@@ -69,12 +69,12 @@ alike : (t : Rule) (l : List Rule) (x : Reason) (k : List Reason) → t.holds �
     → (x.holds ≡ false → number_of (first_of l) ≡ lowest k) → number_of (first_of (t ∷ l)) ≡ lowest (x ∷ k)
 unfolding number_of lowest
 alike t l x k e same rest = by_bool x.holds
-    (λ d. rw d (ap number_of (refusal_in (t ∷ l) (some t.gives) (0, tt, e ∙ d, refl)) ∙ same))
+    (λ d. rw d (ap number_of (refusal_in (t ∷ l) (Some t.gives) (0, tt, e ∙ d, refl)) ∙ same))
     (λ d. rw d (never t l (lowest k) (e ∙ d) (rest d)))
 
 no_more : number_of (first_of []) ≡ lowest []
 unfolding number_of lowest
-no_more = ap number_of (refusal_in [] none tt)
+no_more = ap number_of (refusal_in [] None tt)
 
 -- The number of a start.
 outside_range : (low high k : ℕ) → not (leb low k && leb k high) ≡ (ltb k low || ltb high k)

@@ -2,7 +2,7 @@
 -- checkpoint, and so what is kept is what the history needs.
 -- Assumes nothing.
 use Rattle.std.specs.Prelude.{◌≡◌, ◌-◌, ◌<◌}
-use Rattle.laws.specs.Basics.{refl, sym, ◌∙◌, ap, true, List, none, some, inl, inr, ℕ, suc, arith}
+use Rattle.laws.specs.Basics.{refl, sym, ◌∙◌, ap, true, List, None, Some, inl, inr, ℕ, suc, arith}
 use Rattle.laws.specs.Rows.{by_lt}
 use Rattle.model.specs.Words.{basic, forced, failed}
 use Rattle.histories.specs.History.{Lists, checkpoints, before_checkpoint, ComesBefore}
@@ -34,7 +34,7 @@ because_learns : (why : ℕ) (r r' : Ideal) → Learns (because why r) r' → Le
 because_learns why r r' l = record { size = l.size; each = l.each }
 
 module _ (n : ℕ) (h : Surviving) (r : Ideal) (v : Inv r) (fit : Limits r) (t : Restarted h r) where
-  accepted_restarted : (c : Call) → refusal (state_of r) c ≡ none → Step n h (state_of r) r (stepped r c) c → Restarted (accepted n h c (call (state_of r) c).reply) (stepped r c)
+  accepted_restarted : (c : Call) → refusal (state_of r) c ≡ None → Step n h (state_of r) r (stepped r c) c → Restarted (accepted n h c (call (state_of r) c).reply) (stepped r c)
   unfolding accepted lists_after restart_after stepped refusal
   accepted_restarted (checkpoint i deleted) e step =
       goes_on h _ r _ refl (because_learns basic r (checkpointed (because basic r) i) (checkpointed_learns (because basic r) i (ledger_inv r _ v))) t
@@ -48,7 +48,7 @@ module _ (n : ℕ) (h : Surviving) (r : Ideal) (v : Inv r) (fit : Limits r) (t :
   accepted_restarted (line F lent) e step = goes_on h _ r _ refl (same_learns r) t
   accepted_restarted (earliest l lent) e step = goes_on h _ r _ refl (same_learns r) t
 
-  pub step_restarted : (c : Call) → refusal (state_of r) c ≡ none → Step n h (state_of r) r (stepped r c) c → Restarted (after n h (exchange (state_of r) c)) (stepped r c)
+  pub step_restarted : (c : Call) → refusal (state_of r) c ≡ None → Step n h (state_of r) r (stepped r c) c → Restarted (after n h (exchange (state_of r) c)) (stepped r c)
   step_restarted c e step = rw (accepted_history n (state_of r) h c e) (accepted_restarted c e step)
 
 -- What p knows of f, now, at a checkpoint, and when the run last started or recovered: by the lists of the history as by the vectors.
@@ -109,7 +109,7 @@ module _ (h : Surviving) (r : Ideal) (v : Inv r) (memory : Memory r) (g : Agrees
       (λ le. omega (arith, now_less w.0 w.1))
 
   -- So the pin names the checkpoint that the history says.
-  names_in : (k : ℕ) → r.pin p f ≡ some k → PinNames h p f k
+  names_in : (k : ℕ) → r.pin p f ≡ Some k → PinNames h p f k
   unfolding PinNames
   names_in k e =
       let z = v.pins p f k hf e in (
@@ -118,7 +118,7 @@ module _ (h : Surviving) (r : Ideal) (v : Inv r) (memory : Memory r) (g : Agrees
         λ j lt below w. let less = less_out j (omega (arith, many)) w in omega (arith, z.next, rising r v p f (suc k) j lt (omega (arith, many))),
       )
 
-  names_out : (k j : ℕ) → r.pin p f ≡ some j → PinNames h p f k → k ≡ j
+  names_out : (k j : ℕ) → r.pin p f ≡ Some j → PinNames h p f k → k ≡ j
   unfolding PinNames
   names_out k j e d =
       let z = v.pins p f j hf e in

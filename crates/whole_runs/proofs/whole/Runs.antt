@@ -1,7 +1,7 @@
 -- The run as functions after a list of calls: an accepted call is its step, a refused one changes nothing.
 -- Assumes nothing.
 use Rattle.std.specs.Prelude.{◌≡◌, ◌∷◌}
-use Rattle.laws.specs.Basics.{refl, ◌∙◌, ap, List, [], Option, none, some}
+use Rattle.laws.specs.Basics.{refl, ◌∙◌, ap, List, [], Option, None, Some}
 use Rattle.model.specs.declared.Refusal.{Refusal}
 use Rattle.model.specs.Words.{basic, forced, failed}
 use Rattle.whole_runs.specs.Calls.{Call, checkpoint, send, deliver, lose, recover, line, earliest}
@@ -22,15 +22,15 @@ stepped r (earliest l lent) = r
 
 -- One of two runs, by whether there is a refusal.
 unfoldable pub unless_refused : Option Refusal → Ideal → Ideal → Ideal
-unless_refused none r r' = r'
-unless_refused (some x) r r' = r
+unless_refused None r r' = r'
+unless_refused (Some x) r r' = r
 
 unfoldable pub run_after : Ideal → List Call → Ideal
 run_after r [] = r
 run_after r (c ∷ l) = run_after (unless_refused (refusal (state_of r) c) r (stepped r c)) l
 
 -- An accepted first call is its step, a refused one leaves the run.
-pub run_accepted : (r : Ideal) (c : Call) (l : List Call) → refusal (state_of r) c ≡ none → run_after r (c ∷ l) ≡ run_after (stepped r c) l
+pub run_accepted : (r : Ideal) (c : Call) (l : List Call) → refusal (state_of r) c ≡ None → run_after r (c ∷ l) ≡ run_after (stepped r c) l
 unfolding run_after unless_refused
 run_accepted r c l e = ap (λ (o : Option Refusal). run_after (unless_refused o r (stepped r c)) l) e
 
@@ -47,8 +47,8 @@ counts_step r (earliest l lent) = refl
 
 counts_unless : (o : Option Refusal) (r r' : Ideal) → r'.ledger.block_counts ≡ r.ledger.block_counts → (unless_refused o r r').ledger.block_counts ≡ r.ledger.block_counts
 unfolding unless_refused
-counts_unless none r r' e = e
-counts_unless (some x) r r' e = refl
+counts_unless None r r' e = e
+counts_unless (Some x) r r' e = refl
 
 pub counts_after : (r : Ideal) (calls : List Call) → (run_after r calls).ledger.block_counts ≡ r.ledger.block_counts
 unfolding run_after

@@ -1,7 +1,7 @@
 -- Each accepted call, as a step of the run as functions: checkpoint, send, deliver, lose, line and the earliest line. Recover has a file of its own.
 -- Assumes nothing.
 use Rattle.std.specs.Prelude.{◌≡◌, ◌*◌, ◌≤◌, ◌<◌}
-use Rattle.laws.specs.Basics.{refl, sym, ◌∙◌, ap, fun_ext, true, false, List, [], none, some, inl, ℕ, arith, length, get_or, by_bool}
+use Rattle.laws.specs.Basics.{refl, sym, ◌∙◌, ap, fun_ext, true, false, List, [], None, Some, inl, ℕ, arith, length, get_or, by_bool}
 use Rattle.laws.specs.{Search.any_below, Sums.sum_below}
 use Rattle.model.specs.{Words.most_processes, Words.basic, Words.forced, Words.process, Words.live, Steps.checkpoint_deletions, Steps.deliver_deletions}
 use Rattle.model.specs.declared.Named.{Named}
@@ -44,7 +44,7 @@ module _ (n : ℕ) (h : Surviving) (r : Ideal) (v : Inv r) (fit : Limits r) (mem
   self i = v.self i (r.own i) (omega arith)
 
   -- Checkpoint at i, where the run says that one stored now is a basic one.
-  module _ (i : ℕ) (deleted : List ℕ) (e : checkpoint_refusal (state_of r) i deleted ≡ none) (asked : r.ledger.why ≡ basic) where
+  module _ (i : ℕ) (deleted : List ℕ) (e : checkpoint_refusal (state_of r) i deleted ≡ None) (asked : r.ledger.why ≡ basic) where
     checkpoint_run_state : (call (state_of r) (checkpoint i deleted)).run ≡ state_of (checkpointed r i)
     unfolding call answered checkpoint_outcome
     checkpoint_run_state = rw e (checkpoint_is r v i few (checkpoint_run r v fit i deleted e).0 asked fit.ledger.paid)
@@ -80,7 +80,7 @@ module _ (n : ℕ) (h : Surviving) (r : Ideal) (v : Inv r) (fit : Limits r) (mem
 
     checkpoint_cause : cause_with h (cause_of (checkpoint i deleted)) (stored_by h (checkpoint i deleted) (call (state_of r) (checkpoint i deleted)).reply) ≡ (checkpointed r i).ledger.cause
     unfolding cause_of stored_by checkpointed
-    checkpoint_cause = ap (λ (c : ℕ). cause_with h c (some i)) (sym asked) ∙ stored_cause h r v g i
+    checkpoint_cause = ap (λ (c : ℕ). cause_with h c (Some i)) (sym asked) ∙ stored_cause h r v g i
 
     checkpoint_stored : count_of h (stored_by h (checkpoint i deleted) (call (state_of r) (checkpoint i deleted)).reply) ≡ new_in r (checkpointed r i)
     unfolding stored_by
@@ -107,7 +107,7 @@ module _ (n : ℕ) (h : Surviving) (r : Ideal) (v : Inv r) (fit : Limits r) (mem
     }
 
   -- Send from i to j.
-  module _ (i j : ℕ) (e : send_refusal (state_of r) i j ≡ none) where
+  module _ (i j : ℕ) (e : send_refusal (state_of r) i j ≡ None) where
     send_run_state : (call (state_of r) (send i j)).run ≡ state_of (sending r i j)
     unfolding call answered send_outcome
     send_run_state = rw e (send_is r i j few (send_run r v fit i j e).0)
@@ -155,7 +155,7 @@ module _ (n : ℕ) (h : Surviving) (r : Ideal) (v : Inv r) (fit : Limits r) (mem
         }
 
   -- Lose m.
-  module _ (m : ℕ) (e : lose_refusal (state_of r) m ≡ none) where
+  module _ (m : ℕ) (e : lose_refusal (state_of r) m ≡ None) where
     lose_run_state : (call (state_of r) (lose m)).run ≡ state_of (lost r m)
     unfolding call answered lose_outcome
     lose_run_state = rw e (lose_is r m)
@@ -204,7 +204,7 @@ module _ (n : ℕ) (h : Surviving) (r : Ideal) (v : Inv r) (fit : Limits r) (mem
     }
 
   -- A call that leaves the state, stores nothing and hands nothing out: nothing changes.
-  module _ (c : Call) (state : (call (state_of r) c).run ≡ state_of r) (count : (call (state_of r) c).reply.report.deletions ≡ 0) (none_stored : stored_by h c (call (state_of r) c).reply ≡ none)
+  module _ (c : Call) (state : (call (state_of r) c).run ≡ state_of r) (count : (call (state_of r) c).reply.report.deletions ≡ 0) (none_stored : stored_by h c (call (state_of r) c).reply ≡ None)
       (same : (lists_after n h c (call (state_of r) c).reply ≡ r.events) × (sends_after h c ≡ r.last) × (receiver_after h c ≡ r.receiver) × ((lists : Lists) → underway_after n h lists c ≡ r.transit))
       (over : HandsOver (call (state_of r) c).reply (lent_deletions c) r r) where
     unchanged_step : Step n h (state_of r) r r c
@@ -227,21 +227,21 @@ module _ (n : ℕ) (h : Surviving) (r : Ideal) (v : Inv r) (fit : Limits r) (mem
     }
 
   -- Line for F.
-  module _ (F : ℕ) (lent : List ℕ) (e : line_refusal (state_of r) F lent ≡ none) where
+  module _ (F : ℕ) (lent : List ℕ) (e : line_refusal (state_of r) F lent ≡ None) where
     pub line_step : Step n h (state_of r) r r (line F lent)
     unfolding call answered line_outcome line_report lists_after sends_after receiver_after underway_after stored_by lent_deletions
     line_step = unchanged_step (line F lent) (rw e) (rw e) refl (g.lists, g.sends, g.receiver, λ lists. g.underway)
         (nothing_over r r (call (state_of r) (line F lent)).reply (rw e) (rw e) (λ p k. refl))
 
   -- The earliest line through named checkpoints.
-  module _ (l : List Named) (lent : List ℕ) (e : earliest_refusal (state_of r) l lent ≡ none) where
+  module _ (l : List Named) (lent : List ℕ) (e : earliest_refusal (state_of r) l lent ≡ None) where
     pub earliest_step : Step n h (state_of r) r r (earliest l lent)
     unfolding call answered earliest_outcome line_report lists_after sends_after receiver_after underway_after stored_by lent_deletions
     earliest_step = unchanged_step (earliest l lent) (rw e) (rw e) refl (g.lists, g.sends, g.receiver, λ lists. g.underway)
         (nothing_over r r (call (state_of r) (earliest l lent)).reply (rw e) (rw e) (λ p k. refl))
 
   -- Deliver m.
-  module _ (m : ℕ) (deleted : List ℕ) (e : deliver_refusal (state_of r) m deleted ≡ none) where
+  module _ (m : ℕ) (deleted : List ℕ) (e : deliver_refusal (state_of r) m deleted ≡ None) where
     under : r.transit m ≡ true
     under = (deliver_run r v fit m deleted e).0
 
@@ -251,11 +251,11 @@ module _ (n : ℕ) (h : Surviving) (r : Ideal) (v : Inv r) (fit : Limits r) (mem
     the_message : message (state_of r) m ≡ message_of r m
     the_message = rw (deliver_run r v fit m deleted e).1
 
-    pub value_forced : forces r m ≡ true → (call (state_of r) (deliver m deleted)).reply.report.value ≡ some (live (r.receiver m) (process (state_of r) (r.receiver m))).index.0
+    pub value_forced : forces r m ≡ true → (call (state_of r) (deliver m deleted)).reply.report.value ≡ Some (live (r.receiver m) (process (state_of r) (r.receiver m))).index.0
     unfolding call answered deliver_outcome deliver_report deliver_answer message_of
     value_forced q = rw (e, the_message) (rw (deliver_forces r m few receives (self (r.receiver m)) ∙ q))
 
-    pub value_plain : forces r m ≡ false → (call (state_of r) (deliver m deleted)).reply.report.value ≡ none
+    pub value_plain : forces r m ≡ false → (call (state_of r) (deliver m deleted)).reply.report.value ≡ None
     unfolding call answered deliver_outcome deliver_report deliver_answer message_of
     value_plain q = rw (e, the_message) (rw (deliver_forces r m few receives (self (r.receiver m)) ∙ q))
 
@@ -290,18 +290,18 @@ module _ (n : ℕ) (h : Surviving) (r : Ideal) (v : Inv r) (fit : Limits r) (mem
           deliver_over r v few (call (state_of r) (deliver m deleted)).reply deleted (deliver_run r v fit m deleted e).2 m receives asked (record { deleted = deliver_list; counted = deliver_count })
 
       -- The answer says whether a checkpoint was stored.
-      stored_forced : forces r m ≡ true → stored_by h (deliver m deleted) (call (state_of r) (deliver m deleted)).reply ≡ some (r.receiver m)
+      stored_forced : forces r m ≡ true → stored_by h (deliver m deleted) (call (state_of r) (deliver m deleted)).reply ≡ Some (r.receiver m)
       unfolding stored_by forced_at
-      stored_forced q = rw (value_forced q) (ap (λ (f : ℕ → ℕ). some (f m)) g.receiver)
+      stored_forced q = rw (value_forced q) (ap (λ (f : ℕ → ℕ). Some (f m)) g.receiver)
 
-      stored_plain : forces r m ≡ false → stored_by h (deliver m deleted) (call (state_of r) (deliver m deleted)).reply ≡ none
+      stored_plain : forces r m ≡ false → stored_by h (deliver m deleted) (call (state_of r) (deliver m deleted)).reply ≡ None
       unfolding stored_by forced_at
       stored_plain q = rw (value_plain q)
 
       deliver_cause : cause_with h (cause_of (deliver m deleted)) (stored_by h (deliver m deleted) (call (state_of r) (deliver m deleted)).reply) ≡ (delivered r m).ledger.cause
       unfolding cause_of
       deliver_cause = by_bool (forces r m)
-          (λ q. ap (cause_with h forced) (stored_forced q) ∙ ap (λ (c : ℕ). cause_with h c (some (r.receiver m))) (sym asked) ∙ stored_cause h r v g (r.receiver m)
+          (λ q. ap (cause_with h forced) (stored_forced q) ∙ ap (λ (c : ℕ). cause_with h c (Some (r.receiver m))) (sym asked) ∙ stored_cause h r v g (r.receiver m)
           ∙ ap (λ (l : Ledger). l.cause) (sym (delivered_ledger_forced r m q)))
           (λ q. ap (cause_with h forced) (stored_plain q) ∙ none_cause h r v g forced ∙ ap (λ (l : Ledger). l.cause) (sym (delivered_ledger_plain r m q)))
 

@@ -2,11 +2,11 @@
 -- surviving history, and the set of entries that rose.
 -- Assumes nothing.
 use Rattle.std.specs.Prelude.{◌≡◌, ◌+◌, ◌≤◌, ◌<◌}
-use Rattle.laws.specs.Basics.{refl, sym, ◌∙◌, ap, List, none, some, ℕ, arith, ltb, length, get_or, by_bool}
+use Rattle.laws.specs.Basics.{refl, sym, ◌∙◌, ap, List, None, Some, ℕ, arith, ltb, length, get_or, by_bool}
 use Rattle.laws.specs.{Counting.count_same, Front.get_d_written, Front.written_front, Lists.table, Tables.length_table, Tables.get_d_table, Tables.table_same}
 use Rattle.laws.specs.Tests.{count_below}
 use Rattle.model.specs.declared.{Named.Named, Run.Run, Refusal.Refusal}
-use Rattle.model.specs.{Words.most_processes, Words.failed, Words.own, Steps.deliver_risen, Steps.rolled_back, Steps.rolled_back_count, laws.Refusals.by_refusal}
+use Rattle.model.specs.{Words.most_processes, Words.failed, Steps.deliver_risen, Steps.rolled_back, Steps.rolled_back_count, laws.Refusals.by_refusal}
 use Rattle.histories.specs.History.{Line}
 use Rattle.model.specs.Refusals.{checkpoint_refusal, send_refusal, deliver_refusal, lose_refusal, line_refusal, recover_refusal}
 use Rattle.whole_runs.specs.Outcomes.{written, checkpoint_outcome, send_outcome, deliver_outcome, lose_outcome, line_outcome, recover_outcome, checkpoint_report, send_report, deliver_report, lose_report, line_report, recover_report}
@@ -23,8 +23,8 @@ use Rattle.whole_runs.proofs.{whole.Agreement.live_is, whole.Refused.forcing_of,
 use Rattle.histories.proofs.Run as ideal
 
 -- A refused call reports no value and no deletion, its lent lists keep every entry, and no entry rose.
-pub refused_reply : (s : Run) (c : Call) (x : Refusal) → refusal s c ≡ some x
-    → ((call s c).reply.report.value ≡ none) × ((call s c).reply.report.deletions ≡ 0) × ((call s c).reply.deleted ≡ lent_deletions c) × ((call s c).reply.line ≡ lent_line c)
+pub refused_reply : (s : Run) (c : Call) (x : Refusal) → refusal s c ≡ Some x
+    → ((call s c).reply.report.value ≡ None) × ((call s c).reply.report.deletions ≡ 0) × ((call s c).reply.deleted ≡ lent_deletions c) × ((call s c).reply.line ≡ lent_line c)
     × ((call s c).reply.rose ≡ 0)
 unfolding refusal call answered checkpoint_outcome send_outcome deliver_outcome lose_outcome line_outcome recover_outcome earliest_outcome checkpoint_report send_report deliver_report lose_report line_report recover_report lent_deletions lent_line
 refused_reply s (checkpoint i deleted) x e = (rw e, rw e, rw e, rw e, rw e)
@@ -53,23 +53,23 @@ module _ (h : Surviving) (r : Ideal) (v : Inv r) (fit : Limits r) (memory : Memo
   own_entry : (p : ℕ) → r.vector p (r.own p) p ≡ r.own p
   own_entry p = v.self p (r.own p) (omega arith)
 
-  module _ (i : ℕ) (deleted : List ℕ) (e : checkpoint_refusal (state_of r) i deleted ≡ none) where
-    checkpoint_value : (call (state_of r) (checkpoint i deleted)).reply.report.value ≡ some (r.own i)
+  module _ (i : ℕ) (deleted : List ℕ) (e : checkpoint_refusal (state_of r) i deleted ≡ None) where
+    checkpoint_value : (call (state_of r) (checkpoint i deleted)).reply.report.value ≡ Some (r.own i)
     unfolding call answered checkpoint_outcome checkpoint_report
-    checkpoint_value = rw e (ap some (checkpoint_index r i few (checkpoint_run r v fit i deleted e).0 (own_entry i)))
+    checkpoint_value = rw e (ap Some (checkpoint_index r i few (checkpoint_run r v fit i deleted e).0 (own_entry i)))
 
-  module _ (i j : ℕ) (e : send_refusal (state_of r) i j ≡ none) where
-    send_value : (call (state_of r) (send i j)).reply.report.value ≡ some (r.last + 1)
+  module _ (i j : ℕ) (e : send_refusal (state_of r) i j ≡ None) where
+    send_value : (call (state_of r) (send i j)).reply.report.value ≡ Some (r.last + 1)
     unfolding call answered send_outcome send_report
-    send_value = rw e (ap (λ (k : ℕ). some (k + 1)) (last_is_lem r))
+    send_value = rw e (ap (λ (k : ℕ). Some (k + 1)) (last_is_lem r))
 
-  module _ (m : ℕ) (e : lose_refusal (state_of r) m ≡ none) where
-    lose_value : (call (state_of r) (lose m)).reply.report.value ≡ none
+  module _ (m : ℕ) (e : lose_refusal (state_of r) m ≡ None) where
+    lose_value : (call (state_of r) (lose m)).reply.report.value ≡ None
     unfolding call answered lose_outcome lose_report
     lose_value = rw e
 
-  module _ (F : ℕ) (lent : List ℕ) (e : line_refusal (state_of r) F lent ≡ none) where
-    line_value : (call (state_of r) (line F lent)).reply.report.value ≡ none
+  module _ (F : ℕ) (lent : List ℕ) (e : line_refusal (state_of r) F lent ≡ None) where
+    line_value : (call (state_of r) (line F lent)).reply.report.value ≡ None
     unfolding call answered line_outcome line_report
     line_value = rw e
 
@@ -77,8 +77,8 @@ module _ (h : Surviving) (r : Ideal) (v : Inv r) (fit : Limits r) (memory : Memo
     unfolding call answered line_outcome
     line_written = rw e (ap (λ (l : List ℕ). written lent l) (line_is r v few F))
 
-  module _ (l : List Named) (lent : List ℕ) (e : earliest_refusal (state_of r) l lent ≡ none) where
-    earliest_value : (call (state_of r) (earliest l lent)).reply.report.value ≡ none
+  module _ (l : List Named) (lent : List ℕ) (e : earliest_refusal (state_of r) l lent ≡ None) where
+    earliest_value : (call (state_of r) (earliest l lent)).reply.report.value ≡ None
     unfolding call answered earliest_outcome line_report
     earliest_value = rw e
 
@@ -89,8 +89,8 @@ module _ (h : Surviving) (r : Ideal) (v : Inv r) (fit : Limits r) (memory : Memo
     pub earliest_room : r.n ≤ length lent
     earliest_room = rw (count_is_lem r) at (earliest_out (state_of r) l lent e).room
 
-  module _ (F : ℕ) (deleted lent : List ℕ) (e : recover_refusal (state_of r) F deleted lent ≡ none) where
-    recover_value : (call (state_of r) (recover F deleted lent)).reply.report.value ≡ some (rolled_back_count (state_of r) F)
+  module _ (F : ℕ) (deleted lent : List ℕ) (e : recover_refusal (state_of r) F deleted lent ≡ None) where
+    recover_value : (call (state_of r) (recover F deleted lent)).reply.report.value ≡ Some (rolled_back_count (state_of r) F)
     unfolding call answered recover_outcome recover_report
     recover_value = rw e
 
@@ -107,28 +107,28 @@ module _ (h : Surviving) (r : Ideal) (v : Inv r) (fit : Limits r) (memory : Memo
     unfolding rolled_back_count
     recover_count = ap (λ (c : ℕ). count_below c (rolled_back (state_of r) F)) (count_is_lem r) ∙ count_same r.n _ _ rolled_written
 
-  deliver_value : (m : ℕ) (deleted : List ℕ) → deliver_refusal (state_of r) m deleted ≡ none
+  deliver_value : (m : ℕ) (deleted : List ℕ) → deliver_refusal (state_of r) m deleted ≡ None
       → (call (state_of r) (deliver m deleted)).reply.report.value ≡ value_of r.n h (forces r m) (deliver m deleted) (call (state_of r) (deliver m deleted)).reply.line
   unfolding value_of
   deliver_value m deleted e =
       let hi : r.receiver m < r.n = (underway_proper r v m (deliver_run r v fit m deleted e).0).to in
       rw (live_is h r v g (h.receiver m), g.receiver) (by_bool (forces r m)
-      (λ q. rw q (value_forced r.n h r v fit memory refl g m deleted e q ∙ ap some (deliver_index r m few hi (own_entry (r.receiver m)))))
+      (λ q. rw q (value_forced r.n h r v fit memory refl g m deleted e q ∙ ap Some (deliver_index r m few hi (own_entry (r.receiver m)))))
       (λ q. rw q (value_plain r.n h r v fit memory refl g m deleted e q)))
 
   -- The set of entries that rose at an accepted delivery.
-  pub deliver_rose : (m : ℕ) (deleted : List ℕ) → deliver_refusal (state_of r) m deleted ≡ none → (call (state_of r) (deliver m deleted)).reply.rose ≡ deliver_risen (state_of r) (message_of r m)
+  pub deliver_rose : (m : ℕ) (deleted : List ℕ) → deliver_refusal (state_of r) m deleted ≡ None → (call (state_of r) (deliver m deleted)).reply.rose ≡ deliver_risen (state_of r) (message_of r m)
   unfolding call answered deliver_outcome
   deliver_rose m deleted e = rw (e, (deliver_run r v fit m deleted e).1)
 
   -- The value of an accepted call.
-  pub value_right : (c : Call) → refusal (state_of r) c ≡ none → (call (state_of r) c).reply.report.value ≡ value_of r.n h (forcing_of r c) c (call (state_of r) c).reply.line
+  pub value_right : (c : Call) → refusal (state_of r) c ≡ None → (call (state_of r) c).reply.report.value ≡ value_of r.n h (forcing_of r c) c (call (state_of r) c).reply.line
   unfolding refusal forcing_of value_of
   value_right (checkpoint i deleted) e = rw (live_is h r v g i) (checkpoint_value i deleted e)
   value_right (send i j) e = rw g.sends (send_value i j e)
   value_right (deliver m deleted) e = deliver_value m deleted e
   value_right (lose m) e = lose_value m e
-  value_right (recover F deleted lent) e = recover_value F deleted lent e ∙ ap some (recover_count F deleted lent e
+  value_right (recover F deleted lent) e = recover_value F deleted lent e ∙ ap Some (recover_count F deleted lent e
       ∙ count_same r.n _ _ (λ p hp. rw (live_is h r v g p)))
   value_right (line F lent) e = line_value F lent e
   value_right (earliest l lent) e = earliest_value l lent e
@@ -142,7 +142,7 @@ module _ (h : Surviving) (r : Ideal) (v : Inv r) (fit : Limits r) (memory : Memo
       e ∙ written_front lent (table r.n w) (omega arith) ∙ ap (λ (k : List ℕ). at_front k lent) (sym same)
 
   -- The line list of an accepted call.
-  pub line_list_right : (c : Call) → refusal (state_of r) c ≡ none → (call (state_of r) c).reply.line ≡ at_front (indexes_of r.n c (call (state_of r) c).reply.line) (lent_line c)
+  pub line_list_right : (c : Call) → refusal (state_of r) c ≡ None → (call (state_of r) c).reply.line ≡ at_front (indexes_of r.n c (call (state_of r) c).reply.line) (lent_line c)
   unfolding refusal indexes_of lent_line call answered checkpoint_outcome send_outcome deliver_outcome lose_outcome
   line_list_right (checkpoint i deleted) e = rw e
   line_list_right (send i j) e = rw e

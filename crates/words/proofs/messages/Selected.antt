@@ -1,7 +1,7 @@
 -- The used ones of two tables of messages agree; and which of them has a number.
 -- Assumes nothing.
 use Rattle.std.specs.Prelude.{◌≡◌, ◌&&◌, ◌∷◌, ◌++◌, ◌+◌, ◌≤◌, ◌<◌}
-use Rattle.laws.specs.Basics.{refl, sym, ◌∙◌, ap, Bool, true, false, List, [], append-nil, Option, none, some, ℕ, zero, suc, arith, eqb, ne_eqb, eqb-true, by_bool}
+use Rattle.laws.specs.Basics.{refl, sym, ◌∙◌, ap, Bool, true, false, List, [], append-nil, Option, None, Some, ℕ, zero, suc, arith, eqb, ne_eqb, eqb-true, by_bool}
 use Rattle.laws.specs.{Lists.select, Lists.last_of, Lists.table, Select.select_append, Select.select_select, Select.last_of_snoc}
 use Rattle.model.specs.declared.Message.{Message}
 use Rattle.words.specs.{Layout.message_in, Layout.is_message, messages.Places.place_below, messages.Places.end_below}
@@ -34,8 +34,8 @@ module _ {A : Type 0} (t : A → Bool) (n : ℕ) (f : ℕ → A) where
 
 -- The message in a place that was found.
 unfoldable pub message_at : List ℕ → ℕ → Option Message
-message_at w zero = none
-message_at w (suc k) = some (message_in w k)
+message_at w zero = None
+message_at w (suc k) = Some (message_in w k)
 
 -- A message that has a number other than 0 is one.
 pub is_one : (x : Message) (m : ℕ) → (m ≡ 0 → ⊥) → x.number ≡ m → is_message x ≡ true

@@ -1,6 +1,6 @@
 -- `words::pin_of` meets its contract. Assumes nothing.
 use Rattle.laws.specs.Basics.{sym, ◌∙◌, ap, arith, rules}
-use Rattle.model.specs.declared.Pin.TheVariants.{At}
+use Rattle.std.specs.Prelude.{Some}
 use Rattle.words.specs.Layout.{pin_of_def}
 use Rattle.words.proofs.{Reading.pin_some}
 use Rattle.words.proofs.pin_of.Goals as goal
@@ -12,4 +12,4 @@ returns-then-x-eq0 c =
 
 pub returns-else-x-eq0 : goal.returns-else-x-eq0
 returns-else-x-eq0 c =
-    ap At c.index_of.ensures ∙ sym (pin_some c.args.x (omega arith))
+    ap Some c.index_of.ensures ∙ sym (pin_some c.args.x (omega arith))

@@ -1,11 +1,10 @@
 -- The messages under way in their places of the words: where one is, one taken out, one put after the others, the used places closed up.
 -- Assumes nothing.
-use Rattle.std.specs.Prelude.{◌∷◌, ◌++◌, ◌+◌, ◌-◌, ◌/◌, ◌%◌}
+use Rattle.std.specs.Prelude.{◌∷◌, ◌++◌, ◌+◌, ◌-◌, ◌/◌, ◌%◌, Option, None, Some}
 use Rattle.laws.specs.Basics.{List, [], ℕ, zero, suc, eqb, pick}
 use Rattle.std.specs.Int.Bits.{bit_or}
 use Rattle.model.specs.{declared.Message.Message, Words.most_under_way}
 use Rattle.words.specs.Layout.{word, end_of, low_at, high_at, sender_at_of, receiver_at_of, carried_at, message_in, is_message}
-use Rattle.words.specs.declared.{messages.Found.Found, messages.Found.TheVariants.Nothing, messages.Found.TheVariants.At}
 use Rattle.words.specs.Puts.{Put, puts, one, vector_put, zero_put}
 
 -- The place of message m among the first ones, and one more; 0 where it is in none of them.
@@ -23,9 +22,9 @@ lows_below w x zero = 0
 lows_below w x (suc k) = bit_or (lows_below w x k) (pick (eqb (word w (low_at k)) x) (suc k) 0)
 
 -- The place of a message that was looked up.
-unfoldable pub found_at : ℕ → Found
-found_at zero = Nothing
-found_at (suc k) = At k
+unfoldable pub found_at : ℕ → Option ℕ
+found_at zero = None
+found_at (suc k) = Some k
 
 -- One past the last used place among the first ones.
 unfoldable pub end_below : List ℕ → ℕ → ℕ

@@ -15,8 +15,7 @@ pub fn zero_vector() -> [Interval; PROCESSES]
 pub fn no_pins() -> [Pin; PROCESSES]
     ensures { result ≡ no_pins_of }
 {
-    let none = Pin::Nothing;
-    [none; PROCESSES]
+    [None; PROCESSES]
 }
 
 // What an unused place of a row of kept checkpoints holds.

@@ -1,11 +1,11 @@
 -- The pairs of a list that was copied: the call says the same of both.
 -- Assumes nothing.
-use Rattle.std.specs.Prelude.{◌≡◌, ◌&&◌, ◌||◌, ◌⊎◌, ◌+◌, ◌*◌, ◌/◌, ◌%◌, ◌≤◌, ◌<◌}
-use Rattle.laws.specs.Basics.{refl, sym, ◌∙◌, ap, Bool, true, false, List, [], some, inl, inr, ℕ, arith, eqb, ltb, leb, length, get_or, take, set, replicate, length-set, get_or-set_same, get_or-set_other, length-take-le, ne_eqb, lt-ltb, ltb-false, le-leb, lt-leb, leb-false, pick, by_bool, by_eq}
+use Rattle.std.specs.Prelude.{◌≡◌, ◌&&◌, ◌||◌, ◌⊎◌, ◌+◌, ◌*◌, ◌/◌, ◌%◌, ◌≤◌, ◌<◌, Err}
+use Rattle.laws.specs.Basics.{refl, sym, ◌∙◌, ap, Bool, true, false, List, [], Some, inl, inr, ℕ, arith, eqb, ltb, leb, length, get_or, take, set, replicate, length-set, get_or-set_same, get_or-set_other, length-take-le, ne_eqb, lt-ltb, ltb-false, le-leb, lt-leb, leb-false, pick, by_bool, by_eq}
 use lib.Seq.{get_or-take}
 use Rattle.laws.specs.{Lists.table, Rows.by_lt, Rows.some_at, Loops.either, Search.any_below, Search.any_in, Search.any_out, Truth.never_both}
 use Rattle.laws.specs.Tables.{length_table, get_d_table, table_same, table_is, table_replicate}
-use Rattle.model.specs.declared.{Named.Named, Run.Run, Refusal.Refusal, LineAnswer.TheVariants.Refused}
+use Rattle.model.specs.declared.{Named.Named, Run.Run, Refusal.Refusal}
 use Rattle.model.specs.{laws.Sound.sound_state}
 use Rattle.whole_runs.specs.{Earliest.some_absent, Earliest.unfit, Earliest.earliest_refusal, Earliest.earliest_outcome}
 use Rattle.words_line.specs.{Through.pair_count_of, Through.process_of, Through.named_at, Through.named_in, earliest.Pairs.SameLine}
@@ -48,8 +48,8 @@ exact l r long few at =
     ∙ sym (table_is no_named l (length l) (λ k. get_or l k no_named) refl (λ i lt. refl))
 
 -- Lists that are refused by the same number before 19.
-outcome_refused : (s : Run) (l : List Named) (line : List ℕ) (r : Refusal) → earliest_refusal s l line ≡ some r
-    → earliest_outcome s l line ≡ record { run = s; answer = Refused r; rose = 0; deleted = []; line = line }
+outcome_refused : (s : Run) (l : List Named) (line : List ℕ) (r : Refusal) → earliest_refusal s l line ≡ Some r
+    → earliest_outcome s l line ≡ record { run = s; answer = Err r; rose = 0; deleted = []; line = line }
 unfolding earliest_outcome
 outcome_refused s l line r e = rw e
 

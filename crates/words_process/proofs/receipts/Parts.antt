@@ -4,7 +4,8 @@ use Rattle.std.specs.Prelude.{◌≡◌, ◌<◌}
 use Rattle.laws.specs.Basics.{sym, ◌∙◌, ap, Bool, true, false, List, [], ℕ, length, get_or, set}
 use lib.Seq.{set-get_or}
 use Rattle.laws.specs.Lists.{placed}
-use Rattle.model.specs.declared.{Interval.Interval, Pin.Pin, Checkpoint.Checkpoint, Run.Run}
+use Rattle.model.specs.Shapes.{Pin}
+use Rattle.model.specs.declared.{Interval.Interval, Checkpoint.Checkpoint, Run.Run}
 use Rattle.model.specs.{Words.most_processes, Words.no_checkpoint, Words.process, Words.with_process, Sound.sound}
 use Rattle.words_process.specs.receipts.Sized.{Sized}
 use Rattle.words_process.proofs.receipts.Filled.{row_filled, row_many}

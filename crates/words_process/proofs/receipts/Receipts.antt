@@ -1,10 +1,11 @@
 -- A receipt is what a checkpoint and a delivery do to the part of their process: the checkpoint is stored if there is one, then the carried vector is taken in,
 -- then what no pin names is deleted. Collecting before storing, as the functions do, leaves the same.
 -- Assumes nothing.
-use Rattle.std.specs.Prelude.{◌≡◌, ◌<◌}
+use Rattle.std.specs.Prelude.{◌≡◌, ◌<◌, None, Some}
 use Rattle.laws.specs.Basics.{refl, ◌∙◌, ap, Bool, true, false, not, List, ℕ, arith, length, get_or, set, pick}
 use Rattle.laws.specs.Lists.{select, or_else, last_of}
-use Rattle.model.specs.declared.{Interval.Interval, Pin.Pin, Pin.TheVariants.Nothing, Pin.TheVariants.At, Checkpoint.Checkpoint}
+use Rattle.model.specs.Shapes.{Pin}
+use Rattle.model.specs.declared.{Interval.Interval, Checkpoint.Checkpoint}
 use Rattle.model.specs.{Words.entry, Words.live_index_of, Words.is_pinned, Words.no_checkpoint, Words.Process, Sound.ascending}
 use Rattle.model.specs.Steps.{settled, gone, storing, checkpointed, taken_in}
 use Rattle.words_process.specs.receipts.Receipt.{vector_first, pins_first, vector_then, pins_then, kept_then_of}
@@ -19,9 +20,9 @@ module _ (cause i : ℕ) (carried : List Interval) (P : Process) where
 
   module _ (in_row : i < length P.pins) (row : i < 16) where
     -- the own pin names the stored checkpoint
-    own_pin : get_or (pins_after true) i Nothing ≡ At (live_index_of (entry P.vector i))
+    own_pin : get_or (pins_after true) i None ≡ Some (live_index_of (entry P.vector i))
     unfolding pins_then pins_first
-    own_pin = taken_own i (vector_first true i P.vector) carried (set P.pins i (At (live_index_of (entry P.vector i)))) row ∙ moved_own_lem P.pins i (live_index_of (entry P.vector i)) in_row
+    own_pin = taken_own i (vector_first true i P.vector) carried (set P.pins i (Some (live_index_of (entry P.vector i)))) row ∙ moved_own_lem P.pins i (live_index_of (entry P.vector i)) in_row
 
     there : i < length (pins_after true)
     unfolding pins_then

@@ -1,9 +1,10 @@
 -- Rows that nothing carried is newer than: taking the carried vector in changes no entry and moves no pin, so no checkpoint of a sound state is deleted.
 -- Assumes nothing.
-use Rattle.std.specs.Prelude.{◌≡◌, ◌<◌}
+use Rattle.std.specs.Prelude.{◌≡◌, ◌<◌, None}
 use Rattle.laws.specs.Basics.{sym, ap, Bool, true, false, List, [], ℕ, length, get_or, pick}
 use Rattle.laws.specs.{Search.any_none, Select.all_chosen, Select.none_chosen, Tables.table_is, Tests.every}
-use Rattle.model.specs.declared.{Interval.Interval, Pin.Pin, Pin.TheVariants.Nothing, Checkpoint.Checkpoint, Run.Run}
+use Rattle.model.specs.Shapes.{Pin}
+use Rattle.model.specs.declared.{Interval.Interval, Checkpoint.Checkpoint, Run.Run}
 use Rattle.model.specs.{Words.entry, Words.below, Words.is_pinned, Words.Process, Words.process, Sound.sound, laws.Sound.sound_state}
 use Rattle.model.specs.Steps.{settled, gone, newer, taken_entry, taken_vector, taken_pin, taken_pins, taken_in}
 
@@ -23,8 +24,8 @@ module _ (own carried : List Interval) (still : NoneBelow own carried) where
 
   pub pins_still : (i : ℕ) (pins : List Pin) → length pins ≡ 16 → taken_pins i own carried pins ≡ pins
   unfolding taken_pins taken_pin
-  pins_still i pins long = sym (table_is Nothing pins 16 (taken_pin i own carried pins) long
-      (λ f lt. sym (ap (λ (b : Bool). pick b (get_or pins i Nothing) (get_or pins f Nothing)) (still f lt))))
+  pins_still i pins long = sym (table_is None pins 16 (taken_pin i own carried pins) long
+      (λ f lt. sym (ap (λ (b : Bool). pick b (get_or pins i None) (get_or pins f None)) (still f lt))))
 
 -- So a part that nothing carried is newer than is as it was.
 pub taken_still : (i : ℕ) (carried : List Interval) (P : Process) → length P.vector ≡ 16 → length P.pins ≡ 16 → NoneBelow P.vector carried

@@ -1,10 +1,11 @@
 -- A receipt on the rows of its process, in the order in which the functions compute it: `stores` says whether a checkpoint is stored first, as by a delivery that
 -- forces one.
 -- Assumes nothing.
-use Rattle.std.specs.Prelude.{◌∷◌, ◌++◌}
+use Rattle.std.specs.Prelude.{◌∷◌, ◌++◌, Some}
 use Rattle.laws.specs.Basics.{Bool, List, [], ℕ, set, pick}
 use Rattle.laws.specs.Lists.{select}
-use Rattle.model.specs.declared.{Interval.Interval, CheckpointIndex.CheckpointIndex, Pin.Pin, Pin.TheVariants.At, Checkpoint.Checkpoint}
+use Rattle.model.specs.Shapes.{Pin}
+use Rattle.model.specs.declared.{Interval.Interval, CheckpointIndex.CheckpointIndex, Checkpoint.Checkpoint}
 use Rattle.model.specs.{Words.is_pinned, Steps.advanced, Steps.taken_vector, Steps.taken_pins}
 
 -- the vector and the pins once the checkpoint is stored
@@ -12,7 +13,7 @@ unfoldable pub vector_first : Bool → ℕ → List Interval → List Interval
 vector_first stores i vector = pick stores (advanced i vector) vector
 
 unfoldable pub pins_first : Bool → ℕ → CheckpointIndex → List Pin → List Pin
-pins_first stores i index pins = pick stores (set pins i (At index)) pins
+pins_first stores i index pins = pick stores (set pins i (Some index)) pins
 
 -- the vector, the pins, and the kept checkpoints after the receipt: those that are still named, then the stored one after them
 unfoldable pub vector_then : Bool → ℕ → List Interval → List Interval → List Interval

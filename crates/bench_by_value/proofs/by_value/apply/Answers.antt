@@ -2,15 +2,13 @@
 use Rattle.laws.specs.Basics.{refl}
 use Rattle.model.specs.Refusals.{number}
 use Rattle.whole_runs.specs.Listing.{perform}
-use Rattle.trace.specs.Answers.{event_read}
 use Rattle.bench_by_value.proofs.by_value.apply.Goals as goal
 
-pub returns-in-Malformed : goal.returns-in-Malformed
-unfolding event_read perform number
-returns-in-Malformed c =
-    rw c.in-Malformed.is (record { run_value = refl; accepted_value = refl })
+pub returns-in-None : goal.returns-in-None
+unfolding perform number
+returns-in-None c =
+    rw c.in-None.is (record { run_value = refl; accepted_value = refl })
 
-pub returns-in-StandsFor : goal.returns-in-StandsFor
-unfolding event_read
-returns-in-StandsFor c =
-    rw c.in-StandsFor.is (record { run_value = c.event.ensures.run_value; accepted_value = c.event.ensures.accepted_value })
+pub returns-in-Some : goal.returns-in-Some
+returns-in-Some c =
+    rw c.in-Some.is (record { run_value = c.event.ensures.run_value; accepted_value = c.event.ensures.accepted_value })

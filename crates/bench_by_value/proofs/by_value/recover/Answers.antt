@@ -1,4 +1,5 @@
 -- `bench_by_value::by_value::recover` meets its contract. Assumes nothing.
+use Rattle.laws.specs.Basics.{◌∙◌}
 use Rattle.bench_by_value.proofs.{ByValue.recover_does, ByValue.set_too_large}
 use Rattle.bench_by_value.proofs.by_value.recover.Goals as goal
 
@@ -8,4 +9,4 @@ returns-then-failed-gt-LARGEST_SET c =
 
 pub returns : goal.returns
 returns c =
-    let g = c.recover-o.ensures in let z = recover_does _ _ _ c.args.failed _ _ c.requires.0 c.requires.1 g.run_value _ g.answer_value c.of_recover-summary.ensures in record { run_value = z.0; accepted_value = z.1 }
+    let g = c.recover-o.ensures in let z = recover_does _ _ c.args.failed _ _ c.requires.0 c.requires.1 g.run_value _ g.answer_value in record { run_value = z.0; accepted_value = c.is_ok-accepted.ensures.value ∙ z.1 }

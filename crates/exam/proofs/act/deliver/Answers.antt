@@ -1,6 +1,6 @@
 -- `exam::act::deliver` meets its contract. Assumes nothing.
 use Rattle.laws.specs.Basics.{◌∙◌, ap}
-use Rattle.model.specs.declared.DeliverAnswer.{DeliverAnswer}
+use Rattle.model.specs.Shapes.{DeliverAnswer}
 use Rattle.whole_runs.specs.Outcomes.{Report, deliver_report}
 use Rattle.listing.specs.Summarised.{report_in}
 use Rattle.exam.proofs.act.deliver.Goals as goal
@@ -10,6 +10,6 @@ unfolding report_in
 returns c =
     let called = c.deliver-outcome.ensures in (
       called.run_value,
-      ap (λ (r : Report). r.refused) c.of_deliver-summary.ensures
+      c.number-refused.ensures ∙ ap (λ (r : Report). r.refused) c.from-summary.ensures
           ∙ ap (λ (a : DeliverAnswer). (deliver_report a).refused) called.answer_value,
     )

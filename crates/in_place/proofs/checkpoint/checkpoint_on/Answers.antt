@@ -32,16 +32,16 @@ own_of-own-requires c =
 
 pub checkpoint-gone-requires : goal.checkpoint-gone-requires
 checkpoint-gone-requires c =
-    let lt = c.if-n-i.false in (c.requires, lt, accepted_own c.args.w.now c.requires c.args.i lt (sym c.in-Accepted.is ∙ c.storing_admission-admission.ensures), ltb-false _ _ (sym c.are_deletions_short-short.ensures ∙ c.if-short.false))
+    let lt = c.if-n-i.false in (c.requires, lt, accepted_own c.args.w.now c.requires c.args.i lt (sym c.in-Ok.is ∙ c.storing_admission-admission.ensures), ltb-false _ _ (sym c.are_deletions_short-short.ensures ∙ c.if-short.false))
 
 pub live_index-requires : goal.live_index-requires
 live_index-requires c =
     let lt = c.if-n-i.false in omega (arith, (sound_part c.args.w.now c.requires c.args.i lt).own_some, ap (λ (x : Interval). x.0) c.own_of-own.ensures)
 
-pub returns-in-Refused : goal.returns-in-Refused
-returns-in-Refused c =
-    let lt = c.if-n-i.false in let z = not_stored c.args.w.now c.requires c.args.i c.args.deleted.now (sym c.are_deletions_short-short.ensures ∙ c.if-short.false) lt _ (sym c.in-Refused.is ∙ c.storing_admission-admission.ensures) in record { w_after = z.0; value = z.1.0; deleted_after = z.1.1.0; w_unchanged = z.1.1.1.0; leaves = z.1.1.1.1 }
+pub returns-in-Err : goal.returns-in-Err
+returns-in-Err c =
+    let lt = c.if-n-i.false in let z = not_stored c.args.w.now c.requires c.args.i c.args.deleted.now (sym c.are_deletions_short-short.ensures ∙ c.if-short.false) lt _ (sym c.in-Err.is ∙ c.storing_admission-admission.ensures) in record { w_after = z.0; value = z.1.0; deleted_after = z.1.1.0; w_unchanged = z.1.1.1.0; leaves = z.1.1.1.1 }
 
-pub returns-in-Accepted : goal.returns-in-Accepted
-returns-in-Accepted c =
-    let lt = c.if-n-i.false in let t = c.checkpoint-gone in let z = stored c.args.w.now c.requires c.args.i c.args.deleted.now (sym c.are_deletions_short-short.ensures ∙ c.if-short.false) lt (sym c.in-Accepted.is ∙ c.storing_admission-admission.ensures) _ _ _ _ t.ensures.moves t.ensures.deleted_after t.ensures.value (c.live_index.ensures ∙ ap (λ (x : Interval). live_index_of x) c.own_of-own.ensures) in record { w_after = z.0; value = z.1.0; deleted_after = z.1.1.0; w_unchanged = z.1.1.1.0; leaves = z.1.1.1.1 }
+pub returns-in-Ok : goal.returns-in-Ok
+returns-in-Ok c =
+    let lt = c.if-n-i.false in let t = c.checkpoint-gone in let z = stored c.args.w.now c.requires c.args.i c.args.deleted.now (sym c.are_deletions_short-short.ensures ∙ c.if-short.false) lt (sym c.in-Ok.is ∙ c.storing_admission-admission.ensures) _ _ _ _ t.ensures.moves t.ensures.deleted_after t.ensures.value (c.live_index.ensures ∙ ap (λ (x : Interval). live_index_of x) c.own_of-own.ensures) in record { w_after = z.0; value = z.1.0; deleted_after = z.1.1.0; w_unchanged = z.1.1.1.0; leaves = z.1.1.1.1 }

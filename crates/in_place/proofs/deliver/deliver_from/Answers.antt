@@ -89,18 +89,18 @@ take_from-requires c =
         refl,
         carried,
         ap (forces (process (run_of a.w.now) (word a.w.now (receiver_at_of a.k)))) carried ∙ forces_is,
-        sym c.in-Accepted.is ∙ c.forced_admission-admission.ensures,
+        sym c.in-Ok.is ∙ c.forced_admission-admission.ensures,
       );
     }
 
-pub returns-in-Refused : goal.returns-in-Refused
+pub returns-in-Err : goal.returns-in-Err
 unfolding message_in
-returns-in-Refused c =
+returns-in-Err c =
     let newer_is : let w = c.args.w.now in newer (vector_in w (part_at (word w (receiver_at_of c.args.k)))) (message_in w c.args.k).vector ≡ c.is_newer-newer.result = unfold message_in in sym (c.is_newer-newer.ensures ∙ (λ j. newer (c.vector_at-vector.ensures j) (c.vector_at-carried.ensures j))) in
     let forces_is : let w = c.args.w.now in forces (process (run_of w) (word w (receiver_at_of c.args.k))) (message_in w c.args.k).vector ≡ c.has_sent-forced.result = unfold message_in in let a = c.args in forces_marked a.w.now c.requires.0 a.deleted.now a.k c.requires.1 c.requires.2 (newer_is ∙ c.if-not-newer.false)
     ∙ sym c.has_sent-forced.ensures in
-    let a = c.args in rw c.refuse.ensures (let z = (not_taken a.w.now c.requires.0 a.deleted.now a.k c.requires.1 c.requires.2 c.has_sent-forced.result forces_is _ (sym c.in-Refused.is ∙ c.forced_admission-admission.ensures)) in record { w_after = z.0; answer_value = z.1.0; rose_value = z.1.1.0; deleted_after = z.1.1.1.0; w_unchanged = z.1.1.1.1.0; leaves = z.1.1.1.1.1 })
+    let a = c.args in rw c.refuse.ensures (let z = (not_taken a.w.now c.requires.0 a.deleted.now a.k c.requires.1 c.requires.2 c.has_sent-forced.result forces_is _ (sym c.in-Err.is ∙ c.forced_admission-admission.ensures)) in record { w_after = z.0; answer_value = z.1.0; rose_value = z.1.1.0; deleted_after = z.1.1.1.0; w_unchanged = z.1.1.1.1.0; leaves = z.1.1.1.1.1 })
 
-pub returns-in-Accepted : goal.returns-in-Accepted
-returns-in-Accepted c =
+pub returns-in-Ok : goal.returns-in-Ok
+returns-in-Ok c =
     record { w_after = c.take_from.ensures.w_after; answer_value = c.take_from.ensures.answer_value; rose_value = c.take_from.ensures.rose_value; deleted_after = c.take_from.ensures.deleted_after; w_unchanged = c.take_from.ensures.w_unchanged; leaves = c.take_from.ensures.leaves }

@@ -29,14 +29,14 @@ place_of-found-requires c =
 pub deliver_from-requires : goal.deliver_from-requires
 deliver_from-requires c =
     let long : let a = c.args in ltb (length a.deleted.now) (2 * count_of a.w.now * count_of a.w.now) ≡ false = sym c.are_deletions_short-short.ensures ∙ c.if-short.false in
-    let e = there (place_of c.args.w.now c.args.m) _ (sym c.in-At.is ∙ c.place_of-found.ensures) in (c.requires, ap (place_of c.args.w.now) (its_number c.args.w.now c.requires c.args.m _ e) ∙ e, ltb-false _ _ long)
+    let e = there (place_of c.args.w.now c.args.m) _ (sym c.in-Some.is ∙ c.place_of-found.ensures) in (c.requires, ap (place_of c.args.w.now) (its_number c.args.w.now c.requires c.args.m _ e) ∙ e, ltb-false _ _ long)
 
-pub returns-in-Nothing : goal.returns-in-Nothing
-returns-in-Nothing c =
+pub returns-in-None : goal.returns-in-None
+returns-in-None c =
     let long : let a = c.args in ltb (length a.deleted.now) (2 * count_of a.w.now * count_of a.w.now) ≡ false = sym c.are_deletions_short-short.ensures ∙ c.if-short.false in
-    rw c.refuse-in-Nothing.ensures (let z = (not_under_way c.args.w.now c.requires c.args.deleted.now c.args.m long
-    (nothing (place_of c.args.w.now c.args.m) (sym c.in-Nothing.is ∙ c.place_of-found.ensures))) in record { w_after = z.0; answer_value = z.1.0; rose_value = z.1.1.0; deleted_after = z.1.1.1.0; w_unchanged = z.1.1.1.1.0; leaves = z.1.1.1.1.1 })
+    rw c.refuse-in-None.ensures (let z = (not_under_way c.args.w.now c.requires c.args.deleted.now c.args.m long
+    (nothing (place_of c.args.w.now c.args.m) (sym c.in-None.is ∙ c.place_of-found.ensures))) in record { w_after = z.0; answer_value = z.1.0; rose_value = z.1.1.0; deleted_after = z.1.1.1.0; w_unchanged = z.1.1.1.1.0; leaves = z.1.1.1.1.1 })
 
-pub returns-in-At : goal.returns-in-At
-returns-in-At c =
-    let e = there (place_of c.args.w.now c.args.m) _ (sym c.in-At.is ∙ c.place_of-found.ensures) in let z = renumbered c.args.w.now c.args.deleted.now c.args.m _ (its_number c.args.w.now c.requires c.args.m _ e) _ _ _ _ (c.deliver_from.ensures.w_after, (c.deliver_from.ensures.answer_value, (c.deliver_from.ensures.rose_value, (c.deliver_from.ensures.deleted_after, (c.deliver_from.ensures.w_unchanged, c.deliver_from.ensures.leaves))))) in record { w_after = z.0; answer_value = z.1.0; rose_value = z.1.1.0; deleted_after = z.1.1.1.0; w_unchanged = z.1.1.1.1.0; leaves = z.1.1.1.1.1 }
+pub returns-in-Some : goal.returns-in-Some
+returns-in-Some c =
+    let e = there (place_of c.args.w.now c.args.m) _ (sym c.in-Some.is ∙ c.place_of-found.ensures) in let z = renumbered c.args.w.now c.args.deleted.now c.args.m _ (its_number c.args.w.now c.requires c.args.m _ e) _ _ _ _ (c.deliver_from.ensures.w_after, (c.deliver_from.ensures.answer_value, (c.deliver_from.ensures.rose_value, (c.deliver_from.ensures.deleted_after, (c.deliver_from.ensures.w_unchanged, c.deliver_from.ensures.leaves))))) in record { w_after = z.0; answer_value = z.1.0; rose_value = z.1.1.0; deleted_after = z.1.1.1.0; w_unchanged = z.1.1.1.1.0; leaves = z.1.1.1.1.1 }

@@ -1,7 +1,7 @@
 -- `in_place::deliver::take_from` meets its contract. Assumes nothing.
-use Rattle.std.specs.Prelude.{◌<◌}
+use Rattle.std.specs.Prelude.{◌<◌, None, Ok, Some}
 use Rattle.laws.specs.Basics.{◌∙◌, ap, arith, rules, pick}
-use Rattle.model.specs.{declared.Interval.Interval, declared.DeliverAnswer.TheVariants.Received, declared.DeliverAnswer.TheVariants.Forced, Words.live_index_of}
+use Rattle.model.specs.{declared.Interval.Interval, Words.live_index_of}
 use Rattle.words.specs.Layout.{count_of, message_in}
 use Rattle.words.proofs.ViewSound.{sound_words, sound_part}
 use Rattle.in_place.proofs.{Delivering.receiver_in, Receiving.taken_at, Receiving.own_early, Receiving.out_there}
@@ -30,5 +30,5 @@ pub returns : goal.returns
 returns c =
     let p = c.requires.w_value in let q = c.requires.i_value in let g = c.receive-received.ensures in let own = c.own_of-own.ensures in let z = taken_at c.args.w.now p.0 c.args.deleted.now c.args.k p.1 p.2 c.args.i q.0 c.args.carried q.1 c.args.forced q.2 q.3 _ _ _ _ _
     g.moves c.take_out.ensures
-    (c.answer_of-answer.ensures ∙ (λ j. pick c.args.forced (Forced (live_index_of (own j)) (g.gone_value j)) (Received (g.gone_value j))))
+    (c.answer_of-answer.ensures ∙ (λ j. pick c.args.forced (Ok (record { forced = Some (live_index_of (own j)); deleted = g.gone_value j })) (Ok (record { forced = None; deleted = g.gone_value j }))))
     g.rose_value g.deleted_after in record { w_after = z.0; answer_value = z.1.0; rose_value = z.1.1.0; deleted_after = z.1.1.1.0; w_unchanged = z.1.1.1.1.0; leaves = z.1.1.1.1.1 }

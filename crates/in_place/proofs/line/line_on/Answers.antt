@@ -1,7 +1,7 @@
 -- `in_place::line::line_on` meets its contract: the list's length, the verdict on the failed set, then the line. Assumes nothing.
-use Rattle.std.specs.Prelude.{◌≡◌, ◌≤◌}
+use Rattle.std.specs.Prelude.{◌≡◌, ◌≤◌, Ok}
 use Rattle.laws.specs.Basics.{refl, sym, ◌∙◌, false, arith, ltb, length, rules, ltb-false}
-use Rattle.admissions.specs.declared.Admission.TheVariants.{Accepted}
+use Prim.{tt}
 use Rattle.words.specs.Layout.{count_of}
 use Rattle.words.proofs.ViewSound.{sound_words}
 use Rattle.in_place.proofs.{Lining.refused, Lining.line_short, Lining.line_refused, Lining.line_passed}
@@ -25,14 +25,14 @@ line_within-requires c =
     let long : let a = c.args in ltb (length a.line.now) (count_of a.w.now) ≡ false = sym c.is_line_short-short.ensures ∙ c.if-short.false in
     (c.requires, refl, ltb-false (length c.args.line.now) (count_of c.args.w.now) long)
 
-pub returns-in-Refused : goal.returns-in-Refused
+pub returns-in-Err : goal.returns-in-Err
 unfolding refused
-returns-in-Refused c =
+returns-in-Err c =
     let long : let a = c.args in ltb (length a.line.now) (count_of a.w.now) ≡ false = sym c.is_line_short-short.ensures ∙ c.if-short.false in
-    rw (line_refused c.args.w.now c.requires c.args.failed c.args.line.now long _ (sym c.recovery_admission-admission.ensures ∙ c.in-Refused.is)) (record { w_value = refl; value = refl; line_after = refl })
+    rw (line_refused c.args.w.now c.requires c.args.failed c.args.line.now long _ (sym c.recovery_admission-admission.ensures ∙ c.in-Err.is)) (record { w_value = refl; value = refl; line_after = refl })
 
-pub returns-in-Accepted : goal.returns-in-Accepted
-returns-in-Accepted c =
+pub returns-in-Ok : goal.returns-in-Ok
+returns-in-Ok c =
     let long : let a = c.args in ltb (length a.line.now) (count_of a.w.now) ≡ false = sym c.is_line_short-short.ensures ∙ c.if-short.false in
-    let accepted : c.recovery_admission-admission.result ≡ Accepted = search rules in
+    let accepted : c.recovery_admission-admission.result ≡ Ok tt = search rules in
     rw (line_passed c.args.w.now c.requires c.args.failed c.args.line.now long (sym c.recovery_admission-admission.ensures ∙ accepted)) (record { w_value = refl; value = c.line_within.ensures.value; line_after = c.line_within.ensures.line_after })

@@ -5,8 +5,8 @@ use Rattle.listing.proofs.answers.Fit.{checkpoint_fits}
 use Rattle.lemidrosy.proofs.Changing.{changed}
 use Rattle.lemidrosy.proofs.calls.lemidrosy_checkpoint.Goals as goal
 
-pub of_checkpoint-requires : goal.of_checkpoint-requires
-of_checkpoint-requires c =
+pub of-requires : goal.of-requires
+of-requires c =
     rw c.checkpoint-answer.ensures.value (checkpoint_fits _ _ _)
 
 pub shape_of-words : goal.shape_of-words
@@ -19,4 +19,4 @@ shape_of-deleted c =
 
 pub returns : goal.returns
 returns c =
-    let g = c.checkpoint-answer.ensures in record { fact = (c.of_checkpoint.ensures ∙ ap checkpoint_code g.value, c.checkpoint-answer.ensures.deleted_after, changed _ _ _ _ _ g.value g.w_after c.checkpoint-answer.ensures.w_unchanged c.checkpoint-answer.ensures.leaves); state_promise = c.checkpoint-answer.ensures.state_promise }
+    let g = c.checkpoint-answer.ensures in record { fact = (c.of.ensures ∙ ap checkpoint_code g.value, c.checkpoint-answer.ensures.deleted_after, changed _ _ _ _ _ g.value g.w_after c.checkpoint-answer.ensures.w_unchanged c.checkpoint-answer.ensures.leaves); state_promise = c.checkpoint-answer.ensures.state_promise }

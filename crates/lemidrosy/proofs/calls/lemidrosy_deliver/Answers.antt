@@ -5,10 +5,10 @@ use Rattle.listing.proofs.answers.Fit.{deliver_fits}
 use Rattle.lemidrosy.proofs.Changing.{changed}
 use Rattle.lemidrosy.proofs.calls.lemidrosy_deliver.Goals as goal
 
-pub of_deliver-requires : goal.of_deliver-requires
-of_deliver-requires c =
+pub of-requires : goal.of-requires
+of-requires c =
     rw c.deliver-delivered.ensures.answer_value (deliver_fits _ _ _)
 
 pub returns : goal.returns
 returns c =
-    let g = c.deliver-delivered.ensures in record { fact = (c.of_deliver.ensures ∙ (λ j. deliver_code (g.answer_value j) (g.rose_value j)), c.deliver-delivered.ensures.deleted_after, changed _ _ _ _ _ g.answer_value g.w_after c.deliver-delivered.ensures.w_unchanged c.deliver-delivered.ensures.leaves); state_promise = c.deliver-delivered.ensures.state_promise }
+    let g = c.deliver-delivered.ensures in record { fact = (c.of.ensures ∙ (λ j. deliver_code (g.answer_value j) (g.rose_value j)), c.deliver-delivered.ensures.deleted_after, changed _ _ _ _ _ g.answer_value g.w_after c.deliver-delivered.ensures.w_unchanged c.deliver-delivered.ensures.leaves); state_promise = c.deliver-delivered.ensures.state_promise }

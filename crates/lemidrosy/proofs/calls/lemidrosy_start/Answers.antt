@@ -4,8 +4,8 @@ use Rattle.listing.specs.answers.Codes.{start_code}
 use Rattle.lemidrosy.proofs.{Starting.start_fits}
 use Rattle.lemidrosy.proofs.calls.lemidrosy_start.Goals as goal
 
-pub of_start-requires : goal.of_start-requires
-of_start-requires c =
+pub of-requires : goal.of-requires
+of-requires c =
     rw c.start-answer.ensures.value (start_fits _ _ _)
 
 pub shape_of-words : goal.shape_of-words
@@ -14,4 +14,4 @@ shape_of-words c =
 
 pub returns : goal.returns
 returns c =
-    let g = c.start-answer.ensures in record { fact = (c.of_start.ensures ∙ ap start_code g.value, g.w_after, λ e. g.start_promise (g.value ∙ e)); words_after = g.w_after_2; clean = g.clean }
+    let g = c.start-answer.ensures in record { fact = (c.of.ensures ∙ ap start_code g.value, g.w_after, λ e. g.start_promise (g.value ∙ e)); words_after = g.w_after_2; clean = g.clean }

@@ -7,14 +7,14 @@ use Rattle.lemidrosy.proofs.console.of_list.Goals as goal
 pub counted-requires : goal.counted-requires
 unfolding list_report
 counted-requires c =
-    (rw c.in-Listed.is at c.requires).value _ refl
+    (rw c.in-Ok.is at c.requires).value _ refl
 
-pub returns-in-Refused : goal.returns-in-Refused
+pub returns-in-Err : goal.returns-in-Err
 unfolding list_report
-returns-in-Refused c =
-    rw c.in-Refused.is c.refused.ensures
+returns-in-Err c =
+    rw c.in-Err.is c.refused.ensures
 
-pub returns-in-Listed : goal.returns-in-Listed
+pub returns-in-Ok : goal.returns-in-Ok
 unfolding list_report
-returns-in-Listed c =
-    rw c.in-Listed.is c.counted.ensures
+returns-in-Ok c =
+    rw c.in-Ok.is c.counted.ensures

@@ -7,14 +7,14 @@ use Rattle.lemidrosy.proofs.programs.merge_code.Goals as goal
 pub counted-requires : goal.counted-requires
 unfolding merge_report
 counted-requires c =
-    (rw c.in-Merged.is at c.requires).value _ refl
+    (rw c.in-Ok.is at c.requires).value _ refl
 
-pub returns-in-Refused : goal.returns-in-Refused
+pub returns-in-Err : goal.returns-in-Err
 unfolding merge_report
-returns-in-Refused c =
-    rw c.in-Refused.is c.refused.ensures
+returns-in-Err c =
+    rw c.in-Err.is c.refused.ensures
 
-pub returns-in-Merged : goal.returns-in-Merged
+pub returns-in-Ok : goal.returns-in-Ok
 unfolding merge_report
-returns-in-Merged c =
-    rw c.in-Merged.is c.counted.ensures
+returns-in-Ok c =
+    rw c.in-Ok.is c.counted.ensures

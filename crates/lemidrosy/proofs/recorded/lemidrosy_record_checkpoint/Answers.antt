@@ -11,10 +11,10 @@ pub returns-then-place-eq0 : goal.returns-then-place-eq0
 returns-then-place-eq0 c =
     let a = c.args in let l = (checkpoint_by (run_of a.words.now) a.process a.deleted.now a.buffer.now a.place.now).without c.if-place-eq0.true in (checkpoint_three ∙ ap checkpoint_code l.answer, l.deleted, l.buffer, l.places, unchanged _ _ _ l.run)
 
-pub of_checkpoint-requires : goal.of_checkpoint-requires
-of_checkpoint-requires c =
+pub of-requires : goal.of-requires
+of-requires c =
     rw c.checkpoint-recorded.ensures.answer_value (checkpoint_recorded_fits _ _ _ _ _)
 
 pub returns : goal.returns
 returns c =
-    let a = c.args in let g = c.checkpoint-recorded.ensures in let l = (checkpoint_by (run_of a.words.now) a.process a.deleted.now a.buffer.now a.place.now).placed c.if-place-eq0.false in let answer = g.answer_value ∙ l.answer in (c.of_checkpoint.ensures ∙ ap checkpoint_code answer, g.deleted_after ∙ l.deleted, g.buffer_after ∙ l.buffer, ap (set a.place.now 0) g.place_value ∙ l.places, changed _ _ _ _ _ answer (g.w_after ∙ l.run) g.w_unchanged g.leaves)
+    let a = c.args in let g = c.checkpoint-recorded.ensures in let l = (checkpoint_by (run_of a.words.now) a.process a.deleted.now a.buffer.now a.place.now).placed c.if-place-eq0.false in let answer = g.answer_value ∙ l.answer in (c.of.ensures ∙ ap checkpoint_code answer, g.deleted_after ∙ l.deleted, g.buffer_after ∙ l.buffer, ap (set a.place.now 0) g.place_value ∙ l.places, changed _ _ _ _ _ answer (g.w_after ∙ l.run) g.w_unchanged g.leaves)

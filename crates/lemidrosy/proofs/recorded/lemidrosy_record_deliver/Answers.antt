@@ -11,10 +11,10 @@ pub returns-then-place-eq0 : goal.returns-then-place-eq0
 returns-then-place-eq0 c =
     let a = c.args in let l = (deliver_by (run_of a.words.now) a.message a.deleted.now a.buffer.now a.place.now).without c.if-place-eq0.true in (deliver_three ∙ (λ j. deliver_code (l.answer j) (l.rose j)), l.deleted, l.buffer, l.places, unchanged _ _ _ l.run)
 
-pub of_deliver-requires : goal.of_deliver-requires
-of_deliver-requires c =
+pub of-requires : goal.of-requires
+of-requires c =
     rw c.deliver-recorded.ensures.answer_value (deliver_recorded_fits _ _ _ _ _)
 
 pub returns : goal.returns
 returns c =
-    let a = c.args in let g = c.deliver-recorded.ensures in let l = (deliver_by (run_of a.words.now) a.message a.deleted.now a.buffer.now a.place.now).placed c.if-place-eq0.false in let answer = g.answer_value ∙ l.answer in let rose = g.rose_value ∙ l.rose in (c.of_deliver.ensures ∙ (λ j. deliver_code (answer j) (rose j)), g.deleted_after ∙ l.deleted, g.buffer_after ∙ l.buffer, ap (set a.place.now 0) g.place_value ∙ l.places, changed _ _ _ _ _ answer (g.w_after ∙ l.run) g.w_unchanged g.leaves)
+    let a = c.args in let g = c.deliver-recorded.ensures in let l = (deliver_by (run_of a.words.now) a.message a.deleted.now a.buffer.now a.place.now).placed c.if-place-eq0.false in let answer = g.answer_value ∙ l.answer in let rose = g.rose_value ∙ l.rose in (c.of.ensures ∙ (λ j. deliver_code (answer j) (rose j)), g.deleted_after ∙ l.deleted, g.buffer_after ∙ l.buffer, ap (set a.place.now 0) g.place_value ∙ l.places, changed _ _ _ _ _ answer (g.w_after ∙ l.run) g.w_unchanged g.leaves)

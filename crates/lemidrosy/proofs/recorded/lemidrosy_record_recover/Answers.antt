@@ -11,10 +11,10 @@ pub returns-then-place-eq0 : goal.returns-then-place-eq0
 returns-then-place-eq0 c =
     let a = c.args in let l = (recover_by (run_of a.words.now) a.failed a.deleted.now a.line.now a.buffer.now a.place.now).without c.if-place-eq0.true in (recover_three ∙ ap recover_code l.answer, l.deleted, l.line, l.buffer, l.places, unchanged _ _ _ l.run)
 
-pub of_recover-requires : goal.of_recover-requires
-of_recover-requires c =
+pub of-requires : goal.of-requires
+of-requires c =
     rw c.recover-recorded.ensures.answer_value (recover_recorded_fits _ _ _ _ _ _)
 
 pub returns : goal.returns
 returns c =
-    let a = c.args in let g = c.recover-recorded.ensures in let l = (recover_by (run_of a.words.now) a.failed a.deleted.now a.line.now a.buffer.now a.place.now).placed c.if-place-eq0.false in let answer = g.answer_value ∙ l.answer in (c.of_recover.ensures ∙ ap recover_code answer, g.deleted_after ∙ l.deleted, g.line_after ∙ l.line, g.buffer_after ∙ l.buffer, ap (set a.place.now 0) g.place_value ∙ l.places, changed _ _ _ _ _ answer (g.w_after ∙ l.run) g.w_unchanged g.leaves)
+    let a = c.args in let g = c.recover-recorded.ensures in let l = (recover_by (run_of a.words.now) a.failed a.deleted.now a.line.now a.buffer.now a.place.now).placed c.if-place-eq0.false in let answer = g.answer_value ∙ l.answer in (c.of.ensures ∙ ap recover_code answer, g.deleted_after ∙ l.deleted, g.line_after ∙ l.line, g.buffer_after ∙ l.buffer, ap (set a.place.now 0) g.place_value ∙ l.places, changed _ _ _ _ _ answer (g.w_after ∙ l.run) g.w_unchanged g.leaves)

@@ -23,23 +23,23 @@ fill-requires c =
 pub read-run-requires : goal.read-run-requires
 read-run-requires c =
     let whole : sound c.args.s ≡ true = let a = c.args in let d = a.deleted.now in accepted a.s _ c.fill.ensures (λ x. (deliver_outcome x a.m d).answer) _ (λ t e. (deliver_unsound t e a.m d).1.0) _ c.deliver-delivered.ensures.answer_value
-    (c.in_default.not-Refused _) in
+    (c.in_default.not-Err _) in
     let after : let a = c.args in run_of c.deliver-delivered.new.w ≡ (deliver_outcome a.s a.m a.deleted.now).run = let a = c.args in c.deliver-delivered.ensures.w_after ∙ ap (λ (x : Run). (deliver_outcome x a.m a.deleted.now).run) (c.fill.ensures.1 whole) in
     let a = c.args in small_readable _ (deliver_outcome a.s a.m a.deleted.now).run after
     (deliver_small a.s whole (sound_small a.s (sizes a.s _ c.well_formed.0) whole) a.m a.deleted.now)
 
-pub shape_of-deleted-in-Refused : goal.shape_of-deleted-in-Refused
-shape_of-deleted-in-Refused c =
+pub shape_of-deleted-in-Err : goal.shape_of-deleted-in-Err
+shape_of-deleted-in-Err c =
     c.deliver-delivered.auto.deleted
 
-pub returns-in-Refused : goal.returns-in-Refused
-returns-in-Refused c =
+pub returns-in-Err : goal.returns-in-Err
+returns-in-Err c =
     let said : let a = c.args in (c.deliver-delivered.result.answer ≡ (deliver_outcome a.s a.m a.deleted.now).answer) × (c.deliver-delivered.result.rose ≡ (deliver_outcome a.s a.m a.deleted.now).rose) × (c.deliver-delivered.new.deleted ≡ (deliver_outcome a.s a.m a.deleted.now).deleted) = let a = c.args in let d = a.deleted.now in let g = c.deliver-delivered.ensures in let from = c.fill.ensures in (
       g.answer_value ∙ says a.s _ from (λ x. (deliver_outcome x a.m d).answer) _ (λ t e. (deliver_unsound t e a.m d).1.0),
       g.rose_value ∙ says a.s _ from (λ x. (deliver_outcome x a.m d).rose) 0 (λ t e. (deliver_unsound t e a.m d).1.1.0),
       g.deleted_after ∙ says a.s _ from (λ x. (deliver_outcome x a.m d).deleted) d (λ t e. (deliver_unsound t e a.m d).1.1.1),
     ) in
-    let a = c.args in let d = a.deleted.now in let g = c.deliver-delivered.ensures in let run = stays a.s _ c.fill.ensures (λ x. (deliver_outcome x a.m d).run) (λ t e. (deliver_unsound t e a.m d).0) _ (g.w_unchanged _ c.in-Refused.is) g.w_after in record {
+    let a = c.args in let d = a.deleted.now in let g = c.deliver-delivered.ensures in let run = stays a.s _ c.fill.ensures (λ x. (deliver_outcome x a.m d).run) (λ t e. (deliver_unsound t e a.m d).0) _ (g.w_unchanged _ c.in-Err.is) g.w_after in record {
       run_value = run;
       answer_value = said.0;
       rose_value = said.1;
@@ -54,7 +54,7 @@ shape_of-deleted-in_default c =
 pub returns-in_default : goal.returns-in_default
 returns-in_default c =
     let whole : sound c.args.s ≡ true = let a = c.args in let d = a.deleted.now in accepted a.s _ c.fill.ensures (λ x. (deliver_outcome x a.m d).answer) _ (λ t e. (deliver_unsound t e a.m d).1.0) _ c.deliver-delivered.ensures.answer_value
-    (c.in_default.not-Refused _) in
+    (c.in_default.not-Err _) in
     let after : let a = c.args in run_of c.deliver-delivered.new.w ≡ (deliver_outcome a.s a.m a.deleted.now).run = let a = c.args in c.deliver-delivered.ensures.w_after ∙ ap (λ (x : Run). (deliver_outcome x a.m a.deleted.now).run) (c.fill.ensures.1 whole) in
     let said : let a = c.args in (c.deliver-delivered.result.answer ≡ (deliver_outcome a.s a.m a.deleted.now).answer) × (c.deliver-delivered.result.rose ≡ (deliver_outcome a.s a.m a.deleted.now).rose) × (c.deliver-delivered.new.deleted ≡ (deliver_outcome a.s a.m a.deleted.now).deleted) = let a = c.args in let d = a.deleted.now in let g = c.deliver-delivered.ensures in let from = c.fill.ensures in (
       g.answer_value ∙ says a.s _ from (λ x. (deliver_outcome x a.m d).answer) _ (λ t e. (deliver_unsound t e a.m d).1.0),

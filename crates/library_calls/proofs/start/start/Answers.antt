@@ -2,7 +2,7 @@
 -- Assumes nothing.
 use Rattle.laws.specs.Basics.{refl, ◌∙◌, ap, rules}
 use Rattle.whole_runs.specs.Outcomes.{Outcome}
-use Rattle.model.specs.declared.StartAnswer.{StartAnswer}
+use Rattle.model.specs.Shapes.{StartAnswer}
 use Rattle.whole_runs.proofs.WholeRuns.{start_promise}
 use Rattle.library_calls.proofs.{Beginning.start_readable, Beginning.started_so}
 use Rattle.library_calls.proofs.start.start.Goals as goal

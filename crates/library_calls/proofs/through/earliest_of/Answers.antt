@@ -3,7 +3,8 @@
 -- Assumes nothing.
 use Rattle.std.specs.Prelude.{◌≡◌, ◌-◌}
 use Rattle.laws.specs.Basics.{not, sym, ◌∙◌, ap, true, false, List, ℕ, arith, take, by_bool, rules}
-use Rattle.model.specs.{declared.LineAnswer.LineAnswer, declared.Named.Named, declared.Run.Run, Sound.sound}
+use Rattle.model.specs.Shapes.{LineAnswer}
+use Rattle.model.specs.{declared.Named.Named, declared.Run.Run, Sound.sound}
 use Rattle.words.specs.Layout.{run_of}
 use Rattle.whole_runs.specs.{Earliest.earliest_outcome, Outcomes.Outcome}
 use Rattle.whole_runs.proofs.Unsound.{earliest_unsound}

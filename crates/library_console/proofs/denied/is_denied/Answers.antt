@@ -5,12 +5,12 @@ use Rattle.theory_roles.specs.Console.{denied}
 use Rattle.library_console.specs.Asked.{denied_as}
 use Rattle.library_console.proofs.denied.is_denied.Goals as goal
 
-pub returns-in-Unknown : goal.returns-in-Unknown
+pub returns-in-None : goal.returns-in-None
 unfolding denied_as
-returns-in-Unknown c =
-    λ owned. rw (sym c.claim_of-claim.ensures, c.in-Unknown.is) refl
+returns-in-None c =
+    λ owned. rw (sym c.claim_of-claim.ensures, c.in-None.is) refl
 
-pub returns-in-As : goal.returns-in-As
+pub returns-in-Some : goal.returns-in-Some
 unfolding denied_as denied
-returns-in-As c =
-    λ owned. rw (sym c.claim_of-claim.ensures, c.in-As.is) (ap not c.may.ensures)
+returns-in-Some c =
+    λ owned. rw (sym c.claim_of-claim.ensures, c.in-Some.is) (ap not c.may.ensures)

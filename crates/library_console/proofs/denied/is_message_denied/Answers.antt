@@ -5,12 +5,12 @@ use Rattle.theory_roles.specs.Console.{denied_message, entitled_message}
 use Rattle.library_console.specs.Asked.{denied_as}
 use Rattle.library_console.proofs.denied.is_message_denied.Goals as goal
 
-pub returns-in-Unknown : goal.returns-in-Unknown
+pub returns-in-None : goal.returns-in-None
 unfolding denied_as
-returns-in-Unknown c =
-    rw (sym c.claim_of-claim.ensures, c.in-Unknown.is) refl
+returns-in-None c =
+    rw (sym c.claim_of-claim.ensures, c.in-None.is) refl
 
-pub returns-in-As : goal.returns-in-As
+pub returns-in-Some : goal.returns-in-Some
 unfolding denied_as denied_message entitled_message
-returns-in-As c =
-    rw (sym c.claim_of-claim.ensures, c.in-As.is, c.is_message_entitled-entitled.ensures, c.may-allowed.ensures) refl
+returns-in-Some c =
+    rw (sym c.claim_of-claim.ensures, c.in-Some.is, c.is_message_entitled-entitled.ensures, c.may-allowed.ensures) refl

@@ -13,14 +13,14 @@ returns-then-line-n c =
 
 pub write_seen-requires : goal.write_seen-requires
 write_seen-requires c =
-    let a = c.args in let s = run_of a.w.now in let h = written_sound (record { role = a.role; owned = a.owned }) s a.failed a.line.now (omega (arith, c.if-line-n.false, c.count_of-n.ensures)) (sym c.in-Written.is ∙ c.line-answer.ensures.value) in (omega (arith, (sound_state s h).count_most, c.count_of-n.ensures), c.if-line-n.false)
+    let a = c.args in let s = run_of a.w.now in let h = written_sound (record { role = a.role; owned = a.owned }) s a.failed a.line.now (omega (arith, c.if-line-n.false, c.count_of-n.ensures)) (sym c.in-Ok.is ∙ c.line-answer.ensures.value) in (omega (arith, (sound_state s h).count_most, c.count_of-n.ensures), c.if-line-n.false)
 
-pub returns-in-Refused : goal.returns-in-Refused
-returns-in-Refused c =
-    let a = c.args in let g = line_refused (record { role = a.role; owned = a.owned }) (run_of a.w.now) a.failed a.line.now (omega (arith, c.if-line-n.false, c.count_of-n.ensures)) _ (sym c.in-Refused.is ∙ c.line-answer.ensures.value) in record { value = g.0; line_after = g.1 }
+pub returns-in-Err : goal.returns-in-Err
+returns-in-Err c =
+    let a = c.args in let g = line_refused (record { role = a.role; owned = a.owned }) (run_of a.w.now) a.failed a.line.now (omega (arith, c.if-line-n.false, c.count_of-n.ensures)) _ (sym c.in-Err.is ∙ c.line-answer.ensures.value) in record { value = g.0; line_after = g.1 }
 
-pub returns-in-Written : goal.returns-in-Written
+pub returns-in-Ok : goal.returns-in-Ok
 unfolding entitled
-returns-in-Written c =
+returns-in-Ok c =
     let a = c.args in let g = line_written (record { role = a.role; owned = a.owned }) (run_of a.w.now) a.failed a.line.now (omega (arith, c.if-line-n.false, c.count_of-n.ensures)) _ _
-    (sym c.in-Written.is ∙ c.line-answer.ensures.value) c.line-answer.ensures.line_after (rw c.count_of-n.ensures at c.write_seen.ensures) in record { value = g.0; line_after = g.1 }
+    (sym c.in-Ok.is ∙ c.line-answer.ensures.value) c.line-answer.ensures.line_after (rw c.count_of-n.ensures at c.write_seen.ensures) in record { value = g.0; line_after = g.1 }

@@ -1,12 +1,9 @@
--- `library_halves::log::write_all` meets its contract. The loop's invariant: the bytes of the first i words are written.
+-- `library_halves::log::write_all` meets its contract. The loop's invariant: the bytes of the words so far are written.
 -- Assumes nothing.
-use Rattle.std.specs.Prelude.{◌≡◌, ◌-◌, ◌≤◌}
+use Rattle.std.specs.Prelude.{◌≡◌}
 use Rattle.laws.specs.Basics.{length, sets}
 use Rattle.library_halves.specs.Log.{bytes_up_to}
 use Rattle.library_halves.proofs.log.write_all.Given as goal
 
 abbrev pub invariant-loop-i : goal.invariant-loop-i
-invariant-loop-i l = (l.i ≤ l.count) × (length l.out ≡ length l.initial.out) × (l.out ≡ sets l.initial.out 1 (bytes_up_to l.i l.log))
-
-abbrev pub decreases-loop-i : goal.decreases-loop-i
-decreases-loop-i l = l.count - l.i
+invariant-loop-i l = (length l.out ≡ length l.initial.out) × (l.out ≡ sets l.initial.out 1 (bytes_up_to l.i l.log))

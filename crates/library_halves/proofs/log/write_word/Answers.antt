@@ -1,23 +1,16 @@
 -- `library_halves::log::write_word` meets its contract.
 -- Assumes nothing.
-use Rattle.std.specs.Prelude.{◌≡◌, ◌+◌}
-use Rattle.laws.specs.Basics.{suc, arith, length-set}
+use Rattle.std.specs.Prelude.{◌≡◌, ◌+◌, ◌-◌, ◌≤◌}
+use Rattle.laws.specs.Basics.{◌∙◌, List, ℕ, arith, rules, length, sets}
+use Rattle.theory_merges.proofs.Replaying.{four_bytes}
 use Rattle.model.specs.Trace.{bytes_of_def}
+use borrow.Rule.Slice.PartMut.{put_mid}
+use Rattle.library_halves.proofs.Bytes.{put_sets, word_bytes}
 use Rattle.library_halves.proofs.log.write_word.Goals as goal
 
-pub bounds-out-at-2 : goal.bounds-out-at-2
-bounds-out-at-2 c =
-    simp length-set (omega arith)
-
-pub bounds-out-at-3 : goal.bounds-out-at-3
-bounds-out-at-3 c =
-    simp length-set (omega arith)
-
-pub bounds-out-at-4 : goal.bounds-out-at-4
-bounds-out-at-4 c =
-    simp length-set (omega arith)
+copied : (at w : ℕ) (out xs : List ℕ) → xs ≡ bytes_of_def w → length (bytes_of_def w) ≡ 4 → at + 4 ≤ length out → put_mid at (at + 4 - at) out xs ≡ sets out at (bytes_of_def w)
+copied at w out xs e four h = let k : at + 4 - at ≡ 4 = omega arith in rw (k, e) (put_sets at 4 out (bytes_of_def w) four h)
 
 pub returns : goal.returns
-unfolding bytes_of_def
 returns c =
-    let a = c.args.at in let e1 : a + 1 ≡ suc a = omega arith in let e2 : a + 2 ≡ suc (suc a) = omega arith in let e3 : a + 3 ≡ suc (suc (suc a)) = omega arith in rw (e1, e2, e3)
+    let a = c.args in copied a.at a.w a.out.now _ (c.copy_from_slice.ensures.after ∙ c.to_be_bytes.ensures ∙ word_bytes a.w (search rules)) (four_bytes a.w) c.requires

@@ -1,9 +1,9 @@
--- `library_halves::record::judge` meets its contract: the arm of the `match` says which case of `half_event_of` holds.
+-- `library_halves::record::judge` meets its contract, by the kind of the record.
 -- Assumes nothing.
-use Rattle.laws.specs.Basics.{rules, refl, ◌∙◌, inl, inr}
+use Rattle.laws.specs.Basics.{◌∙◌, rules}
 use Rattle.theory_merges.specs.Merge.{on_record}
 use Rattle.library_halves.specs.Taking.{Judges}
-use Rattle.library_halves.proofs.Ready.{read_is, half_zero, half_one, half_two, half_three, half_none}
+use Rattle.library_halves.proofs.Ready.{read_is, half_zero, half_one, half_message, half_none}
 use Rattle.library_halves.proofs.record.judge.Goals as goal
 
 pub returns-in-0 : goal.returns-in-0
@@ -16,11 +16,7 @@ returns-in-1 c =
 
 pub returns-in-2 : goal.returns-in-2
 returns-in-2 c =
-    let x = c.read_fields-r in let f = x.ensures ∙ read_is _ c.requires.1 in λ l h e. rw (← f, half_two x.result c.in-2.is) (c.judge_message.ensures (inl refl) c.args.n l h e)
-
-pub returns-in-3 : goal.returns-in-3
-returns-in-3 c =
-    let x = c.read_fields-r in let f = x.ensures ∙ read_is _ c.requires.1 in λ l h e. rw (← f, half_three x.result c.in-3.is) (c.judge_message-in-3.ensures (inr refl) c.args.n l h e)
+    let x = c.read_fields-r in let f = x.ensures ∙ read_is _ c.requires.1 in λ l h e. rw (← f, half_message x.result (search rules)) (c.judge_message.ensures (search rules) l h e)
 
 pub returns-in_default : goal.returns-in_default
 unfolding Judges on_record

@@ -1,21 +1,19 @@
 -- `library_halves::taking::ready_at` meets its contract.
 -- Assumes nothing.
-use Rattle.laws.specs.Basics.{sym, ◌∙◌, ap, false≢true, length}
-use Rattle.library_halves.proofs.Ready.{read_is, not_ready, always_ready, sent_two, sent_three}
+use Rattle.laws.specs.Basics.{◌∙◌, rules}
+use Rattle.library_halves.proofs.Ready.{read_is, not_ready, always_ready, sent_ready}
 use Rattle.library_halves.proofs.taking.ready_at.Goals as goal
 
-pub returns-then-part-ne4 : goal.returns-then-part-ne4
-returns-then-part-ne4 c =
-    let p = c.record_part-part in let a = c.args in record { at_len = λ e. absurd (false≢true e); value = λ l h e. not_ready l a.half.now a.at _ p.ensures c.if-part-ne4.true }
+pub returns-then-part-ne4-clause-value : goal.returns-then-part-ne4-clause-value
+returns-then-part-ne4-clause-value c =
+    λ l h e. not_ready l c.args.half.now c.args.at _ c.record_part-part.ensures c.if-part-ne4.true
 
-pub returns-then-kind-eq2 : goal.returns-then-kind-eq2
-returns-then-kind-eq2 c =
-    let p = c.record_part-part in let x = c.read_fields-r in let a = c.args in record { at_len = λ e. sym (ap length p.ensures) ∙ c.if-part-ne4.false; value = λ l h e. c.is_sent.ensures l h e ∙ sent_two l a.half.now a.at _ p.ensures c.if-part-ne4.false x.result (x.ensures ∙ read_is _ c.if-part-ne4.false) c.if-kind-eq2.true }
+pub returns-then-r-eq2-clause-value : goal.returns-then-r-eq2-clause-value
+returns-then-r-eq2-clause-value c =
+    let x = c.read_fields-r in
+    λ l h e. c.is_sent.ensures l h e ∙ sent_ready l c.args.half.now c.args.at _ c.record_part-part.ensures c.if-part-ne4.false x.result (x.ensures ∙ read_is _ c.if-part-ne4.false) (search rules)
 
-pub returns-then-kind-eq3 : goal.returns-then-kind-eq3
-returns-then-kind-eq3 c =
-    let p = c.record_part-part in let x = c.read_fields-r in let a = c.args in record { at_len = λ e. sym (ap length p.ensures) ∙ c.if-part-ne4.false; value = λ l h e. c.is_sent-then-kind-eq3.ensures l h e ∙ sent_three l a.half.now a.at _ p.ensures c.if-part-ne4.false x.result (x.ensures ∙ read_is _ c.if-part-ne4.false) c.if-kind-eq2.false c.if-kind-eq3.true }
-
-pub returns : goal.returns
-returns c =
-    let p = c.record_part-part in let x = c.read_fields-r in let a = c.args in record { at_len = λ e. sym (ap length p.ensures) ∙ c.if-part-ne4.false; value = λ l h e. always_ready l a.half.now a.at _ p.ensures c.if-part-ne4.false x.result (x.ensures ∙ read_is _ c.if-part-ne4.false) c.if-kind-eq2.false c.if-kind-eq3.false }
+pub returns-clause-value : goal.returns-clause-value
+returns-clause-value c =
+    let x = c.read_fields-r in
+    λ l h e. always_ready l c.args.half.now c.args.at _ c.record_part-part.ensures c.if-part-ne4.false x.result (x.ensures ∙ read_is _ c.if-part-ne4.false) c.if-r-eq2.false c.if-r-eq3.false

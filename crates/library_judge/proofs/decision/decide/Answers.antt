@@ -1,44 +1,27 @@
 -- `library_judge::decision::decide` meets its contract.
 -- Assumes nothing.
-use Rattle.laws.specs.Basics.{arith, not-true, not-false}
-use Rattle.library_judge.specs.decision.Represents.{Judges, Says}
-use Rattle.library_judge.proofs.decision.Meets.{start_length, sized, linked, is_trackable, reaching, is_breaking_lem}
+use Rattle.std.specs.Prelude.{◌≡◌}
+use Rattle.laws.specs.Basics.{None, rules}
+use Rattle.library_judge.specs.decision.Represents.{Says, Judges}
+use Rattle.library_judge.proofs.decision.Meets.{is_trackable, near_in, reaching, no_far, breaks}
 use Rattle.library_judge.proofs.decision.decide.Goals as goal
 
-pub near_end-near-requires : goal.near_end-near-requires
-near_end-near-requires c =
-    (c.requires.2.few, sized _ _ _ _ _ _ _ c.requires.0 c.requires.1 c.requires.2)
-
-pub returns-then-not-near : goal.returns-then-not-near
+pub returns-in_err-near : goal.returns-in_err-near
 unfolding Judges Says
-returns-then-not-near c =
-    λ t right h. is_trackable _ _ _ _ _ _ _ t right h _ c.near_end-near.ensures (not-true _ c.if-not-near.true)
+returns-in_err-near c =
+    let e : c.from_residual.result ≡ None = search rules in rw e (λ t right h. is_trackable _ _ _ t right h c.in_err-near.ensures)
 
-pub first_row-first-requires : goal.first_row-first-requires
-first_row-first-requires c =
-    let q = c.near_end-near.ensures.at (not-false _ c.if-not-near.false) in (omega (arith, q.0, c.requires.2.few), omega (arith, c.requires.2.room, c.requires.2.most_rows_lem), omega (arith, c.requires.2.places, c.requires.2.most_rows_lem))
+pub far_end-requires : goal.far_end-requires
+far_end-requires c =
+    let p = c.requires in let w = c.in_ok-near.ensures in
+    (p.2.few, near_in _ _ _ p.0 p.1 p.2 _ w, reaching _ _ _ p.0 p.1 p.2 _ w _ _ c.first_row.ensures c.closure-reach.ensures)
 
-pub overflow_cast-start : goal.overflow_cast-start
-overflow_cast-start c =
-    omega (arith, c.first_row-first.ensures.within, c.requires.2.most_rows_lem)
-
-pub offset_bounds-start-p : goal.offset_bounds-start-p
-offset_bounds-start-p c =
-    let q = c.near_end-near.ensures.at (not-false _ c.if-not-near.false) in omega (arith, q.0, c.requires.2.few)
-
-pub bounds-start-p : goal.bounds-start-p
-bounds-start-p c =
-    let q = c.near_end-near.ensures.at (not-false _ c.if-not-near.false) in omega (arith, q.0, c.requires.2.few)
-
-pub closure-all-requires : goal.closure-all-requires
-closure-all-requires c =
-    (start_length c.near_end-near.result.process c.first_row-first.result, linked _ _ _ _ _ _ _ c.requires.0 c.requires.1 c.requires.2)
-
-pub far_end-far-requires : goal.far_end-far-requires
-far_end-far-requires c =
-    let q = c.near_end-near.ensures.at (not-false _ c.if-not-near.false) in (c.requires.2.few, omega (arith, q.0, c.requires.2.few), reaching _ _ _ _ _ _ _ c.requires.0 c.requires.1 c.requires.2 _ c.near_end-near.ensures (not-false _ c.if-not-near.false) _ c.first_row-first.ensures _ c.closure-all.ensures)
+pub returns-in_err-far : goal.returns-in_err-far
+unfolding Judges Says
+returns-in_err-far c =
+    λ t right h. absurd (no_far _ _ _ t right h _ c.in_ok-near.ensures _ _ c.first_row.ensures c.closure-reach.ensures c.in_err-far.ensures)
 
 pub returns : goal.returns
 unfolding Judges Says
 returns c =
-    λ t right h. is_breaking_lem _ _ _ _ _ _ _ t right h _ c.near_end-near.ensures (not-false _ c.if-not-near.false) _ c.first_row-first.ensures _ c.closure-all.ensures _ c.far_end-far.ensures
+    λ t right h. breaks _ _ _ t right h _ c.in_ok-near.ensures _ _ c.first_row.ensures c.closure-reach.ensures _ c.in_ok-far.ensures

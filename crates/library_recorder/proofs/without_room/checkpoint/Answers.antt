@@ -9,10 +9,10 @@ pub slice_bounds-checkpoint-end-2 : goal.slice_bounds-checkpoint-end-2
 slice_bounds-checkpoint-end-2 c =
     let k = c.least-entries in sym (length-take-le k.result (replicate 512 0) k.ensures.1)
 
-pub returns-then-summary-eq0 : goal.returns-then-summary-eq0
-returns-then-summary-eq0 c =
-    λ lent e. let k = c.least-entries in let copy = c.copy_of-copy in let a = c.args in let same = checkpoint_alike (run_of copy.result) (run_of a.w.now) copy.ensures k.result a.size lent k.ensures e a.i in (checkpoint_ways (run_of copy.result) a.i (take k.result (replicate 512 0))).short _ _ c.checkpoint-answer.ensures.value c.of_checkpoint-summary.ensures c.if-summary-eq0.true _ same
+pub returns-then-number-eq0 : goal.returns-then-number-eq0
+returns-then-number-eq0 c =
+    λ lent e. let k = c.least-entries in let copy = c.copy_of-copy in let a = c.args in let same = checkpoint_alike (run_of copy.result) (run_of a.w.now) copy.ensures k.result a.size lent k.ensures e a.i in (checkpoint_ways (run_of copy.result) a.i (take k.result (replicate 512 0))).short _ _ c.checkpoint-answer.ensures.value c.from-summary.ensures (rw c.number-number.ensures at c.if-number-eq0.true) _ same
 
 pub returns : goal.returns
 returns c =
-    λ lent e. let k = c.least-entries in let copy = c.copy_of-copy in let a = c.args in let same = checkpoint_alike (run_of copy.result) (run_of a.w.now) copy.ensures k.result a.size lent k.ensures e a.i in (checkpoint_ways (run_of copy.result) a.i (take k.result (replicate 512 0))).refused _ _ c.checkpoint-answer.ensures.value c.of_checkpoint-summary.ensures c.if-summary-eq0.false _ same
+    λ lent e. let k = c.least-entries in let copy = c.copy_of-copy in let a = c.args in let same = checkpoint_alike (run_of copy.result) (run_of a.w.now) copy.ensures k.result a.size lent k.ensures e a.i in (checkpoint_ways (run_of copy.result) a.i (take k.result (replicate 512 0))).refused _ _ c.checkpoint-answer.ensures.value c.from-summary.ensures (rw c.number-number.ensures at c.if-number-eq0.false) _ same

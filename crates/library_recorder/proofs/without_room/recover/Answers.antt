@@ -13,10 +13,10 @@ pub slice_bounds-recover-end-3 : goal.slice_bounds-recover-end-3
 slice_bounds-recover-end-3 c =
     let j = c.least-places in sym (length-take-le j.result (replicate 16 0) j.ensures.1)
 
-pub returns-then-summary-eq0 : goal.returns-then-summary-eq0
-returns-then-summary-eq0 c =
-    λ lent line e f. let j = c.least-places in let k = c.least-entries in let copy = c.copy_of-copy in let a = c.args in let same = recover_alike (run_of copy.result) (run_of a.w.now) copy.ensures k.result a.size lent k.ensures e a.failed j.result a.members line j.ensures f in (recover_ways (run_of copy.result) a.failed (take k.result (replicate 512 0)) (take j.result (replicate 16 0))).short _ _ c.recover-answer.ensures.value c.of_recover-summary.ensures c.if-summary-eq0.true _ same
+pub returns-then-number-eq0 : goal.returns-then-number-eq0
+returns-then-number-eq0 c =
+    λ lent line e f. let j = c.least-places in let k = c.least-entries in let copy = c.copy_of-copy in let a = c.args in let same = recover_alike (run_of copy.result) (run_of a.w.now) copy.ensures k.result a.size lent k.ensures e a.failed j.result a.members line j.ensures f in (recover_ways (run_of copy.result) a.failed (take k.result (replicate 512 0)) (take j.result (replicate 16 0))).short _ _ c.recover-answer.ensures.value c.from-summary.ensures (rw c.number-number.ensures at c.if-number-eq0.true) _ same
 
 pub returns : goal.returns
 returns c =
-    λ lent line e f. let j = c.least-places in let k = c.least-entries in let copy = c.copy_of-copy in let a = c.args in let same = recover_alike (run_of copy.result) (run_of a.w.now) copy.ensures k.result a.size lent k.ensures e a.failed j.result a.members line j.ensures f in (recover_ways (run_of copy.result) a.failed (take k.result (replicate 512 0)) (take j.result (replicate 16 0))).refused _ _ c.recover-answer.ensures.value c.of_recover-summary.ensures c.if-summary-eq0.false _ same
+    λ lent line e f. let j = c.least-places in let k = c.least-entries in let copy = c.copy_of-copy in let a = c.args in let same = recover_alike (run_of copy.result) (run_of a.w.now) copy.ensures k.result a.size lent k.ensures e a.failed j.result a.members line j.ensures f in (recover_ways (run_of copy.result) a.failed (take k.result (replicate 512 0)) (take j.result (replicate 16 0))).refused _ _ c.recover-answer.ensures.value c.from-summary.ensures (rw c.number-number.ensures at c.if-number-eq0.false) _ same

@@ -6,10 +6,10 @@ use Rattle.words.specs.Layout.{run_of}
 use Rattle.library_recorder.proofs.{record.Ways.send_ways}
 use Rattle.library_recorder.proofs.without_room.send.Goals as goal
 
-pub returns-then-summary-eq0 : goal.returns-then-summary-eq0
-returns-then-summary-eq0 c =
-    let copy = c.copy_of-copy in let a = c.args in (send_ways (run_of copy.result) a.i a.j).short _ _ c.send-answer.ensures.value c.of_send-summary.ensures c.if-summary-eq0.true _ (ap (λ (s : Run). send_refusal s a.i a.j) copy.ensures)
+pub returns-then-number-eq0 : goal.returns-then-number-eq0
+returns-then-number-eq0 c =
+    let copy = c.copy_of-copy in let a = c.args in (send_ways (run_of copy.result) a.i a.j).short _ _ c.send-answer.ensures.value c.from-summary.ensures (rw c.number-number.ensures at c.if-number-eq0.true) _ (ap (λ (s : Run). send_refusal s a.i a.j) copy.ensures)
 
 pub returns : goal.returns
 returns c =
-    let copy = c.copy_of-copy in let a = c.args in (send_ways (run_of copy.result) a.i a.j).refused _ _ c.send-answer.ensures.value c.of_send-summary.ensures c.if-summary-eq0.false _ (ap (λ (s : Run). send_refusal s a.i a.j) copy.ensures)
+    let copy = c.copy_of-copy in let a = c.args in (send_ways (run_of copy.result) a.i a.j).refused _ _ c.send-answer.ensures.value c.from-summary.ensures (rw c.number-number.ensures at c.if-number-eq0.false) _ (ap (λ (s : Run). send_refusal s a.i a.j) copy.ensures)

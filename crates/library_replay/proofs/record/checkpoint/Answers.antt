@@ -10,4 +10,4 @@ use Rattle.library_replay.proofs.record.checkpoint.Goals as goal
 pub returns : goal.returns
 unfolding CallsKeepSound
 returns c =
-    let a = c.args in let g = c.checkpoint_on-answer.ensures in record { performs = checkpoint_performs (run_of a.w.now) a.i a.deleted.now c.requires.1 g.w_after g.value g.deleted_after c.of_checkpoint-summary.ensures; sound_value = sym (ap sound g.w_after ∙ (calls_keep_sound a.w.now c.requires.0).checkpoint a.i a.deleted.now); leaves = g.leaves }
+    let a = c.args in let g = c.checkpoint_on-answer.ensures in record { performs = checkpoint_performs (run_of a.w.now) a.i a.deleted.now c.requires.1 g.w_after g.value g.deleted_after c.from-summary.ensures; sound_value = sym (ap sound g.w_after ∙ (calls_keep_sound a.w.now c.requires.0).checkpoint a.i a.deleted.now); leaves = g.leaves }

@@ -10,4 +10,4 @@ use Rattle.library_replay.proofs.record.deliver.Goals as goal
 pub returns : goal.returns
 unfolding CallsKeepSound
 returns c =
-    let a = c.args in let g = c.deliver_on-delivered.ensures in record { performs = deliver_performs (run_of a.w.now) a.m a.deleted.now c.requires.1 g.w_after g.answer_value g.deleted_after c.of_deliver-summary.ensures; sound_value = sym (ap sound g.w_after ∙ (calls_keep_sound a.w.now c.requires.0).deliver a.m a.deleted.now); leaves = g.leaves }
+    let a = c.args in let g = c.deliver_on-delivered.ensures in record { performs = deliver_performs (run_of a.w.now) a.m a.deleted.now c.requires.1 g.w_after g.answer_value g.deleted_after c.from-summary.ensures; sound_value = sym (ap sound g.w_after ∙ (calls_keep_sound a.w.now c.requires.0).deliver a.m a.deleted.now); leaves = g.leaves }

@@ -17,9 +17,9 @@ sound_after-still-requires c =
       λ e. ap sound g.w_after ∙ reachable_sound _ (recover_reachable (run_of a.w.now) (c.requires.1 e) a.failed a.deleted.now a.line.now),
       λ none. ap sound g.w_after
           ∙ (calls_keep_sound a.w.now c.requires.0).recover a.failed a.deleted.now a.line.now
-          (sym (ap (λ (x : Report). x.deletions) (c.of_recover-summary.ensures ∙ ap recover_report g.value)) ∙ none),
+          (sym (ap (λ (x : Report). x.deletions) (c.from-summary.ensures ∙ ap recover_report g.value)) ∙ none),
     )
 
 pub returns : goal.returns
 returns c =
-    let a = c.args in let g = c.recover_on-answer.ensures in record { performs = recover_performs (run_of a.w.now) a.failed a.deleted.now a.line.now c.requires.2 c.requires.3 g.w_after g.value g.deleted_after c.of_recover-summary.ensures; sound_value = c.sound_after-still.ensures; leaves = g.leaves }
+    let a = c.args in let g = c.recover_on-answer.ensures in record { performs = recover_performs (run_of a.w.now) a.failed a.deleted.now a.line.now c.requires.2 c.requires.3 g.w_after g.value g.deleted_after c.from-summary.ensures; sound_value = c.sound_after-still.ensures; leaves = g.leaves }

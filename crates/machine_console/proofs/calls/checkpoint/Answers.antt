@@ -11,4 +11,4 @@ pub returns : goal.returns
 unfolding checkpoint_as made_with console_answered answered answer_text
 returns c =
     λ line.
-    let e = c.checkpoint-answer.ensures in replies checkpoint_report Checkpoint c.args.role c.args.owned c.args.c.caller _ _ _ _ _ _ line c.requires e.w_after e.value c.of_checkpoint-summary.ensures (λ k n. rw e.deleted_after refl)
+    let e = c.checkpoint-answer.ensures in replies checkpoint_report Checkpoint c.args.role c.args.owned c.args.c.caller _ _ _ _ _ _ line c.requires e.w_after e.value c.from-summary.ensures (λ k n. rw e.deleted_after refl)

@@ -11,4 +11,4 @@ pub returns : goal.returns
 unfolding deliver_as made_with console_answered answered answer_text
 returns c =
     λ line.
-    let e = c.deliver-delivered.ensures in replies deliver_report Deliver c.args.role c.args.owned c.args.c.caller _ _ _ _ _ _ line c.requires e.w_after e.answer_value c.of_deliver-summary.ensures (λ k n. rw (e.rose_value, e.deleted_after) refl)
+    let e = c.deliver-delivered.ensures in replies deliver_report Deliver c.args.role c.args.owned c.args.c.caller _ _ _ _ _ _ line c.requires e.w_after e.answer_value c.from-summary.ensures (λ k n. rw (e.rose_value, e.deleted_after) refl)

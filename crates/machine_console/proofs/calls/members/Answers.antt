@@ -1,5 +1,6 @@
 -- `machine_console::calls::members` meets its contract. Assumes nothing.
-use Rattle.laws.specs.Basics.{refl, rules}
+use Rattle.laws.specs.Basics.{refl, rules, ◌∙◌}
+use Rattle.listing.specs.Reports.{line_is}
 use Rattle.whole_runs.specs.{Outcomes.line_report, Calls.answered}
 use Rattle.theory_roles.specs.{declared.Operation.TheVariants.Line, Runs.console_answered}
 use Rattle.library_console.specs.Asked.{line_as}
@@ -11,4 +12,4 @@ pub returns : goal.returns
 unfolding line_as made_with console_answered answered answer_text
 returns c =
     λ pairs.
-    let e = c.line-answer.ensures in replies line_report Line c.args.role c.args.owned c.args.c.caller _ _ _ _ _ pairs _ c.requires e.w_value e.value c.of_line-summary.ensures (λ k n. rw e.line_after refl)
+    let e = c.line-answer.ensures in replies line_report Line c.args.role c.args.owned c.args.c.caller _ _ _ _ _ pairs _ c.requires e.w_value e.value (c.from-summary.ensures ∙ line_is _) (λ k n. rw e.line_after refl)

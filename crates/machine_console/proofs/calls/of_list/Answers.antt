@@ -1,15 +1,15 @@
 -- `machine_console::calls::of_list` meets its contract. Assumes nothing.
-use Rattle.laws.specs.Basics.{refl, sym, ◌∙◌, ap, rules}
-use Rattle.listing.specs.{Lines.value_in, Summarised.report_in}
-use Rattle.theory_roles.specs.Console.{list_report}
+use Rattle.std.specs.Prelude.{◌≡◌, Ok, Err}
+use Rattle.laws.specs.Basics.{refl, ◌∙◌}
+use Rattle.listing.specs.Reports.{count_report}
+use Rattle.theory_roles.specs.Console.{ListAnswer, list_report}
 use Rattle.machine_console.proofs.calls.of_list.Goals as goal
 
-pub returns-in-Refused : goal.returns-in-Refused
-unfolding list_report
-returns-in-Refused c =
-    c.refused.ensures ∙ ap list_report (sym c.in-Refused.is)
+counts_alike : (a : ListAnswer) → count_report a ≡ list_report a
+unfolding count_report list_report
+counts_alike (Err why) = refl
+counts_alike (Ok count) = refl
 
-pub returns-in-Listed : goal.returns-in-Listed
-unfolding list_report report_in value_in
-returns-in-Listed c =
-    rw c.in-Listed.is refl
+pub returns : goal.returns
+returns c =
+    c.from.ensures ∙ counts_alike c.args.answer

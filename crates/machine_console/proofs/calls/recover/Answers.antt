@@ -10,4 +10,4 @@ use Rattle.machine_console.proofs.calls.recover.Goals as goal
 pub returns : goal.returns
 unfolding recover_as made_with console_answered answered answer_text
 returns c =
-    let e = c.recover-answer.ensures in replies recover_report Recover c.args.role c.args.owned c.args.c.caller _ _ _ _ _ _ _ c.requires e.w_after e.value c.of_recover-summary.ensures (λ k n. rw (e.deleted_after, e.line_after) refl)
+    let e = c.recover-answer.ensures in replies recover_report Recover c.args.role c.args.owned c.args.c.caller _ _ _ _ _ _ _ c.requires e.w_after e.value c.from-summary.ensures (λ k n. rw (e.deleted_after, e.line_after) refl)

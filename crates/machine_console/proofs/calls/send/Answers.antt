@@ -11,4 +11,4 @@ pub returns : goal.returns
 unfolding send_as made_with console_answered answered answer_text
 returns c =
     λ pairs line.
-    let e = c.send-answer.ensures in replies send_report Send c.args.role c.args.owned c.args.c.caller _ _ _ _ _ pairs line c.requires e.w_after e.value c.of_send-summary.ensures (λ k n. refl)
+    let e = c.send-answer.ensures in replies send_report Send c.args.role c.args.owned c.args.c.caller _ _ _ _ _ pairs line c.requires e.w_after e.value c.from-summary.ensures (λ k n. refl)

@@ -1,16 +1,15 @@
 -- `machine_console::text::member` meets its contract. Assumes nothing.
 use Rattle.laws.specs.Basics.{refl, sym, ◌∙◌, rules}
-use Rattle.listing.specs.Lines.{value_in}
 use Rattle.theory_roles.specs.Console.{entitled}
 use Rattle.machine_console.specs.Text.{member_shown}
 use Rattle.machine_console.proofs.text.member.Goals as goal
 
 pub returns-then-seen : goal.returns-then-seen
-unfolding value_in member_shown entitled
+unfolding member_shown entitled
 returns-then-seen c =
     rw (sym c.is_entitled-seen.ensures ∙ c.if-seen.true) refl
 
 pub returns : goal.returns
-unfolding value_in member_shown entitled
+unfolding member_shown entitled
 returns c =
     rw (sym c.is_entitled-seen.ensures ∙ c.if-seen.false) refl

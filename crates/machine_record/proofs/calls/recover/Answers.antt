@@ -1,5 +1,5 @@
 -- `machine_record::calls::recover` meets its contract. Assumes nothing.
-use Rattle.laws.specs.Basics.{refl, some, replicate, rules}
+use Rattle.laws.specs.Basics.{refl, Some, replicate, rules}
 use Rattle.model.specs.declared.Event.TheVariants.{Recover}
 use Rattle.whole_runs.specs.{Outcomes.recover_report, Listing.call_of}
 use Rattle.theory_recording.specs.Recording.{recorded, recorded_recover}
@@ -11,4 +11,4 @@ use Rattle.machine_record.proofs.calls.recover.Goals as goal
 pub returns : goal.returns
 unfolding recorded_in recorded call_of
 returns c =
-    let a = c.args in let e = c.recover-recorded.ensures in plays recover_report (run_of a.w.now) a.buffer.now a.place (some (Recover a.failed)) (recorded_recover (run_of a.w.now) a.failed (replicate 512 0) (replicate 16 0) a.buffer.now a.place) refl c.of_recover-summary.result e.w_after e.answer_value e.buffer_after e.place_value c.of_recover-summary.ensures
+    let a = c.args in let e = c.recover-recorded.ensures in rw c.number-number.ensures (plays recover_report (run_of a.w.now) a.buffer.now a.place (Some (Recover a.failed)) (recorded_recover (run_of a.w.now) a.failed (replicate 512 0) (replicate 16 0) a.buffer.now a.place) refl c.from-summary.result e.w_after e.answer_value e.buffer_after e.place_value c.from-summary.ensures)

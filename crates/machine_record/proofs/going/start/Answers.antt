@@ -21,21 +21,21 @@ end_refused-requires c =
 pub returns-then-refused-ne0 : goal.returns-then-refused-ne0
 returns-then-refused-ne0 c =
     let buffer_length : length (take c.least-room.result c.args.out.now) ≡ min c.args.left 1 = let e = c.least-room.ensures in length-take-le c.least-room.result c.args.out.now (omega (arith, e, c.requires.1)) ∙ e in
-    let numbered : c.of_start-summary.result.refused ≡ start_number c.args.left c.args.n = number_is _ c.args.n c.args.left (take c.least-room.result c.args.out.now) c.of_start-summary.result _ c.requires.0 buffer_length c.start-started.ensures.answer_value c.of_start-summary.ensures in
+    let numbered : c.number-refused.result ≡ start_number c.args.left c.args.n = c.number-refused.ensures ∙ number_is _ c.args.n c.args.left (take c.least-room.result c.args.out.now) c.from-summary.result _ c.requires.0 buffer_length c.start-started.ensures.answer_value c.from-summary.ensures in
     λ input lines.
     led (start_refused c.args.n c.args.left _ numbered c.if-refused-ne0.true) (c.end_refused.ensures _ input lines)
 
 pub overflow_sub-result : goal.overflow_sub-result
 overflow_sub-result c =
     let buffer_length : length (take c.least-room.result c.args.out.now) ≡ min c.args.left 1 = let e = c.least-room.ensures in length-take-le c.least-room.result c.args.out.now (omega (arith, e, c.requires.1)) ∙ e in
-    let numbered : c.of_start-summary.result.refused ≡ start_number c.args.left c.args.n = number_is _ c.args.n c.args.left (take c.least-room.result c.args.out.now) c.of_start-summary.result _ c.requires.0 buffer_length c.start-started.ensures.answer_value c.of_start-summary.ensures in
-    let fine : c.of_start-summary.result.refused ≡ 0 → eqb (start_number c.args.left c.args.n) 0 ≡ true = λ e. start_fine c.args.n c.args.left _ numbered e in
+    let numbered : c.number-refused.result ≡ start_number c.args.left c.args.n = c.number-refused.ensures ∙ number_is _ c.args.n c.args.left (take c.least-room.result c.args.out.now) c.from-summary.result _ c.requires.0 buffer_length c.start-started.ensures.answer_value c.from-summary.ensures in
+    let fine : c.number-refused.result ≡ 0 → eqb (start_number c.args.left c.args.n) 0 ≡ true = λ e. start_fine c.args.n c.args.left _ numbered e in
     (accepted c.args.n c.args.left (fine c.if-refused-ne0.false)).some_left
 
 pub returns : goal.returns
 returns c =
     let buffer_length : length (take c.least-room.result c.args.out.now) ≡ min c.args.left 1 = let e = c.least-room.ensures in length-take-le c.least-room.result c.args.out.now (omega (arith, e, c.requires.1)) ∙ e in
-    let numbered : c.of_start-summary.result.refused ≡ start_number c.args.left c.args.n = number_is _ c.args.n c.args.left (take c.least-room.result c.args.out.now) c.of_start-summary.result _ c.requires.0 buffer_length c.start-started.ensures.answer_value c.of_start-summary.ensures in
-    let fine : c.of_start-summary.result.refused ≡ 0 → eqb (start_number c.args.left c.args.n) 0 ≡ true = λ e. start_fine c.args.n c.args.left _ numbered e in
+    let numbered : c.number-refused.result ≡ start_number c.args.left c.args.n = c.number-refused.ensures ∙ number_is _ c.args.n c.args.left (take c.least-room.result c.args.out.now) c.from-summary.result _ c.requires.0 buffer_length c.start-started.ensures.answer_value c.from-summary.ensures in
+    let fine : c.number-refused.result ≡ 0 → eqb (start_number c.args.left c.args.n) 0 ≡ true = λ e. start_fine c.args.n c.args.left _ numbered e in
     λ input lines.
     let started = c.start-started.ensures in arrives_started _ c.args.n c.args.left _ input _ lines (take c.least-room.result c.args.out.now) _ (drop c.least-room.result c.args.out.now) c.requires.0 (fine c.if-refused-ne0.false) c.requires.2 buffer_length started.w_after started.buffer_after refl

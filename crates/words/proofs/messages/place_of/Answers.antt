@@ -1,9 +1,8 @@
 -- `words::messages::place_of` meets its contract. Assumes nothing.
-use Rattle.std.specs.Prelude.{◌≡◌, ◌+◌, ◌-◌, ◌*◌, ◌/◌, ◌%◌, ◌≤◌, ◌<◌}
+use Rattle.std.specs.Prelude.{◌≡◌, ◌+◌, ◌-◌, ◌*◌, ◌/◌, ◌%◌, ◌≤◌, ◌<◌, Some}
 use Rattle.laws.specs.Basics.{refl, sym, ◌∙◌, ap, List, ℕ, zero, suc, arith, eqb, rules, eq-eqb, ne_eqb, pick, by_eq}
 use lib.Bits.{bit_or, or_add_and, and_le_l, and_le_r}
 use Rattle.words.specs.Layout.{word, end_of, low_at, high_at, message_in}
-use Rattle.words.specs.declared.messages.Found.TheVariants.{At}
 use Rattle.words.specs.messages.Places.{place_below, lows_below, place_of, found_at}
 use Rattle.words.proofs.messages.place_of.Goals as goal
 
@@ -58,10 +57,10 @@ some_number : (w : List ℕ) (m : ℕ) → (m ≡ 0 → ⊥) → place_of w m �
 unfolding place_of
 some_number w m ne = rw (ne_eqb m 0 ne) refl
 
-at_place : (k : ℕ) → (k ≡ 0 → ⊥) → At (k - 1) ≡ found_at k
+at_place : (k : ℕ) → (k ≡ 0 → ⊥) → Some (k - 1) ≡ found_at k
 unfolding found_at
 at_place zero ne = absurd (ne refl)
-at_place (suc k) ne = ap At (let e : suc k - 1 ≡ k = omega arith in e)
+at_place (suc k) ne = ap Some (let e : suc k - 1 ≡ k = omega arith in e)
 
 pub returns-then-m-eq0 : goal.returns-then-m-eq0
 unfolding found_at

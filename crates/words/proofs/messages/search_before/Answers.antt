@@ -1,12 +1,12 @@
 -- `words::messages::search_before` meets its contract. Assumes nothing.
-use Rattle.std.specs.Prelude.{◌≡◌, ◌-◌, ◌≤◌, ◌<◌}
+use Rattle.std.specs.Prelude.{◌≡◌, ◌-◌, ◌≤◌, ◌<◌, None, Some}
 use Rattle.laws.specs.Basics.{refl, sym, ◌∙◌, ap, List, ℕ, zero, suc, arith, rules, eq-eqb, ne_eqb}
-use Rattle.words.specs.{Layout.message_in, declared.messages.Found.TheVariants.Nothing, declared.messages.Found.TheVariants.At}
+use Rattle.words.specs.Layout.{message_in}
 use Rattle.words.specs.messages.Places.{place_below, found_at}
 use Rattle.words.proofs.messages.search_before.Goals as goal
 
 -- The last of the first places has the number, or it has not.
-found : (w : List ℕ) (m k : ℕ) → 1 ≤ k → (message_in w (k - 1)).number ≡ m → found_at (place_below w m k) ≡ At (k - 1)
+found : (w : List ℕ) (m k : ℕ) → 1 ≤ k → (message_in w (k - 1)).number ≡ m → found_at (place_below w m k) ≡ Some (k - 1)
 unfolding place_below found_at
 found w m zero le is = absurd (omega arith)
 found w m (suc k) le is = let q : suc k - 1 ≡ k = omega arith in rw (eq-eqb (message_in w k).number m (rw q at is), q)
@@ -16,7 +16,7 @@ unfolding place_below
 passed w m zero le is = absurd (omega arith)
 passed w m (suc k) le is = let q : suc k - 1 ≡ k = omega arith in rw (q, ne_eqb (message_in w k).number m (rw q at is))
 
-none : (w : List ℕ) (m k : ℕ) → k ≡ 0 → found_at (place_below w m k) ≡ Nothing
+none : (w : List ℕ) (m k : ℕ) → k ≡ 0 → found_at (place_below w m k) ≡ None
 unfolding place_below found_at
 none w m k q = rw q
 

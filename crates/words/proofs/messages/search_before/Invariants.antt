@@ -1,7 +1,7 @@
 -- `words::messages::search_before` meets its contract. Assumes nothing.
 use Rattle.std.specs.Prelude.{◌≡◌, ◌-◌, ◌≤◌, ◌<◌}
 use Rattle.laws.specs.Basics.{refl, sym, ◌∙◌, ap, List, ℕ, zero, suc, arith, rules, eq-eqb, ne_eqb}
-use Rattle.words.specs.{Layout.message_in, declared.messages.Found.TheVariants.Nothing, declared.messages.Found.TheVariants.At}
+use Rattle.words.specs.Layout.{message_in}
 use Rattle.words.specs.messages.Places.{place_below, found_at}
 use Rattle.words.proofs.messages.search_before.Given as goal
 

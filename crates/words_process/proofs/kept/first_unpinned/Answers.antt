@@ -1,7 +1,7 @@
 -- `words_process::kept::first_unpinned` meets its contract. Assumes nothing.
 use Rattle.std.specs.Prelude.{◌≡◌, ◌+◌, ◌-◌, ◌≤◌, ◌<◌}
 use Rattle.laws.specs.Basics.{sym, ◌∙◌, true, List, ℕ, arith, rules, not-false, by_eq}
-use Rattle.model.specs.declared.Pin.{Pin}
+use Rattle.model.specs.Shapes.{Pin}
 use Rattle.model.specs.Words.{is_pinned}
 use Rattle.words.specs.Layout.{word, index_at_of, checkpoint_in}
 use Rattle.words_process.specs.{Kept.Used, Kept.AllPinned, Pins.pin_row}

@@ -3,12 +3,12 @@ use Rattle.laws.specs.Basics.{rules}
 use Rattle.model.specs.Sound.{is_nothing_of}
 use Rattle.library_calls.proofs.run_words.fill.is_nothing.Goals as goal
 
-pub returns-in-Nothing : goal.returns-in-Nothing
+pub returns-in-None : goal.returns-in-None
 unfolding is_nothing_of
-returns-in-Nothing c =
+returns-in-None c =
     search rules
 
-pub returns-in-At : goal.returns-in-At
+pub returns-in-Some : goal.returns-in-Some
 unfolding is_nothing_of
-returns-in-At c =
+returns-in-Some c =
     search rules

@@ -1,8 +1,7 @@
 -- `library_calls::run_words::fill::put_pins` meets its contract. Assumes nothing.
-use Rattle.std.specs.Prelude.{◌≡◌}
+use Rattle.std.specs.Prelude.{◌≡◌, None}
 use Rattle.laws.specs.Basics.{refl, arith, get_or, length-set, rules}
 use Rattle.laws.specs.{Below.all_and, Loops.all_zero}
-use Rattle.model.specs.declared.Pin.TheVariants.{Nothing}
 use Rattle.words.proofs.Reading.{put_none, put_step}
 use Rattle.library_calls.specs.{run_words.Fits.pin_fits, run_words.Filled.pin_word}
 use Rattle.library_calls.proofs.run_words.fill.put_pins.Goals as goal
@@ -16,8 +15,8 @@ loop-f-preserved c =
     let l = c.loop-f in let a = c.args in (
       search rules,
       simp length-set l.invariant.1,
-      all_and (λ q. pin_fits (get_or a.pins q Nothing)) l.f l.all _ l.invariant.2 c.is_pin_fit-fit.ensures,
-      put_step a.w.now a.at (λ q. pin_word (get_or a.pins q Nothing)) l.f l.w _ l.invariant.3 c.word_of_pin-x.ensures,
+      all_and (λ q. pin_fits (get_or a.pins q None)) l.f l.all _ l.invariant.2 c.is_pin_fit-fit.ensures,
+      put_step a.w.now a.at (λ q. pin_word (get_or a.pins q None)) l.f l.w _ l.invariant.3 c.word_of_pin-x.ensures,
     )
 
 pub shape_of-w : goal.shape_of-w

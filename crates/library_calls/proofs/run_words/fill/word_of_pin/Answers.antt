@@ -3,12 +3,12 @@ use Rattle.laws.specs.Basics.{rules}
 use Rattle.library_calls.specs.run_words.Filled.{pin_word}
 use Rattle.library_calls.proofs.run_words.fill.word_of_pin.Goals as goal
 
-pub returns-in-Nothing : goal.returns-in-Nothing
+pub returns-in-None : goal.returns-in-None
 unfolding pin_word
-returns-in-Nothing c =
+returns-in-None c =
     search rules
 
-pub returns-in-At : goal.returns-in-At
+pub returns-in-Some : goal.returns-in-Some
 unfolding pin_word
-returns-in-At c =
-    rw (c.word_of_index.ensures, c.in-At.is)
+returns-in-Some c =
+    rw (c.word_of_index.ensures, c.in-Some.is)

@@ -1,7 +1,8 @@
 -- `library_calls::run_words::read::read` meets its contract. Assumes nothing.
 use Rattle.std.specs.Prelude.{◌≡◌, ◌*◌, ◌%◌, ◌≤◌}
 use Rattle.laws.specs.Basics.{sym, ◌∙◌, ap, List, arith, length, rules}
-use Rattle.model.specs.declared.{Interval.Interval, Pin.Pin, Checkpoint.Checkpoint}
+use Rattle.model.specs.Shapes.{Pin}
+use Rattle.model.specs.declared.{Interval.Interval, Checkpoint.Checkpoint}
 use Rattle.words.specs.Layout.{count_of}
 use Rattle.words.proofs.View.{fits_size, fits_end, end_most}
 use Rattle.library_calls.proofs.{run_words.ReadOut.read_ends}

@@ -1,7 +1,7 @@
 -- `machines::programs::numbers::number_in` meets its contract. The loop's invariant: the number that the first i digits are.
 -- Assumes nothing.
 use Rattle.std.specs.Prelude.{◌≡◌}
-use Rattle.laws.specs.Basics.{refl, ◌∙◌, ap, some, arith, length, rules}
+use Rattle.laws.specs.Basics.{refl, ◌∙◌, ap, Some, arith, length, rules}
 use Rattle.laws.specs.Loops.{iter_more}
 use Rattle.machines.specs.programs.Numbers.{stands_for}
 use Rattle.machines.proofs.programs.Digits.{no_word, first_value, number_is}
@@ -17,7 +17,7 @@ loop-i-init c =
 
 pub loop-i-preserved : goal.loop-i-preserved
 loop-i-preserved c =
-    let l = c.loop-i in (search rules, c.append-next.ensures.1, c.append-next.ensures.0 _ l.invariant.2 ∙ ap stands_for (iter_more _ (some 0) _ l.i _ refl refl))
+    let l = c.loop-i in (search rules, c.append-next.ensures.1, c.append-next.ensures.0 _ l.invariant.2 ∙ ap stands_for (iter_more _ (Some 0) _ l.i _ refl refl))
 
 pub returns : goal.returns
 returns c =

@@ -1,0 +1,7 @@
+-- `library_judge::reading::Reading::read_all` meets its contract. The loop's invariant: the pattern of the records so far is read.
+-- Assumes nothing.
+use Rattle.library_judge.specs.Kept.{Reached}
+use Rattle.library_judge.proofs.reading.Reading.read_all.Given as goal
+
+abbrev pub invariant-loop-taken : goal.invariant-loop-taken
+invariant-loop-taken l = Reached l.n l.trace l.taken l.self
