@@ -12,14 +12,14 @@ use Rattle.theory_patterns.specs.Patterns.{Pattern, empty, record_refusal, taken
 use Rattle.theory_patterns.proofs.{Adding.event_old, Adding.event_new, Facts.begin, Facts.begin_right}
 use Rattle.theory_patterns.proofs.Trail.{Trail, storing, storing_right, sending, sending_right, carried_old, carried_new, receiving, receiving_right}
 use Rattle.theory_patterns.proofs.Followed as followed
-use Rattle.library_judge.specs.decision.Rows.{owner_at, vector_at, entry_at, from_at, carried_at, receipt_mark, receiver_mark, to_at, mark_at}
+use Rattle.library_judge.specs.decision.Rows.{owner_at, vector_at, entry_at, from_at, carried_at, receipt_mark, receiver_mark, to_at, mark_at, put_same, put_other}
 use Rattle.library_judge.specs.{decision.Represents.interval_of, decision.Represents.Represents, Kept.Waits, Kept.Kept}
 use Rattle.library_judge.specs.declared.{pattern.State.State, pattern.Sent.Sent, reading.Reading.Reading, reading.Found.Found}
 use Rattle.library_judge.specs.declared.pattern.Fate.TheVariants.{Lost, UnderWay, Received}
 use Rattle.admissions.proofs.Cases.{admission_rules}
 use Rattle.library_judge.specs.Readings.{EnoughRoom, live_row, live_vector, checkpoint_refusal, with_state, with_checkpoint, SendRoom, send_refusal, with_message, is_under_way, found_in_of, settled, with_receipt, DeliverRoom, FirstRows}
 use Rattle.library_judge.proofs.{Begin.own_begin, Begin.begin_represented, Steps.stored_own, Steps.other_own, Steps.sent_own, Steps.received_own}
-use Rattle.library_judge.proofs.Trails.{state_same, state_other, sent_same, sent_other, stores, sends, receives, got_live, got_owner, live_entry_lem, represented_same}
+use Rattle.library_judge.proofs.Trails.{sent_same, sent_other, stores, sends, receives, got_live, got_owner, live_entry_lem, represented_same}
 
 -- One that passes no longer does: the count falls by one.
 count_off : (k : ℕ) (u : ℕ → Bool) (j : ℕ) → j < k → u j ≡ true → count_below k u ≡ count_below k (upd u j false) + 1
@@ -176,10 +176,10 @@ module _ (n read : ℕ) (t : Pattern) (tr : Trail) (R : Reading) (h : Kept n rea
     represented' = stores n tr h.right R.rows R.last S M h.represented i row li (h.row_there i li) (h.row_own i li) (h.row_live i li) (h.wide row (h.row_there i li)) room room_there
 
     own_same : (r : ℕ) → r < R.rows → owner_at S' r ≡ owner_at S r
-    own_same r lr = ap (λ (x : State). x.process) (state_other S R.rows next_state r (λ e. omega arith))
+    own_same r lr = ap (λ (x : State). x.process) (put_other S R.rows next_state r (λ e. omega arith))
 
     own_new : owner_at S' R.rows ≡ i
-    own_new = ap (λ (x : State). x.process) (state_same S R.rows next_state room_there)
+    own_new = ap (λ (x : State). x.process) (put_same S R.rows next_state room_there)
 
     current_new : get_or (set R.current i R.rows) i 0 ≡ R.rows
     current_new = get_or-set_same R.current i R.rows 0 (omega (arith, h.places, h.represented.few))
@@ -202,13 +202,13 @@ module _ (n read : ℕ) (t : Pattern) (tr : Trail) (R : Reading) (h : Kept n rea
         high w = unfold storing in omega (arith, w, ap (λ (q : ℕ). checkpoints (added tr.lists i stored q)) own_new, stored_own tr.lists i)
 
     live_old : (p : ℕ) → p < n → (p ≡ i → ⊥) → interval_of S' (live_row R p) ≡ checkpoints (added tr.lists i stored p)
-    live_old p lp ne = ap (λ (x : State). (entry x.vector x.process).0) (state_other S R.rows next_state (live_row R p) (λ e. omega (arith, h.row_there p lp)))
+    live_old p lp ne = ap (λ (x : State). (entry x.vector x.process).0) (put_other S R.rows next_state (live_row R p) (λ e. omega (arith, h.row_there p lp)))
         ∙ h.row_live p lp ∙ sym (other_own tr.lists i stored p ne)
 
     wide' : (r : ℕ) → r < R.rows + 1 → length (vector_at S' r) ≡ 16
     wide' r lr = by_eq r R.rows
-        (λ e. rw e (ap (λ (x : State). length x.vector) (state_same S R.rows next_state room_there) ∙ long_advanced (h.wide row (h.row_there i li))))
-        (λ ne. ap (λ (x : State). length x.vector) (state_other S R.rows next_state r ne) ∙ h.wide r (omega arith))
+        (λ e. rw e (ap (λ (x : State). length x.vector) (put_same S R.rows next_state room_there) ∙ long_advanced (h.wide row (h.row_there i li))))
+        (λ ne. ap (λ (x : State). length x.vector) (put_other S R.rows next_state r ne) ∙ h.wide r (omega arith))
       where
         long_advanced : length (vector_at S row) ≡ 16 → length (advanced i (vector_at S row)) ≡ 16
         long_advanced e = unfold advanced in length-set (vector_at S row) i _ ∙ e
@@ -451,12 +451,12 @@ module _ (n read : ℕ) (t : Pattern) (tr : Trail) (R : Reading) (h : Kept n rea
         (λ c. rw c (ap (λ (q : ℕ). entry_at S'' got_row q) (owner_then got_row ∙ h.row_own i wait.receiver) ∙ live_now))
         (λ ne.
         let apart : live_row R p ≡ got_row → ⊥ = λ c. ne (sym (h.row_own p lp) ∙ ap (λ (r : ℕ). owner_at S r) c ∙ h.row_own i wait.receiver) in
-        ap (λ (x : State). (entry x.vector x.process).0) (state_other S got_row got_state (live_row R p) apart) ∙ h.row_live p lp)
+        ap (λ (x : State). (entry x.vector x.process).0) (put_other S got_row got_state (live_row R p) apart) ∙ h.row_live p lp)
 
     got_wide : (r : ℕ) → r < R.rows → length (vector_at S'' r) ≡ 16
     got_wide r lr = by_eq r got_row
-        (λ e. rw e (ap (λ (x : State). length x.vector) (state_same S got_row got_state in_states) ∙ long_taken))
-        (λ ne. ap (λ (x : State). length x.vector) (state_other S got_row got_state r ne) ∙ h.wide r lr)
+        (λ e. rw e (ap (λ (x : State). length x.vector) (put_same S got_row got_state in_states) ∙ long_taken))
+        (λ ne. ap (λ (x : State). length x.vector) (put_other S got_row got_state r ne) ∙ h.wide r lr)
       where
         long_taken : length (taken_vector (vector_at S got_row) (carried_at M y)) ≡ 16
         long_taken = unfold taken_vector in length_table {A = Interval} 16 (taken_entry (vector_at S got_row) (carried_at M y))

@@ -1,18 +1,15 @@
 -- What a record of each kind leaves, from what the functions answer and from the invariant.
 -- Assumes nothing.
-use Prim.{tt}
-use Rattle.std.specs.Prelude.{◌≡◌, ◌∷◌, ◌<◌, Result, Ok, Err}
+use Rattle.std.specs.Prelude.{◌≡◌, ◌∷◌, ◌<◌, Result, Err}
 use Rattle.laws.specs.Basics.{refl, ◌∙◌, ap, true, false, not, [], Option, None, Some, ℕ, suc, arith, leb-false, by_bool}
 use Rattle.model.specs.declared.{Event.Event, Refusal.Refusal, Refusal.TheVariants.NotUnderWay, Refusal.TheVariants.MalformedRecord}
 use Rattle.model.specs.declared.Event.TheVariants.{Checkpoint, Send, Deliver, Lose, Recover}
 use Rattle.model.specs.{Refusals.first_of, laws.Refusals.no_rule}
-use Rattle.admissions.specs.Admissions.{Admission, refusal_of}
-use Rattle.admissions.proofs.Cases.{accepted_send}
 use Rattle.theory_patterns.specs.Patterns.{Pattern, record_refusal, taken}
 use Rattle.theory_patterns.proofs.Trail.{Trail, storing, sending}
 use Rattle.library_judge.specs.Kept.{Kept, AfterRecord, Reads}
 use Rattle.library_judge.specs.declared.{reading.Reading.Reading, reading.Found.Found}
-use Rattle.library_judge.specs.Readings.{answer_by, read_by, checkpoint_refusal, with_checkpoint, send_refusal, with_message, found_in_of, drop_refusal, lost_of, received_of}
+use Rattle.library_judge.specs.Readings.{answer_by, read_by, checkpoint_refusal, with_checkpoint, send_refusal, send_free, with_message, found_in_of, drop_refusal, lost_of, received_of}
 use Rattle.library_judge.proofs.Keeping.{found_none, found_at, place_of_lem, checkpoint_refusal_lem, send_refusal_lem, kept_checkpoint, kept_send, kept_lose, after, kept_deliver}
 
 -- A record by its refusal: what is kept is asked for where there is none.
@@ -34,21 +31,12 @@ module _ (n : ℕ) (R : Reading) where
       in_run : checkpoint_refusal n R i ≡ None → i < n
       in_run e = unfold checkpoint_refusal in leb-false n i (no_rule _ e 0)
 
-  -- A send that is not refused.
-  send_free : (i j : ℕ) → send_refusal n R i j ≡ None → (i < n) × (j < n) × (R.underway < 64) × (R.last < 1000000)
-  unfolding send_refusal
-  send_free i j e = accepted_send i j n R.underway R.last (accepted _ e)
-    where
-      accepted : (v : Admission) → refusal_of v ≡ None → v ≡ Ok tt
-      accepted (Ok tt) d = refl
-      accepted (Err why) d = unfold refusal_of in absurd (let z : ◌≡◌ {A = ℕ} 0 1 = cc in omega arith)
-
   pub send_reads : (i j : ℕ) (answer : Result (Unit {0}) Refusal) (R' : Reading) → answer ≡ answer_by (send_refusal n R i j)
       → R' ≡ read_by (send_refusal n R i j) R (with_message R i j) → Reads n R (Some (Send i j)) answer R'
   unfolding Reads
   send_reads i j answer R' a b read t tr more h =
       by_record n R R' (with_message R i j) answer (Some (Send i j)) read t (send_refusal n R i j) (send_refusal_lem n read t tr R h more i j) a b
-      (λ e. let free = send_free i j e in (sending tr h.right i, kept_send n read t tr R h more i j free.0 free.1 free.2))
+      (λ e. let free = send_free n R i j e in (sending tr h.right i, kept_send n read t tr R h more i j free.0 free.1 free.2))
 
   off_way : (t : Pattern) (m : ℕ) → t.underway m ≡ false → first_of (record { holds = not (t.underway m); gives = NotUnderWay } ∷ []) ≡ Some NotUnderWay
   unfolding first_of

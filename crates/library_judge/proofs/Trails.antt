@@ -11,7 +11,7 @@ use Rattle.whole_runs.specs.Survival.{added}
 use Rattle.theory_patterns.specs.Paths.{event_at}
 use Rattle.theory_patterns.proofs.Trail.{Trail, own, Right, storing, sending, receiving, receiving_right}
 use Rattle.library_judge.specs.declared.{pattern.State.State, pattern.Fate.TheVariants.UnderWay, pattern.Fate.TheVariants.Received, pattern.Sent.Sent}
-use Rattle.library_judge.specs.decision.Rows.{no_state, no_sent, owner_at, vector_at, entry_at, from_at, carried_at, receipt_mark, to_at}
+use Rattle.library_judge.specs.decision.Rows.{no_state, no_sent, owner_at, vector_at, entry_at, from_at, carried_at, receipt_mark, to_at, put_same, put_other}
 use Rattle.library_judge.specs.decision.Represents.{interval_of, Represents}
 use Rattle.library_judge.proofs.decision.Verdict.{received_row}
 use Rattle.library_judge.proofs.Steps.{placed_to, represented_stored, represented_sent, represented_received, received_own}
@@ -35,14 +35,7 @@ taken_entry_lem : (own carried : List Interval) (f : ℕ) → f < 16 → (entry 
 unfolding taken_vector taken_entry
 taken_entry_lem own carried f h = ap (λ (x : Interval). x.0) (get_d_table 16 (taken_entry own carried) f (record { 0 = 0 }) h) ∙ greater (entry own f) (entry carried f)
 
--- One state, or one message, is put in its place.
-module _ (vs : List State) (r : ℕ) (x : State) where
-  pub state_same : r < length vs → get_or (set vs r x) r no_state ≡ x
-  state_same h = get_or-set_same vs r x no_state h
-
-  pub state_other : (q : ℕ) → (q ≡ r → ⊥) → get_or (set vs r x) q no_state ≡ get_or vs q no_state
-  state_other q ne = get_or-set_other vs r q x no_state ne
-
+-- One message is put in its place.
 module _ (ms : List Sent) (m : ℕ) (x : Sent) where
   pub sent_same : m < length ms → get_or (set ms m x) m no_sent ≡ x
   sent_same h = get_or-set_same ms m x no_sent h
@@ -89,10 +82,10 @@ module _ (n : ℕ) (t : Trail) (v : Right t) (rows last : ℕ) (vs : List State)
 
     pub stores : rows < 4112 → rows < length vs → Represents n (storing t v i).lists (storing t v i).vector (suc rows) last (set vs rows next_state) ms
     stores room long = lists_same (represented_stored n t.lists t.vector (storing t v i).vector rows last vs ms h i (set vs rows next_state) li room
-        (λ r f l lf. ap (λ (x : State). (entry x.vector f).0) (state_other vs rows next_state r (λ e. omega arith)))
-        (λ r l. ap (λ (x : State). x.process) (state_other vs rows next_state r (λ e. omega arith)))
-        (ap (λ (x : State). x.process) (state_same vs rows next_state long))
-        (λ f lf. ap (λ (x : State). (entry x.vector f).0) (state_same vs rows next_state long) ∙ stored_entry f lf)
+        (λ r f l lf. ap (λ (x : State). (entry x.vector f).0) (put_other vs rows next_state r (λ e. omega arith)))
+        (λ r l. ap (λ (x : State). x.process) (put_other vs rows next_state r (λ e. omega arith)))
+        (ap (λ (x : State). x.process) (put_same vs rows next_state long))
+        (λ f lf. ap (λ (x : State). (entry x.vector f).0) (put_same vs rows next_state long) ∙ stored_entry f lf)
         stored_own_new stored_old)
       where
         lists_same : Represents n (added t.lists i stored) (storing t v i).vector (suc rows) last (set vs rows next_state) ms
@@ -150,7 +143,7 @@ module _ (n : ℕ) (t : Trail) (v : Right t) (rows last : ℕ) (vs : List State)
         ∙ ap (λ (x : ℕ). max (t.vector i (own t i) f) x) (carries f lf) ∙ sym (got_new f)
 
     put_entry : (f : ℕ) → f < 16 → entry_at (set vs row got_state) row f ≡ after.vector i (own t i) f
-    put_entry f lf = ap (λ (x : State). (entry x.vector f).0) (state_same vs row got_state in_states) ∙ got_entry f lf
+    put_entry f lf = ap (λ (x : State). (entry x.vector f).0) (put_same vs row got_state in_states) ∙ got_entry f lf
 
     -- The live row of the receiver still has its own entry.
     pub got_live : entry_at (set vs row got_state) row i ≡ own t i
@@ -158,8 +151,8 @@ module _ (n : ℕ) (t : Trail) (v : Right t) (rows last : ℕ) (vs : List State)
 
     pub got_owner : (r : ℕ) → owner_at (set vs row got_state) r ≡ owner_at vs r
     got_owner r = by_eq r row
-        (λ e. rw e (ap (λ (x : State). x.process) (state_same vs row got_state in_states)))
-        (λ ne. ap (λ (x : State). x.process) (state_other vs row got_state r ne))
+        (λ e. rw e (ap (λ (x : State). x.process) (put_same vs row got_state in_states)))
+        (λ ne. ap (λ (x : State). x.process) (put_other vs row got_state r ne))
 
     got_from : (m : ℕ) → from_at (set ms y got_sent) m ≡ from_at ms m
     got_from m = by_eq m y
@@ -169,7 +162,7 @@ module _ (n : ℕ) (t : Trail) (v : Right t) (rows last : ℕ) (vs : List State)
     pub receives : Represents n after.lists after.vector rows last (set vs row got_state) (set ms y got_sent)
     receives =
         lists_same (represented_received n t.lists t.vector after.vector rows last vs ms h i row y (set vs row got_state) (set ms y got_sent) ly lr own_row live
-        (λ r f ne lf. ap (λ (x : State). (entry x.vector f).0) (state_other vs row got_state r ne))
+        (λ r f ne lf. ap (λ (x : State). (entry x.vector f).0) (put_other vs row got_state r ne))
         put_entry got_self got_old got_owner got_from
         (λ m ne. ap (λ (x : Sent). receipt_mark x.fate) (sent_other ms y got_sent m ne))
         (ap (λ (x : Sent). receipt_mark x.fate) (sent_same ms y got_sent in_messages)) not_got)

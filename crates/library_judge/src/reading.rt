@@ -12,6 +12,7 @@ ghost use Rattle.library_judge.specs.Readings.{answer_by, read_by, with_state, s
 use crate::pattern::{Fate, Sent, State};
 use model::{Event, Interval, PROCESSES, Refusal};
 use theory_patterns::MOST_JUDGED;
+use trace::reader::Reader;
 
 // A row for each process and one for each record.
 pub const ROWS: usize = MOST_JUDGED + PROCESSES;
@@ -184,8 +185,8 @@ impl Reading {
         requires { FirstRows n self.old × (n ≤ most_processes) × (1 ≤ length trace.now) × (length trace.now ≤ 4 * most_judged + 4) }
         ensures { ReadsAll n trace.now result self.new }
     {
-        for taken in 0..(trace.len() - 1) / 4 {
-            self.record(n, trace::reader::record_after(trace, taken))?;
+        for part in Reader::open(trace) {
+            self.record(n, part)?;
         }
         if (trace.len() - 1) % 4 != 0 {
             return Err(Refusal::LeftOverBytes);

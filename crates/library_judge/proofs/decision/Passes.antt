@@ -76,7 +76,7 @@ module _ (S : List State) (M : List Sent) (g : Linked S M) where
   last = length M
 
   receiver_in : (m : ℕ) → m < last → (to_at M m ≡ 0 → ⊥) → receiver_of S M m < 16
-  receiver_in m h ne = g.1.1 (to_at M m - 1) (omega (arith, (g.0 m h).1, ne))
+  receiver_in m h ne = (g m h).3 ne
 
   pub relaxed_cases : (m : ℕ) (p : Pass) → Moves S M m p ⊎ ((relaxed_at S M m p ≡ p) × Holds S M m p.reach)
   unfolding relaxed_by
@@ -96,7 +96,7 @@ module _ (S : List State) (M : List Sent) (g : Linked S M) where
       let q = receiver_of S M m in
       let s = sender_of S M m in
       let inside : q < length p.reach = omega (arith, w.size, receiver_in m h v.there) in
-      let there : get_or p.reach s None ≡ Some (reach_at p.reach s) = some_row (get_or p.reach s None) (omega (arith, v.lowers.from, (g.0 m h).0, g.1.0)) in
+      let there : get_or p.reach s None ≡ Some (reach_at p.reach s) = some_row (get_or p.reach s None) (omega (arith, v.lowers.from, (g m h).1.0)) in
       rw v.is (record {
         size = length-set p.reach q (Some b) ∙ w.size;
         lower = λ x. by_eq x q

@@ -1,7 +1,7 @@
 -- Which received messages cross.
 -- Assumes nothing.
 use Rattle.std.specs.Prelude.{◌≡◌, ◌&&◌, ◌+◌, ◌-◌, ◌≤◌, ◌<◌}
-use Rattle.laws.specs.Basics.{◌∙◌, ap, Bool, not, List, Option, None, Some, ℕ, eqb, ltb, min, length, get_or, pick}
+use Rattle.laws.specs.Basics.{sym, ◌∙◌, ap, Bool, not, List, Option, None, Some, ℕ, eqb, ltb, min, length, get_or, pick}
 use Rattle.laws.specs.Loops.{iter, iter_none, iter_more}
 use Rattle.theory_patterns.specs.declared.End.{End}
 use Rattle.library_judge.specs.declared.pattern.{State.State, Sent.Sent}
@@ -55,3 +55,7 @@ abbrev pub NearEnd : List State → List Sent → ℕ → Option End → Type 0
 NearEnd states messages n None = (f : ℕ) → f < n → least_crossing_of states messages f (length messages) ≡ None
 NearEnd states messages n (Some e) = (e.process < n) × (least_crossing_of states messages e.process (length messages) ≡ Some e.index.0)
     × ((f : ℕ) → f < e.process → least_crossing_of states messages f (length messages) ≡ None)
+
+-- What is found, for an option equal to it.
+pub found_is : (r v : Option ℕ) (x : ℕ) → r ≡ v → r ≡ Some x → v ≡ Some x
+found_is r v x e t = sym e ∙ t

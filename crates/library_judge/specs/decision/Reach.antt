@@ -5,14 +5,16 @@ use Rattle.laws.specs.Basics.{Bool, true, List, Option, None, Some, ℕ, zero, s
 use Rattle.model.specs.Words.{most_processes}
 use Rattle.library_judge.specs.declared.pattern.{State.State, Sent.Sent}
 use Rattle.library_judge.specs.decision.Rows.{most_rows, no_sent, owner_at, entry_at, from_at, to_at, receipt_mark, reach_at}
-use Rattle.library_judge.specs.decision.Crossings.{Sized}
+use Rattle.library_judge.specs.decision.Crossings.{Inside}
 
--- Every row has its process, and every row that a message names is there.
-abbrev pub Owned : List State → Type 0
-Owned states = (length states ≤ most_rows) × ((r : ℕ) → r < length states → owner_at states r < most_processes)
+-- The rows that a message names are there, are no more than a trace has (none is a number above them), and have their processes.
+abbrev pub Joins : List State → Sent → Type 0
+Joins states x = Inside (length states) x × Inside most_rows x × (owner_at states x.from < most_processes)
+    × ((receipt_mark x.fate ≡ 0 → ⊥) → owner_at states (receipt_mark x.fate - 1) < most_processes)
 
+-- So it is of every message. Of a row that none names nothing is asked.
 abbrev pub Linked : List State → List Sent → Type 0
-Linked states messages = Sized states messages × Owned states
+Linked states messages = (m : ℕ) → m < length messages → Joins states (get_or messages m no_sent)
 
 -- The process of a message's send, and of its receipt.
 abbrev pub sender_of : List State → List Sent → ℕ → ℕ

@@ -1,6 +1,7 @@
 -- The states and the messages of a trace by their places: row r is the state in place r, and message m + 1 has place m.
 -- Assumes nothing.
-use Rattle.laws.specs.Basics.{List, [], Option, None, Some, ℕ, suc, get_or}
+use Rattle.std.specs.Prelude.{◌≡◌, ◌<◌}
+use Rattle.laws.specs.Basics.{refl, List, [], Option, None, Some, ℕ, suc, length, get_or, set, length-set, get_or-set_same, get_or-set_other}
 use Rattle.model.specs.declared.Interval.{Interval}
 use Rattle.model.specs.Words.{entry}
 use Rattle.library_judge.specs.declared.pattern.{State.State, Fate.Fate, Fate.TheVariants.Lost, Fate.TheVariants.UnderWay, Fate.TheVariants.Received, Sent.Sent}
@@ -25,6 +26,21 @@ vector_at states r = (get_or states r no_state).vector
 
 abbrev pub entry_at : List State → ℕ → ℕ → ℕ
 entry_at states r f = (entry (vector_at states r) f).0
+
+-- The state that is put is there, and every other row stays.
+module _ (states : List State) (r : ℕ) (x : State) where
+  pub put_length : length (set states r x) ≡ length states
+  put_length = length-set states r x
+
+  pub put_same : r < length states → get_or (set states r x) r no_state ≡ x
+  put_same h = get_or-set_same states r x no_state h
+
+  pub put_other : (q : ℕ) → (q ≡ r → ⊥) → get_or (set states r x) q no_state ≡ get_or states q no_state
+  put_other q ne = get_or-set_other states r q x no_state ne
+
+-- Entry f of a row that is read.
+pub row_entry : (states : List State) (r f : ℕ) → entry (vector_at states r) f ≡ record { 0 = entry_at states r f }
+row_entry states r f = refl
 
 -- The row in which message m was sent, and what it carries.
 abbrev pub from_at : List Sent → ℕ → ℕ

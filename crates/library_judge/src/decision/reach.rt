@@ -2,7 +2,7 @@
 ghost use Rattle.std.specs.Prelude.{◌≡◌, ◌||◌, ◌<◌};
 ghost use Rattle.laws.specs.Basics.{Bool, false, length};
 ghost use Rattle.model.specs.Words.{most_processes};
-ghost use Rattle.library_judge.specs.decision.{Crossings.Inside, Reach.Owned, Reach.Linked, Reach.relaxed_by, Reach.passed, Reach.Closure, Reach.FirstRow};
+ghost use Rattle.library_judge.specs.decision.{Reach.Joins, Reach.Linked, Reach.relaxed_by, Reach.passed, Reach.Closure, Reach.FirstRow};
 
 use crate::pattern::{Fate, Sent, State};
 use model::PROCESSES;
@@ -20,7 +20,7 @@ pub fn first_row(states: &[State], near: End) -> Option<usize>
 // One message: what its sender's reached interval lets it lower, and whether it does.
 #[tactic(auto, unfolding(crate::specs::decision::Reach::relaxed_by, crate::specs::decision::Reach::lowered_by))]
 fn relax(reach: &mut [Option<usize>; PROCESSES], states: &[State], message: &Sent) -> bool
-    requires { Inside (length states.now) message.now × Owned states.now }
+    requires { Joins states.now message.now }
     ensures { (c : Bool) → record { reach = reach.new; changed = c || result } ≡ relaxed_by states.now message.now (record { reach = reach.old; changed = c }) }
 {
     match message.fate {

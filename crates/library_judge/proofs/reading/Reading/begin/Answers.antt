@@ -1,24 +1,24 @@
 -- `library_judge::reading::Reading::begin` meets its contract.
 -- Assumes nothing.
 use Rattle.std.specs.Prelude.{◌≡◌}
-use Rattle.laws.specs.Basics.{◌∙◌, length-set, arith, rules}
+use Rattle.laws.specs.Basics.{refl, ◌∙◌, arith, rules}
 use Rattle.model.specs.Words.{ones}
-use Rattle.library_judge.specs.Readings.{with_state}
-use Rattle.library_judge.proofs.Begin.{first_more}
+use Rattle.library_judge.specs.Readings.{with_state, first_step}
 use Rattle.library_judge.proofs.reading.Reading.begin.Goals as goal
 
 pub loop-p-preserved : goal.loop-p-preserved
 unfolding with_state
 loop-p-preserved c =
     let l = c.loop-p in let w = l.invariant in
+    let s = first_step l.p l.self _ (search rules) (omega (arith, w.room)) w.places w.rows (c.first_vector.ensures ones) w.first _ refl in
     rw c.add_state.ensures (record {
-      first = first_more l.p l.self _ (search rules) w.room w.places w.rows (c.first_vector.ensures ones) w.first;
+      first = s.1;
       rows = omega (arith, w.rows);
       last = w.last;
       underway = w.underway;
-      room = length-set _ _ _ ∙ w.room;
+      room = s.0 ∙ w.room;
       sent_room = w.sent_room;
-      places = length-set _ _ _ ∙ w.places;
+      places = s.2;
     })
 
 pub returns : goal.returns
