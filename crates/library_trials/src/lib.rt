@@ -14,7 +14,7 @@ ghost use Rattle.library_trials.specs.Steps.{after, action_of, forced_by_of, num
 
 use model::{DELETIONS, DeliverAnswer, Delivery, MESSAGES, PROCESSES, Refusal};
 use theory_recording::spacing::{
-    MOST_SPACING, MOST_STEPS, TrialFigures, TrialResult, draws, figures,
+    MOST_SPACING, MOST_STEPS, NO_FIGURES, TrialFigures, TrialResult, draws, figures,
 };
 use words::{WORDS, places};
 
@@ -210,7 +210,7 @@ fn run_steps(n: usize, k: u32, steps: u32, seed: u32) -> Simulation
     simulation
 }
 
-// A simulation of n processes with this spacing, this many steps and this starting value: its figures, or 22.
+// A simulation of n processes with this spacing, this many steps and this starting value: its figures, or 22 and zeros.
 pub fn simulate(n: usize, spacing: u32, steps: u32, seed: u32) -> TrialResult
     ensures value { result ≡ simulated n spacing steps seed }
     ensures agrees_with_replay { trial_refusal n spacing steps ≡ None → AgreesWithReplay n spacing steps seed }
@@ -219,7 +219,13 @@ pub fn simulate(n: usize, spacing: u32, steps: u32, seed: u32) -> TrialResult
         || figures::is_outside(1, MOST_SPACING, spacing as usize)
         || figures::is_outside(1, MOST_STEPS, steps as usize)
     {
-        return Err(Refusal::TrialOutsideRange);
+        return TrialResult {
+            answer: Err(Refusal::TrialOutsideRange),
+            figures: NO_FIGURES,
+        };
     }
-    Ok(run_steps(n, spacing, steps, seed).figures())
+    TrialResult {
+        answer: Ok(()),
+        figures: run_steps(n, spacing, steps, seed).figures(),
+    }
 }
