@@ -19,8 +19,8 @@ returns-then-is_outside c =
     ] in
     record { value = outside; agrees_with_replay = trials_agree a.n a.spacing a.steps a.seed }
 
-pub run_steps-requires : goal.run_steps-requires
-run_steps-requires c =
+pub run-requires : goal.run-requires
+run-requires c =
     let a = c.args in
     let inside = all_inside a.n a.spacing a.steps a.seed c.if-is_outside.ensures c.if-is_outside-2.ensures c.if-is_outside-3.ensures in
     let range = trial_out a.n a.spacing a.steps inside in
@@ -31,11 +31,11 @@ unfolding trial_of
 figures-requires c =
     let a = c.args in
     let inside = all_inside a.n a.spacing a.steps a.seed c.if-is_outside.ensures c.if-is_outside-2.ensures c.if-is_outside-3.ensures in
-    small_forced a.n a.spacing a.steps a.seed _ (trial_out a.n a.spacing a.steps inside).few_steps c.run_steps.ensures
+    small_forced a.n a.spacing a.steps a.seed _ (trial_out a.n a.spacing a.steps inside).few_steps c.run.ensures
 
 pub returns : goal.returns
 unfolding TrialsAgree
 returns c =
     let a = c.args in
     let inside = all_inside a.n a.spacing a.steps a.seed c.if-is_outside.ensures c.if-is_outside-2.ensures c.if-is_outside-3.ensures in
-    record { value = rw c.figures.ensures (figures_are a.n a.spacing a.steps a.seed _ inside c.run_steps.ensures); agrees_with_replay = trials_agree a.n a.spacing a.steps a.seed }
+    record { value = rw c.figures.ensures (figures_are a.n a.spacing a.steps a.seed _ inside c.run.ensures); agrees_with_replay = trials_agree a.n a.spacing a.steps a.seed }
