@@ -1,5 +1,6 @@
 -- For C: the verdict on a trace of another run-time as one number; the answer to a merge; the figures of a simulation in a lent list.
 -- Assumes nothing.
+use Prim.{tt}
 use Rattle.std.specs.Prelude.{◌∷◌, ◌+◌, ◌*◌, ◌<◌, Ok, Err}
 use Rattle.laws.specs.Basics.{List, [], Option, None, Some, ℕ, ltb, length, pick}
 use Rattle.model.specs.Shapes.{MergeAnswer}
@@ -8,7 +9,7 @@ use Rattle.whole_runs.specs.Outcomes.{written, refusing, accepting}
 use Rattle.listing.specs.answers.Codes.{coded}
 use Rattle.theory_merges.specs.Merge.{merge_report}
 use Rattle.theory_patterns.specs.Verdicts.{Pair, JudgeReport, Verdict, judge_report}
-use Rattle.theory_recording.specs.{declared.spacing.TrialFigures.TrialFigures, spacing.Spacing.TrialResult, spacing.Spacing.simulated}
+use Rattle.theory_recording.specs.{declared.spacing.TrialFigures.TrialFigures, declared.spacing.TrialResult.TrialResult, spacing.Spacing.TrialAnswer, spacing.Spacing.simulated}
 use Rattle.library_readers.specs.Readings.{Reading}
 
 -- Bits 0 to 7 the number of the refusal, 0 if none; bit 8 whether a pair of states breaks; bits 16 to 23 the process of its near
@@ -38,9 +39,12 @@ abbrev pub figures_of : TrialFigures → List ℕ
 figures_of r = r.deliveries ∷ r.forced ∷ r.most ∷ r.quotient ∷ r.remainder ∷ []
 
 -- Refused, the lent list keeps every entry; accepted, the five figures stand at its front and the rest of it is unchanged.
-unfoldable pub figures_written : TrialResult → List ℕ → Reading
-figures_written (Err why) lent = record { report = refusing why; list = lent }
-figures_written (Ok r) lent = record { report = accepting None 0; list = written lent (figures_of r) }
+unfoldable pub figures_after : TrialAnswer → List ℕ → List ℕ → Reading
+figures_after (Err why) numbers lent = record { report = refusing why; list = lent }
+figures_after (Ok tt) numbers lent = record { report = accepting None 0; list = written lent numbers }
+
+abbrev pub figures_written : TrialResult → List ℕ → Reading
+figures_written r lent = figures_after r.answer (figures_of r.figures) lent
 
 -- 3, a list with fewer than five entries, is judged before 22.
 unfoldable pub simulation : ℕ → ℕ → ℕ → ℕ → List ℕ → Reading

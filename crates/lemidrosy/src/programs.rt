@@ -92,9 +92,10 @@ fn write_figures(figures: &mut [u64], res: TrialResult) -> u64
     ensures value { result ≡ coded (figures_written res figures.old).report 0 }
     ensures figures_after { figures.new ≡ (figures_written res figures.old).list }
 {
-    match res {
+    let found = res.figures;
+    match res.answer {
         Err(why) => listing::summaries::number_of(why) as u64,
-        Ok(found) => {
+        Ok(()) => {
             figures[0] = found.deliveries as u64;
             figures[1] = found.forced as u64;
             figures[2] = found.most as u64;

@@ -1,5 +1,6 @@
 -- What holds of a trial under way, and a step as the code takes it.
 -- Assumes nothing.
+use Prim.{tt}
 use Rattle.std.specs.Prelude.{◌≡◌, ◌&&◌, ◌∷◌, ◌+◌, ◌*◌, ◌%◌, ◌≤◌, ◌<◌, Ok, Err}
 use Rattle.laws.specs.Basics.{refl, sym, ◌∙◌, ap, Bool, true, false, List, [], Option, None, Some, ℕ, suc, max, arith, eqb, length, get_or, set, replicate, pick}
 use native.Mathlib.{Numerals.add-one, Nat.mod-lt}
@@ -10,12 +11,12 @@ use Rattle.whole_runs.specs.{Outcomes.Outcome, Outcomes.start_outcome, WholeRuns
 use Rattle.words.specs.Layout.{run_of}
 use Rattle.in_place.specs.Starting.{start_outcome_in, StartsTheSame}
 use Rattle.in_place.proofs.Judging.{starts_the_same}
-use Rattle.theory_recording.specs.{Replay.state_after_events, spacing.Trial.Trial}
+use Rattle.theory_recording.specs.{Replay.state_after_events, spacing.Trial.Trial, declared.spacing.TrialResult.TrialResult}
 use Rattle.whole_runs.proofs.{WholeRuns.started_state, WholeRuns.reachable_sound, Traced.traced_reachable}
 use Rattle.theory_recording.proofs.{Replay.traced_events, spacing.Accepted.ones_start, spacing.Accepted.tried, spacing.Agreement.result_is_lem}
-use Rattle.theory_recording.specs.spacing.Spacing.{draw, generated, drawn_process, drawn_number, action, is_due_of, step_events, most_kept_of, stepped, trial_start, trial_after, out_of_range, trial_refusal, figures, simulated}
+use Rattle.theory_recording.specs.spacing.Spacing.{draw, generated, drawn_process, drawn_number, action, is_due_of, step_events, most_kept_of, stepped, trial_start, trial_after, out_of_range, trial_refusal, figures, no_figures, simulated}
 use Rattle.theory_recording.proofs.spacing.Counts.{small_trial, trial_traced, going_count}
-use Rattle.library_trials.specs.declared.{Action.Action, Simulation.Simulation}
+use Rattle.library_trials.specs.declared.{Action.Action}
 use Rattle.library_trials.specs.Steps.{trial_of, events_in, after, action_of, Underway}
 use Rattle.library_trials.proofs.Actions.{run_by_parts, deliveries_by_parts, forced_by_parts, acted_by_parts}
 
@@ -133,21 +134,24 @@ one_stepped n k i seed z next e f = f ∙ ap (stepped n k) e ∙ ap (λ (j : ℕ
 forced_few : (n k i seed : ℕ) → i ≤ 30000 → (trial_after n k i seed).forced ≤ 30000
 forced_few n k i seed few = let small = small_trial n k i seed in omega (arith, small.deliveries, small.forced)
 
--- The answers: a trial is refused for any of three reasons, with one number.
+-- The answers: a trial is refused for any of three reasons, with one number and figures that are all 0.
+abbrev pub refused_result : TrialResult
+refused_result = record { answer = Err TrialOutsideRange; figures = no_figures }
+
 module _ (n k steps seed : ℕ) where
-  refused_is : trial_refusal n k steps ≡ Some TrialOutsideRange → Err TrialOutsideRange ≡ simulated n k steps seed
+  refused_is : trial_refusal n k steps ≡ Some TrialOutsideRange → refused_result ≡ simulated n k steps seed
   unfolding simulated
   refused_is e = rw e
 
-  pub count_outside : true ≡ out_of_range 1 16 n → Err TrialOutsideRange ≡ simulated n k steps seed
+  pub count_outside : true ≡ out_of_range 1 16 n → refused_result ≡ simulated n k steps seed
   unfolding trial_refusal
   count_outside a = refused_is (refusal_in _ (Some TrialOutsideRange) (0, tt, sym a, refl))
 
-  pub spacing_outside : false ≡ out_of_range 1 16 n → true ≡ out_of_range 1 1000 k → Err TrialOutsideRange ≡ simulated n k steps seed
+  pub spacing_outside : false ≡ out_of_range 1 16 n → true ≡ out_of_range 1 1000 k → refused_result ≡ simulated n k steps seed
   unfolding trial_refusal
   spacing_outside a b = refused_is (refusal_in _ (Some TrialOutsideRange) (1, (sym a, tt), sym b, refl))
 
-  pub steps_outside : false ≡ out_of_range 1 16 n → false ≡ out_of_range 1 1000 k → true ≡ out_of_range 1 30000 steps → Err TrialOutsideRange ≡ simulated n k steps seed
+  pub steps_outside : false ≡ out_of_range 1 16 n → false ≡ out_of_range 1 1000 k → true ≡ out_of_range 1 30000 steps → refused_result ≡ simulated n k steps seed
   unfolding trial_refusal
   steps_outside a b c = refused_is (refusal_in _ (Some TrialOutsideRange) (2, (sym a, (sym b, tt)), sym c, refl))
 
@@ -155,8 +159,8 @@ module _ (n k steps seed : ℕ) where
   unfolding trial_refusal
   all_inside a b c = refusal_in _ None (sym a, (sym b, (sym c, tt)))
 
-  pub figures_are : (z : Trial) → trial_refusal n k steps ≡ None → z ≡ trial_after n k steps seed → Ok (figures z) ≡ simulated n k steps seed
-  figures_are z e is = ap (λ (x : Trial). Ok (figures x)) is ∙ sym (result_is_lem n k steps seed e)
+  pub figures_are : (z : Trial) → trial_refusal n k steps ≡ None → z ≡ trial_after n k steps seed → record { answer = Ok tt; figures = figures z } ≡ simulated n k steps seed
+  figures_are z e is = rw is (sym (result_is_lem n k steps seed e))
 
 pub small_forced : (n k i seed : ℕ) (z : Trial) → i ≤ 30000 → z ≡ trial_after n k i seed → z.forced ≤ 30000
 small_forced n k i seed z few e = rw e (forced_few n k i seed few)

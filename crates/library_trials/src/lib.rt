@@ -14,12 +14,12 @@ ghost use Rattle.library_trials.specs.Steps.{after, action_of, forced_by_of, num
 
 use model::{DELETIONS, DeliverAnswer, Delivery, MESSAGES, PROCESSES, Refusal};
 use theory_recording::spacing::{
-    MOST_SPACING, MOST_STEPS, TrialFigures, TrialResult, draws, figures,
+    MOST_SPACING, MOST_STEPS, NO_FIGURES, TrialFigures, TrialResult, draws, figures,
 };
 use words::{WORDS, places};
 
 // A trial between two steps: the words that its state stands in, the generator's last value, how many sends and deliveries of its own each process has done, and
-// the figures so far.
+// the figures so far. `simulate` makes it and lends it down, so that its words, 12,928 bytes, stand once on the stack.
 #[derive(Drop)]
 struct Simulation {
     words: [u16; WORDS],
@@ -144,24 +144,20 @@ fn most_kept(w: &[u16; WORDS], n: usize) -> usize
     most
 }
 
-// The trial before its first step.
-fn begin(n: usize, seed: u32) -> Simulation
-    requires { (1 ≤ n) × (n ≤ most_processes) }
-    ensures { trial_of result ≡ trial_start n seed }
-{
-    let mut words = [0u16; WORDS];
-    let answer = in_place::start::start(&mut words, n, &[1u32; PROCESSES]);
-    Simulation {
-        words,
-        value: seed,
-        acted: [0; PROCESSES],
-        deliveries: 0,
-        forced: 0,
-        most: 0,
-    }
-}
-
 impl Simulation {
+    // The trial before its first step.
+    fn begin(&mut self, n: usize, seed: u32)
+        requires { (1 ≤ n) × (n ≤ most_processes) }
+        ensures { trial_of self.new ≡ trial_start n seed }
+    {
+        let answer = in_place::start::start(&mut self.words, n, &[1u32; PROCESSES]);
+        self.value = seed;
+        self.acted = [0; PROCESSES];
+        self.deliveries = 0;
+        self.forced = 0;
+        self.most = 0;
+    }
+
     // One step.
     fn step(&mut self, n: usize, k: u32)
         requires { Underway n k (trial_of self.old) }
@@ -183,6 +179,17 @@ impl Simulation {
         self.most = self.most.max(most_kept(&self.words, n));
     }
 
+    // That many steps from the start.
+    fn run(&mut self, n: usize, k: u32, steps: u32, seed: u32)
+        requires { (1 ≤ n) × (n ≤ most_processes) × (1 ≤ k) × (steps ≤ most_steps) }
+        ensures { trial_of self.new ≡ trial_after n k steps seed }
+    {
+        self.begin(n, seed);
+        for _ in 0..steps {
+            self.step(n, k);
+        }
+    }
+
     // The five figures of a trial.
     fn figures(&self) -> TrialFigures
         requires { self.now.forced ≤ most_steps }
@@ -198,19 +205,7 @@ impl Simulation {
     }
 }
 
-// That many steps.
-fn run_steps(n: usize, k: u32, steps: u32, seed: u32) -> Simulation
-    requires { (1 ≤ n) × (n ≤ most_processes) × (1 ≤ k) × (steps ≤ most_steps) }
-    ensures { trial_of result ≡ trial_after n k steps seed }
-{
-    let mut simulation = begin(n, seed);
-    for _ in 0..steps {
-        simulation.step(n, k);
-    }
-    simulation
-}
-
-// A simulation of n processes with this spacing, this many steps and this starting value: its figures, or 22.
+// A simulation of n processes with this spacing, this many steps and this starting value: its figures, or 22 and zeros.
 pub fn simulate(n: usize, spacing: u32, steps: u32, seed: u32) -> TrialResult
     ensures value { result ≡ simulated n spacing steps seed }
     ensures agrees_with_replay { trial_refusal n spacing steps ≡ None → AgreesWithReplay n spacing steps seed }
@@ -219,7 +214,22 @@ pub fn simulate(n: usize, spacing: u32, steps: u32, seed: u32) -> TrialResult
         || figures::is_outside(1, MOST_SPACING, spacing as usize)
         || figures::is_outside(1, MOST_STEPS, steps as usize)
     {
-        return Err(Refusal::TrialOutsideRange);
+        return TrialResult {
+            answer: Err(Refusal::TrialOutsideRange),
+            figures: NO_FIGURES,
+        };
     }
-    Ok(run_steps(n, spacing, steps, seed).figures())
+    let mut simulation = Simulation {
+        words: [0; WORDS],
+        value: seed,
+        acted: [0; PROCESSES],
+        deliveries: 0,
+        forced: 0,
+        most: 0,
+    };
+    simulation.run(n, spacing, steps, seed);
+    TrialResult {
+        answer: Ok(()),
+        figures: simulation.figures(),
+    }
 }

@@ -1,13 +1,14 @@
 -- What the program prints of a result: its five figures, each with its name, one a line, or `refused R`; the row of a table; and of four numbers, all that it prints.
 -- Numbers are decimal.
 -- Assumes nothing.
+use Prim.{tt}
 use Rattle.std.specs.Prelude.{◌∷◌, ◌++◌, ◌+◌, ◌-◌, Ok, Err}
 use Rattle.laws.specs.Basics.{List, [], ℕ, zero, suc, pick}
 use Rattle.model.specs.declared.Refusal.TheVariants.{TrialOutsideRange}
 use Rattle.whole_runs.specs.Listing.{decimal, space, line_feed}
 use Rattle.machines.specs.{programs.Numbers.at_most, programs.Texts.figure_text, programs.Texts.refused_text}
-use Rattle.theory_recording.specs.spacing.Spacing.{TrialResult, figures_in, simulated}
-use Rattle.theory_recording.specs.declared.spacing.TrialFigures.{TrialFigures}
+use Rattle.theory_recording.specs.spacing.Spacing.{TrialAnswer, simulated}
+use Rattle.theory_recording.specs.declared.{spacing.TrialFigures.TrialFigures, spacing.TrialResult.TrialResult}
 use Rattle.machine_simulate.specs.declared.arguments.Numbers.{Numbers}
 use Rattle.machine_simulate.specs.Arguments.{is_wrong_of, is_refused}
 
@@ -31,14 +32,18 @@ unfoldable pub figures_text : TrialFigures → List ℕ
 figures_text r = figure_text deliveries_name r.deliveries
     ++ (figure_text forced_name r.forced ++ (figure_text most_name r.most ++ (figure_text quotient_name r.quotient ++ figure_text remainder_name r.remainder)))
 
-unfoldable pub result_text : TrialResult → List ℕ
-result_text (Err why) = refused_text why
-result_text (Ok figures) = figures_text figures
+-- What is printed of an answer, where `text` are its figures.
+unfoldable pub answer_text : TrialAnswer → List ℕ → List ℕ
+answer_text (Err why) text = refused_text why
+answer_text (Ok tt) text = text
 
--- The spacing and the five figures, single spaces between; all figures are 0 of a simulation that is refused.
+unfoldable pub result_text : TrialResult → List ℕ
+result_text r = answer_text r.answer (figures_text r.figures)
+
+-- The spacing and the five figures, single spaces between.
 unfoldable pub row_text : ℕ → TrialResult → List ℕ
 row_text spacing r =
-    let f = figures_in r in
+    let f = r.figures in
     decimal spacing
     ++ ((space ∷ decimal f.deliveries) ++ ((space ∷ decimal f.forced) ++ ((space ∷ decimal f.most)
     ++ ((space ∷ decimal f.quotient) ++ ((space ∷ decimal f.remainder) ++ (line_feed ∷ []))))))

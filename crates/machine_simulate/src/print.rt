@@ -6,7 +6,7 @@ ghost use Rattle.listing.specs.Printed.{Printed};
 ghost use Rattle.machine_simulate.specs.Text.{longest_text, figures_text, result_text, row_text};
 
 use machines::programs::text::{write_figure, write_refused};
-use theory_recording::spacing::{NO_FIGURES, TrialFigures, TrialResult};
+use theory_recording::spacing::{TrialFigures, TrialResult};
 
 // The five figures, one a line.
 fn write_figures(out: &mut [u8], r: TrialFigures) -> usize
@@ -30,9 +30,9 @@ pub fn write_result(out: &mut [u8], r: TrialResult) -> usize
     requires { longest_text ≤ length out.old }
     ensures { Printed out.old 0 (result_text r) out.new result × (result ≤ longest_text) }
 {
-    match r {
+    match r.answer {
         Err(why) => write_refused(out, why),
-        Ok(figures) => write_figures(out, figures),
+        Ok(()) => write_figures(out, r.figures),
     }
 }
 
@@ -50,7 +50,7 @@ pub fn write_row(out: &mut [u8], spacing: u32, r: TrialResult) -> usize
     requires { longest_text ≤ length out.old }
     ensures { Printed out.old 0 (row_text spacing r) out.new result × (result ≤ longest_text) }
 {
-    let f = r.unwrap_or(NO_FIGURES);
+    let f = r.figures;
     let first = listing::write_number(out, 0, spacing as u64);
     let one = write_field(out, first, f.deliveries as u64);
     let two = write_field(out, one, f.forced as u64);

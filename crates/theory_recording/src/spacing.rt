@@ -33,5 +33,12 @@ pub const NO_FIGURES: TrialFigures = TrialFigures {
     remainder: 0,
 };
 
-// What a simulation comes to: its figures, or why it is refused.
-pub type TrialResult = Result<TrialFigures, Refusal>;
+// Whether a simulation is tried, or why it is refused.
+pub type TrialAnswer = Result<(), Refusal>;
+
+// What a simulation comes to: the answer, and the figures; refused, "all figures are then 0".
+#[derive(Clone, Copy)]
+pub struct TrialResult {
+    pub answer: TrialAnswer,
+    pub figures: TrialFigures,
+}

@@ -1,5 +1,6 @@
 -- Note 10: a trial "agrees with replaying the same events".
 -- Assumes nothing.
+use Prim.{tt}
 use Rattle.std.specs.Prelude.{◌≡◌, ◌*◌, ◌/◌, ◌%◌, ◌≤◌, ◌<◌, Ok}
 use Rattle.laws.specs.Basics.{refl, sym, ◌∙◌, ap, false, None, ℕ, zero, suc, max, arith, eqb, leb, length, eq-eqb, ne_eqb, leb-true, not-false, pick}
 use Rattle.std.proofs.Common.{mod-lt, div-add-mod'}
@@ -7,7 +8,8 @@ use Rattle.laws.specs.Truth.{and_left, and_right}
 use Rattle.model.specs.{Words.most_processes, Words.ones, Steps.start_state, laws.Refusals.no_rule}
 use Rattle.whole_runs.specs.Listing.{state_after_records}
 use Rattle.theory_recording.proofs.{Replay.replays, Replay.lines_replayed, Replay.listing_started, spacing.Accepted.ones_start, spacing.Accepted.tried}
-use Rattle.theory_recording.specs.spacing.Spacing.{deliveries_in, forced_in, greatest_below, most_kept_of, stepped, trial_start, trial_after, out_of_range, trial_refusal, quotient_of, remainder_of_def, figures, simulated, figures_in, events_of, trace_of, replayed, Divides, AgreesWithReplay, TrialsAgree}
+use Rattle.theory_recording.specs.declared.spacing.TrialResult.{TrialResult}
+use Rattle.theory_recording.specs.spacing.Spacing.{deliveries_in, forced_in, greatest_below, most_kept_of, stepped, trial_start, trial_after, out_of_range, trial_refusal, quotient_of, remainder_of_def, figures, simulated, events_of, trace_of, replayed, Divides, AgreesWithReplay, TrialsAgree}
 
 -- The most kept after any step.
 pub greatest_same : (n : ℕ) (f g : ℕ → ℕ) → ((i : ℕ) → i < n → f i ≡ g i) → greatest_below n f ≡ greatest_below n g
@@ -51,7 +53,7 @@ divides x y = record {
 }
 
 -- The result of a trial that is not refused.
-pub result_is_lem : (n k steps seed : ℕ) → trial_refusal n k steps ≡ None → simulated n k steps seed ≡ Ok (figures (trial_after n k steps seed))
+pub result_is_lem : (n k steps seed : ℕ) → trial_refusal n k steps ≡ None → simulated n k steps seed ≡ record { answer = Ok tt; figures = figures (trial_after n k steps seed) }
 unfolding simulated
 result_is_lem n k steps seed e = rw e
 
@@ -64,7 +66,7 @@ agrees n k steps seed e =
     let s₀ = start_state n ones in
     let v = replays s₀ (events_of n k steps seed) w.accepts in
     let z = trial_after n k steps seed in
-    let is = ap figures_in (result_is_lem n k steps seed e) in
+    let is = ap (λ (x : TrialResult). x.figures) (result_is_lem n k steps seed e) in
     let after-step : (i : ℕ) → i < steps → most_kept_of n (trial_after n k (suc i) seed).run ≡ most_kept_of n (state_after_records (start_state n ones) (trace_of n k (suc i) seed)) = λ i lt.
     let u = tried n k (suc i) seed range.some_process range.few_processes (omega (arith, range.few_steps)) in
     ap (most_kept_of n) (sym ((replays s₀ (events_of n k (suc i) seed) u.accepts).state ∙ u.run)) in

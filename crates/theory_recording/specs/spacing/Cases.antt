@@ -4,7 +4,8 @@
 use Rattle.std.specs.Prelude.{◌∷◌}
 use Rattle.laws.specs.Basics.{Bool, List, [], ℕ}
 use Rattle.laws.specs.Tests.{same}
-use Rattle.theory_recording.specs.spacing.Spacing.{TrialResult, trial_report, simulated, figures_in}
+use Rattle.theory_recording.specs.declared.spacing.TrialResult.{TrialResult}
+use Rattle.theory_recording.specs.spacing.Spacing.{trial_report, simulated}
 
 -- n, spacing, steps and starting value; then the number, deliveries, forced checkpoints, most kept, quotient and remainder.
 pub record TrialCase : Type 0 where
@@ -16,8 +17,8 @@ pub record TrialCase : Type 0 where
 
 unfoldable pub result_numbers : TrialResult → List ℕ
 result_numbers r =
-    let f = figures_in r in
-    (trial_report r).refused ∷ f.deliveries ∷ f.forced ∷ f.most ∷ f.quotient ∷ f.remainder ∷ []
+    let f = r.figures in
+    (trial_report r.answer).refused ∷ f.deliveries ∷ f.forced ∷ f.most ∷ f.quotient ∷ f.remainder ∷ []
 
 unfoldable pub trial_right : TrialCase → Bool
 trial_right c = same (result_numbers (simulated c.count c.spacing c.steps c.seed)) c.result

@@ -1,5 +1,6 @@
 -- Document 02, Note 10: "Trying a checkpoint spacing." Each definition stands under the sentence that it says. A trial is one simulation; k is its spacing.
 -- Assumes nothing.
+use Prim.{Unit, tt}
 use Rattle.std.specs.Prelude.{◌≢◌, ◌≡◌, ◌&&◌, ◌∷◌, ◌+◌, ◌-◌, ◌*◌, ◌/◌, ◌%◌, ◌≤◌, ◌<◌, Result, Ok, Err}
 use Rattle.laws.specs.Basics.{Bool, true, false, not, List, [], Option, None, Some, ℕ, zero, suc, max, eqb, ltb, leb, length, get_or, set, replicate, pick}
 use mathlib.Core.List.{Memᴰ}
@@ -10,8 +11,7 @@ use Rattle.model.specs.{Words.most_processes, Words.most_under_way, Words.ones, 
 use Rattle.whole_runs.specs.{Outcomes.judged, Outcomes.Report, Outcomes.refusing, Outcomes.accepting, Calls.Reply, Listing.state_after_records, Listing.listing}
 use Rattle.whole_runs.specs.WholeRuns.{Reachable}
 use Rattle.theory_recording.specs.Replay.{records_of, state_after_events, EventReply, performed, replies_of, none_refused, paired, lines_of}
-use Rattle.theory_recording.specs.{spacing.Trial.Trial, declared.spacing.TrialFigures.TrialFigures}
-use Rattle.std.specs.Result.{result_unwrap_or}
+use Rattle.theory_recording.specs.{spacing.Trial.Trial, declared.spacing.TrialFigures.TrialFigures, declared.spacing.TrialResult.TrialResult}
 
 -- "The generator takes the last value, multiplies by 1,664,525, adds 1,013,904,223 and keeps the low 32 bits": 4,294,967,296 is 2 to the power 32.
 unfoldable pub generated : ℕ → ℕ
@@ -137,13 +137,13 @@ trial_refusal n k steps = first_of (
     ∷ record { holds = out_of_range 1 most_steps steps; gives = TrialOutsideRange }
     ∷ [])
 
--- What a simulation comes to: its figures, or why it is refused.
-abbrev pub TrialResult : Type 0
-TrialResult = Result TrialFigures Refusal
+-- Whether a simulation is tried, or why it is refused.
+abbrev pub TrialAnswer : Type 0
+TrialAnswer = Result (Unit {0}) Refusal
 
-unfoldable pub trial_report : TrialResult → Report
+unfoldable pub trial_report : TrialAnswer → Report
 trial_report (Err r) = refusing r
-trial_report (Ok f) = accepting None 0
+trial_report (Ok tt) = accepting None 0
 
 -- "1,000 × forced divided by deliveries as quotient and remainder, both 0 without deliveries."
 unfoldable pub quotient_of : ℕ → ℕ → ℕ
@@ -161,15 +161,14 @@ figures z = record {
   remainder = remainder_of_def z.forced z.deliveries;
 }
 
--- The result of a simulation, and its figures. "all figures are then 0."
-unfoldable pub simulated : ℕ → ℕ → ℕ → ℕ → TrialResult
-simulated n k steps seed = judged (trial_refusal n k steps) Err (Ok (figures (trial_after n k steps seed)))
-
+-- The result of a simulation. "all figures are then 0."
 unfoldable pub no_figures : TrialFigures
 no_figures = record { deliveries = 0; forced = 0; most = 0; quotient = 0; remainder = 0 }
 
-abbrev pub figures_in : TrialResult → TrialFigures
-figures_in r = result_unwrap_or r no_figures
+unfoldable pub simulated : ℕ → ℕ → ℕ → ℕ → TrialResult
+simulated n k steps seed = judged (trial_refusal n k steps)
+    (λ why. record { answer = Err why; figures = no_figures })
+    (record { answer = Ok tt; figures = figures (trial_after n k steps seed) })
 
 -- "It agrees with replaying the same events": the events of all steps in their order; their records; the replies of a replay of these.
 unfoldable pub events_of : ℕ → ℕ → ℕ → ℕ → List Event
@@ -194,11 +193,11 @@ pub record AgreesWithReplay (n k steps seed : ℕ) : Type 0 where
   -- the replay ends in the state of the simulation
   pub state : state_after_records (start_state n ones) (trace_of n k steps seed) ≡ (trial_after n k steps seed).run
   -- the figures are counted from the events and the replies of the replay
-  pub deliveries : (figures_in (simulated n k steps seed)).deliveries ≡ deliveries_in (paired (events_of n k steps seed) (replayed n k steps seed))
-  pub forced : (figures_in (simulated n k steps seed)).forced ≡ forced_in (paired (events_of n k steps seed) (replayed n k steps seed))
+  pub deliveries : (simulated n k steps seed).figures.deliveries ≡ deliveries_in (paired (events_of n k steps seed) (replayed n k steps seed))
+  pub forced : (simulated n k steps seed).figures.forced ≡ forced_in (paired (events_of n k steps seed) (replayed n k steps seed))
   -- the most kept, from the states of the replay after each step
-  pub most : (figures_in (simulated n k steps seed)).most ≡ greatest_below steps (λ i. most_kept_of n (state_after_records (start_state n ones) (trace_of n k (suc i) seed)))
-  pub share : let f = figures_in (simulated n k steps seed) in Divides (1000 * f.forced) f.deliveries f.quotient f.remainder
+  pub most : (simulated n k steps seed).figures.most ≡ greatest_below steps (λ i. most_kept_of n (state_after_records (start_state n ones) (trace_of n k (suc i) seed)))
+  pub share : let f = (simulated n k steps seed).figures in Divides (1000 * f.forced) f.deliveries f.quotient f.remainder
   -- the replay program, with and without `all`, prints the lines of these replies
   pub printed : (all : Bool) → listing all (n ∷ trace_of n k steps seed) ≡ lines_of 0 (replayed n k steps seed)
 

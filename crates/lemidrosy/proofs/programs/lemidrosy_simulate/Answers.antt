@@ -4,7 +4,8 @@ use Rattle.std.specs.Prelude.{◌≡◌, ◌≤◌, ◌<◌}
 use Rattle.laws.specs.Basics.{refl, ◌∙◌, List, ℕ, length, rules, lt-ltb, le-ltb}
 use Rattle.model.specs.Refusals.{number}
 use Rattle.listing.specs.answers.Codes.{coded, value_code_of}
-use Rattle.theory_recording.specs.spacing.Spacing.{TrialResult, simulated, TrialsAgree}
+use Rattle.theory_recording.specs.declared.spacing.TrialResult.{TrialResult}
+use Rattle.theory_recording.specs.spacing.Spacing.{simulated, TrialsAgree}
 use Rattle.theory_recording.proofs.spacing.Agreement.{trials_agree}
 use Rattle.lemidrosy.specs.Programs.{figures_written, simulation}
 use Rattle.lemidrosy.proofs.programs.lemidrosy_simulate.Goals as goal

@@ -1,14 +1,14 @@
--- `library_trials::run_steps` meets its contract.
+-- `library_trials::Simulation::run` meets its contract.
 -- Assumes nothing.
 use Rattle.std.specs.Prelude.{◌≡◌}
 use Rattle.laws.specs.Basics.{◌∙◌, arith}
 use Rattle.library_trials.specs.Steps.{trial_of, Underway}
 use Rattle.library_trials.proofs.{Trials.none_stepped, Trials.one_stepped}
-use Rattle.library_trials.proofs.run_steps.Goals as goal
+use Rattle.library_trials.proofs.Simulation.run.Goals as goal
 
 pub loop-init : goal.loop-init
 loop-init c =
-    let a = c.args in c.begin-simulation.ensures ∙ none_stepped a.n a.k a.seed
+    let a = c.args in c.begin.ensures ∙ none_stepped a.n a.k a.seed
 
 pub step-requires : goal.step-requires
 unfolding Underway
@@ -17,7 +17,7 @@ step-requires c =
 
 pub loop-preserved : goal.loop-preserved
 loop-preserved c =
-    let l = c.loop in let a = c.args in one_stepped a.n a.k l.counter a.seed (trial_of l.simulation) _ l.invariant c.step.ensures
+    let l = c.loop in let a = c.args in one_stepped a.n a.k l.counter a.seed (trial_of l.self) _ l.invariant c.step.ensures
 
 pub returns : goal.returns
 returns c =
