@@ -2,6 +2,8 @@
 -- Assumes nothing.
 use Rattle.std.specs.Prelude.{◌≡◌, is_none}
 use Rattle.laws.specs.Basics.{refl, eqb, ne_eqb, sym, ◌∙◌, ap, List, Option, None, Some, ℕ, arith}
+use Rattle.std.specs.declared.num.NonZeroU8.{NonZeroU8}
+use Rattle.std.specs.Int.NonZero.{non_zero_u8_get}
 use Rattle.model.specs.{declared.Refusal.Refusal, Refusals.number, laws.Refusals.by_refusal, laws.Refusals.number_range}
 use Rattle.whole_runs.specs.{Outcomes.Report, Calls.Reply, Listing.deletions_text, Listing.accepted_text, Listing.line_text}
 use Rattle.listing.specs.declared.Summary.{Summary}
@@ -23,10 +25,10 @@ none_listed summary r l m same zero-deletions =
     let no_deletions : summary.deletions ≡ 0 = ap (λ (x : Report). x.deletions) same ∙ zero-deletions in
     rw no_deletions
 
--- The number 0 is that of no refusal.
-pub none_said : (o : Option Refusal) → eqb (number_said o) 0 ≡ is_none o
+-- The number 0 is said where there is none.
+pub none_said : (o : Option NonZeroU8) → eqb (number_said o) 0 ≡ is_none o
 none_said None = refl
-none_said (Some why) = let some : number why ≡ 0 → ⊥ = λ z. omega (arith, (number_range why).0) in ne_eqb (number why) 0 some
+none_said (Some refused) = let some : non_zero_u8_get refused ≡ 0 → ⊥ = λ z. omega (arith, refused.ok) in ne_eqb (non_zero_u8_get refused) 0 some
 
 -- What the number of a summary x says of the refusal o of a call that has the report r: 0 that there is none, another that there is one.
 module _ (o : Option Refusal) (x : Summary) (r : Report) (same : report_in x ≡ r) (zero-if : o ≡ None → r.refused ≡ 0) (number-if : (y : Refusal) → o ≡ Some y → r.refused ≡ number y) where

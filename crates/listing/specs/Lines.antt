@@ -2,14 +2,15 @@
 -- Assumes nothing.
 use Rattle.std.specs.Prelude.{◌∷◌, ◌++◌}
 use Rattle.laws.specs.Basics.{List, [], Option, None, Some, ℕ}
-use Rattle.model.specs.{declared.Refusal.Refusal, Refusals.number}
+use Rattle.std.specs.declared.num.NonZeroU8.{NonZeroU8}
+use Rattle.std.specs.Int.NonZero.{non_zero_u8_get}
 use Rattle.whole_runs.specs.{Calls.Reply, Listing.decimal, Listing.space, Listing.colon, Listing.line_feed}
 use Rattle.listing.specs.declared.Summary.{Summary}
 
 -- The number that a line says: that of the refusal, 0 if there is none.
-abbrev pub number_said : Option Refusal → ℕ
+abbrev pub number_said : Option NonZeroU8 → ℕ
 number_said None = 0
-number_said (Some why) = number why
+number_said (Some refused) = non_zero_u8_get refused
 
 -- The reply that a summary and a deletion list make. A line prints nothing of a line list.
 unfoldable pub reply_of : Summary → List ℕ → Reply

@@ -18,15 +18,16 @@ pub mod output;
 // answers.rt: an answer as one number of 64 bits, for callers in a language to which no enum can be handed
 pub mod answers;
 
-use model::Refusal;
+use std::num::NonZeroU8;
 
 // No line of a record has more bytes (longest_line in specs/Lines).
 pub const LONGEST_LINE: usize = 3102;
 
-// What a line says after its record number: why the record is refused, if it is, the value, if there is one, and the count of deletions.
+// What a line says after its record number: the number of its refusal, if the record is refused, the value, if there is one, and the count of deletions. The number is any
+// of 8 bits but 0, so that a caller can have the line of each number printed, of a refusal or not.
 #[derive(Clone, Copy)]
 pub struct Summary {
-    pub refused: Option<Refusal>,
+    pub refused: Option<NonZeroU8>,
     pub value: Option<u64>,
     pub deletions: usize,
 }
@@ -151,7 +152,7 @@ pub fn write_line(
     ensures { Printed out.old at (line_text number (reply_of summary deleted.now)) out.new result }
 {
     match summary.refused {
-        Some(why) => write_refusal(out, at, number, summaries::number_of(why)),
+        Some(refused) => write_refusal(out, at, number, refused.get()),
         None => {
             let after_number = write_number(out, at, number);
             let after_space = write_byte(out, after_number, b' ');

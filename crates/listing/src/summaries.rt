@@ -6,6 +6,7 @@ ghost use Rattle.listing.specs.{Lines.number_said, Summarised.report_in, Reports
 
 use crate::Summary;
 use model::{Delivery, Recovery, Refusal, Stored};
+use std::num::NonZeroU8;
 
 #[tactic(auto, unfolding(model::specs::Refusals::number))]
 pub fn number_of(r: Refusal) -> u8
@@ -31,7 +32,7 @@ impl Summary {
     pub fn number(self) -> u8
         ensures { result ≡ number_said self.refused }
     {
-        self.refused.map_or(0, number_of)
+        self.refused.map_or(0, NonZeroU8::get)
     }
 }
 
@@ -41,7 +42,7 @@ impl From<Refusal> for Summary {
 
     fn from(why: Refusal) -> Summary {
         Summary {
-            refused: Some(why),
+            refused: NonZeroU8::new(number_of(why)),
             value: None,
             deletions: 0,
         }

@@ -7,6 +7,7 @@ ghost use Rattle.whole_runs.proofs.Sizes.{Small};
 
 use crate::Summary;
 use model::Refusal;
+use std::num::NonZeroU8;
 
 // A line whose numbers are small.
 pub fn print(summary: Summary, deleted: &[u16], number: u64, out: &mut [u8], at: usize) -> usize
@@ -24,9 +25,9 @@ pub fn refuse(number: u64, why: Refusal, out: &mut [u8]) -> usize
     crate::write_refusal(out, 0, number, crate::summaries::number_of(why))
 }
 
-// Whether the replay goes on after a record that is refused for this reason, if it is: "stops after printing the first refusal", unless `all` is asked for.
+// Whether the replay goes on after a record whose line says this refusal number, none if it is accepted: "stops after printing the first refusal", unless `all` is asked for.
 #[tactic(auto, using(crate::proofs::Summarised::none_said), unfolding(whole_runs::specs::Listing::goes_on_of))]
-pub fn goes_on(all: bool, refused: Option<Refusal>) -> bool
+pub fn goes_on(all: bool, refused: Option<NonZeroU8>) -> bool
     ensures { result ≡ goes_on_of all (number_said refused) }
 {
     all || refused.is_none()
