@@ -3,10 +3,11 @@
 use Rattle.std.specs.Prelude.{◌≡◌, ◌-◌, ◌≤◌, ◌<◌}
 use Rattle.laws.specs.Basics.{refl, ◌∙◌, List, Option, None, Some, ℕ, zero, suc, arith, length, get_or, set, replicate, length-replicate, get_or-set_same, get_or-set_other}
 use Rattle.histories.specs.History.{checkpoints}
+use Rattle.model.specs.Words.{most_processes}
 use Rattle.theory_patterns.specs.{declared.End.End, Paths.FirstBreaking}
 use Rattle.theory_patterns.proofs.{Trail.Trail, Trail.Right, Facts.vectors, Facts.sources}
 use Rattle.library_judge.specs.declared.pattern.{State.State, Sent.Sent}
-use Rattle.library_judge.specs.decision.Rows.{from_at, to_at}
+use Rattle.library_judge.specs.decision.Rows.{most_rows, owner_at, from_at, to_at}
 use Rattle.library_judge.specs.{decision.Crossings.Sized, decision.Crossings.NearEnd, decision.Far.Reaching, decision.Far.FarEnd}
 use Rattle.library_judge.specs.{decision.Reach.Linked, decision.Reach.Closure, decision.Reach.FirstRow, decision.Represents.Represents}
 use Rattle.library_judge.proofs.decision.Verdict.{says_trackable, says_breaks, first_there, far_there, reach_rows, received_row}
@@ -39,12 +40,16 @@ module _ (n : ℕ) (S : List State) (M : List Sent) (t : Trail) (right : Right t
   pub sized : Sized S M
   sized m lm = (h.from_row m lm, h.to_row m lm)
 
+  -- The rows are no more than a trace has, and every row has its process.
+  pub owned : (length S ≤ most_rows) × ((r : ℕ) → r < length S → owner_at S r < most_processes)
+  owned = (h.most_rows_lem, λ r lr. omega (arith, h.owner r lr, h.few))
+
   pub linked : Linked S M
   linked m lm = (
     sized m lm,
-    (omega (arith, h.from_row m lm, h.most_rows_lem), omega (arith, h.to_row m lm, h.most_rows_lem)),
-    omega (arith, h.owner (from_at M m) (h.from_row m lm), h.few),
-    λ ne. omega (arith, h.owner (to_at M m - 1) (received_row h m lm ne), h.few),
+    (omega (arith, h.from_row m lm, owned.0), omega (arith, h.to_row m lm, owned.0)),
+    owned.1 (from_at M m) (h.from_row m lm),
+    λ ne. owned.1 (to_at M m - 1) (received_row h m lm ne),
   )
 
   pub is_trackable : NearEnd S M n None → paths.Trackable n t.lists
